@@ -1,0 +1,3 @@
+-- Laws of tests, by topic.
+pub mod Bools
+pub mod Below

@@ -1,0 +1,32 @@
+-- Tests of numbers, and of all numbers below a bound. Shut, so that no proof counts to a bound by accident.
+use mathlib.Core.Bool.{Bool, true, false, _&&_, _||_, cond}
+use Prim.Native.Nat.{ℕ, zero, suc, _+_}
+use lib.Dec.{eqb, ltb}
+
+-- m is n
+unfoldable pub same : ℕ → ℕ → Bool
+same m n = eqb m n
+
+-- m is less than n
+unfoldable pub below : ℕ → ℕ → Bool
+below m n = ltb m n
+
+-- some number below n passes the test f
+unfoldable pub any : ℕ → (ℕ → Bool) → Bool
+any zero f = false
+any (suc n) f = f n || any n f
+
+-- every number below n passes it
+unfoldable pub all : ℕ → (ℕ → Bool) → Bool
+all zero f = true
+all (suc n) f = f n && all n f
+
+-- how many numbers below n pass it
+unfoldable pub count : ℕ → (ℕ → Bool) → ℕ
+count zero f = 0
+count (suc n) f = cond (f n) 1 0 + count n f
+
+-- the lowest number below n that passes it, and n where none does
+unfoldable pub first : ℕ → (ℕ → Bool) → ℕ
+first zero f = 0
+first (suc n) f = cond (any n f) (first n f) (cond (f n) n (suc n))

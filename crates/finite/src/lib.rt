@@ -1,0 +1,1 @@
+// Tests of numbers below a bound: definitions and laws alone, in specs/.

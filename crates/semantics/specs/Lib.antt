@@ -1,0 +1,9 @@
+-- What sites, conditions, sheets and classes mean. A reader has to believe these seven files.
+pub mod Form
+pub mod Holds
+pub mod Table
+pub mod Edit
+pub mod Block
+pub mod Like
+-- what is proved of them
+pub mod Laws

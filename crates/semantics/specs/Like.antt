@@ -1,0 +1,34 @@
+-- Likenesses, which are bisimulations, and class numbers. Document 01, "Classes".
+use mathlib.Core.Path.{_≡_}
+use mathlib.Core.Logic.{_↔_}
+use mathlib.Core.Bool.{Bool, true}
+use Prim.Native.Nat.{ℕ, _≤_, _<_}
+use Rattle.semantics.specs.Form.{slots, labels, names, links, Way, along, against, every}
+use Rattle.semantics.specs.Holds.{Model, step}
+
+-- the ways 0 to 15
+unfoldable pub Link : Way → Type 0
+Link (along m) = m < links
+Link (against m) = m < links
+Link every = ⊥
+
+-- a likeness is a bisimulation: related slots agree on here, every label and every name, and for each way 0 to 15 each neighbour
+-- of one is related to some neighbour of the other, both ways round
+pub record Likeness (M : Model) (R : ℕ → ℕ → Type 0) : Type 0 where
+  pub on-here : (s t : ℕ) → s < slots → t < slots → R s t → M .present s ≡ M .present t
+  pub on-labels : (p s t : ℕ) → p < labels → s < slots → t < slots → R s t → M .marked p s ≡ M .marked p t
+  pub on-names : (n s t : ℕ) → n < names → s < slots → t < slots → R s t → (s ≡ M .place n) ↔ (t ≡ M .place n)
+  pub forth : (w : Way) (s t s′ : ℕ) → Link w → s < slots → t < slots → R s t → s′ < slots → step M w s s′ ≡ true
+      → (t′ : ℕ) × (t′ < slots) × (step M w t t′ ≡ true) × R s′ t′
+  pub back : (w : Way) (s t t′ : ℕ) → Link w → s < slots → t < slots → R s t → t′ < slots → step M w t t′ ≡ true
+      → (s′ : ℕ) × (s′ < slots) × (step M w s s′ ≡ true) × R s′ t′
+
+-- some likeness relates s and t. A relation on slots is a set of pairs
+unfoldable pub Alike : Model → ℕ → ℕ → Type 0
+Alike M s t = (R : ℕ → ℕ → Bool) × Likeness M (λ a b. R a b ≡ true) × (R s t ≡ true)
+
+-- c is the class number of s: the lowest slot that some likeness relates to s
+pub record IsClass (M : Model) (s c : ℕ) : Type 0 where
+  pub is-slot : c < slots
+  pub alike : Alike M s c
+  pub low : (t : ℕ) → t < slots → Alike M s t → c ≤ t
