@@ -1,3 +1,4 @@
 -- Laws of tests, by topic.
 pub mod Bools
 pub mod Below
+pub mod Bits

@@ -1,6 +1,6 @@
--- Tests of numbers, and of all numbers below a bound. Shut, so that no proof counts to a bound by accident.
+-- Tests of numbers, of their binary digits, and of all numbers below a bound. Shut, so that no proof counts to a bound by accident.
 use mathlib.Core.Bool.{Bool, true, false, _&&_, _||_, cond}
-use Prim.Native.Nat.{ℕ, zero, suc, _+_}
+use Prim.Native.Nat.{ℕ, zero, suc, _+_, _/_, _%_, _^_}
 use lib.Dec.{eqb, ltb}
 
 -- m is n
@@ -30,3 +30,7 @@ count (suc n) f = cond (f n) 1 0 + count n f
 unfoldable pub first : ℕ → (ℕ → Bool) → ℕ
 first zero f = 0
 first (suc n) f = cond (any n f) (first n f) (cond (f n) n (suc n))
+
+-- binary digit k of n is 1
+unfoldable pub bit : ℕ → ℕ → Bool
+bit n k = eqb (n / 2 ^ k % 2) 1
