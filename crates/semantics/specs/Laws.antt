@@ -1,6 +1,7 @@
 -- The theorems, by topic.
 -- tables: the tree of a node from its children's trees
 pub mod TreeAt
+pub mod Emit
 -- one condition on one site: growth in its variables, fixed points by iteration, the set computed
 pub mod Mono
 pub mod Fix
