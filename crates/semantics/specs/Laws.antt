@@ -6,3 +6,5 @@ pub mod Emit
 pub mod Mono
 pub mod Fix
 pub mod Eval
+-- edits
+pub mod Edits
