@@ -1,5 +1,6 @@
 -- The theorems, by topic.
--- tables: the tree of a node from its children's trees
+-- tables: ways and kinds by their numbers, the tree of a node from its children's trees, blocks written as nodes
+pub mod Ways
 pub mod TreeAt
 pub mod Emit
 -- one condition on one site: growth in its variables, fixed points by iteration, the set computed
@@ -8,3 +9,6 @@ pub mod Fix
 pub mod Eval
 -- edits
 pub mod Edits
+-- rewriting
+pub mod Image
+pub mod Rewrite
