@@ -3,3 +3,5 @@ pub mod Bools
 pub mod Below
 pub mod Bits
 pub mod Count
+pub mod First
+pub mod Dual

@@ -12,3 +12,5 @@ pub mod Edits
 -- rewriting
 pub mod Image
 pub mod Rewrite
+-- classes
+pub mod Invariance

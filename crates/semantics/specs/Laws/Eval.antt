@@ -12,7 +12,7 @@ use Rattle.finite.specs.Laws.Below.{same-eq, eq-same, any-in, any-out, all-out,
 use Rattle.semantics.specs.Form.{slots, Form, top, here, label, name, var, neg, or, and, dia, box, mu, nu, slot, occ, even}
 use Rattle.semantics.specs.Holds.{Set, Env, put, Model, step, Holds}
 use Rattle.semantics.specs.Table.{Leaf, kTrue, kHere, kLabel, kName, kVar, kSlot, Unary, kNot, kDia, kBox, kMu, kNu, Binary, kOr, kAnd, Kind, leaf, unary, binary, kindOf, Node, atom, one, two, build, treeAt, nodesFit, evenTable}
-use Rattle.semantics.specs.Laws.TreeAt.{Lower, node-lower, fits-at, tree-at}
+use Rattle.semantics.specs.Laws.TreeAt.{Parts, tree-ind}
 use Rattle.semantics.specs.Laws.Mono.{_⊆_, mono-put}
 use Rattle.semantics.specs.Laws.Fix.{iter, none, full, settled, least, settled-full, greatest}
 
@@ -122,31 +122,17 @@ unfolding evenTree two
 two-even kOr φ ψ = refl
 two-even kAnd φ ψ = refl
 
-blank : Node
-blank = record { kind = 0; param = 0; left = 0; right = 0 }
-
--- a table's rule, at every node, is that of all its trees
-module _ (xs : List Node) (fits : nodesFit 0 xs ≡ true) (even-rule : evenTable xs ≡ true) where
-  node-even : (i : ℕ) (x : Node) (k : Kind) → Lower i x k → ((j : ℕ) → j < i → evenTree (treeAt xs j) ≡ true)
-      → even (build k (x .param) (treeAt xs (x .left)) (treeAt xs (x .right))) ≡ true
-      → evenTree (build k (x .param) (treeAt xs (x .left)) (treeAt xs (x .right))) ≡ true
-  unfolding build Lower
-  node-even i x (leaf k) l ih h = atom-even k (x .param)
-  node-even i x (unary k) l ih h = one-even k (x .param) _ ∙ and-in h (ih (x .left) l)
-  node-even i x (binary k) l ih h = two-even k _ _ ∙ and-in (ih (x .left) (l .0)) (ih (x .right) (l .1))
-
-  tree-even : (n i : ℕ) → i < n → i < length xs → evenTree (treeAt xs i) ≡ true
-  unfolding evenTable
-  tree-even zero i h k = absurd (omega arith)
-  tree-even (suc n) i h k =
-      let x = getD xs i blank in
-      let at = tree-at xs blank fits i k in
-      rw at
-      (node-even i x (kindOf (x .kind)) (node-lower i x (fits-at xs blank fits i k)) (λ j l. tree-even n j (omega arith) (omega arith))
-      (ap even (sym at) ∙ all-out (length xs) _ even-rule i k))
-
-  pub table-even : (i : ℕ) → i < length xs → evenTree (treeAt xs i) ≡ true
-  table-even i h = tree-even (suc i) i (omega arith) h
+-- the rule at every node of a table is that of all its trees
+pub table-even : (xs : List Node) → nodesFit 0 xs ≡ true → evenTable xs ≡ true → (i : ℕ) → i < length xs → evenTree (treeAt xs i) ≡ true
+unfolding evenTable build Parts
+table-even xs f e =
+    tree-ind (λ φ. evenTree φ ≡ true) xs f
+    (λ i x k φ ψ h _ _ _ at parts. go k (x .param) φ ψ (ap even (sym at) ∙ all-out (length xs) _ e i h) parts)
+  where
+    go : (k : Kind) (p : ℕ) (φ ψ : Form) → even (build k p φ ψ) ≡ true → Parts (λ χ. evenTree χ ≡ true) k φ ψ → evenTree (build k p φ ψ) ≡ true
+    go (leaf k) p φ ψ h q = atom-even k p
+    go (unary k) p φ ψ h q = one-even k p φ ∙ and-in h q
+    go (binary k) p φ ψ h q = two-even k φ ψ ∙ and-in (q .0) (q .1)
 
 -- the computed set of each node of a table is that of the slots which its condition lists
 pub eval-table : (xs : List Node) → nodesFit 0 xs ≡ true → evenTable xs ≡ true → (i : ℕ) → i < length xs
