@@ -14,3 +14,5 @@ pub mod Image
 pub mod Rewrite
 -- classes
 pub mod Invariance
+pub mod Refine
+pub mod Describe
