@@ -16,3 +16,6 @@ pub mod Rewrite
 pub mod Invariance
 pub mod Refine
 pub mod Describe
+pub mod Classes
+-- the demands, for models and tables
+pub mod Demands

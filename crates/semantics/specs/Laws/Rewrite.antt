@@ -1,4 +1,4 @@
--- A table rewritten through a sheet is a table again, and says before the sheet what the table says after it.
+-- A table rewritten through an edit says before it what the table says after it; and, through a sheet, meets none of items 8, 9 and 10 anew.
 use mathlib.Core.Path.{_≡_, refl, sym, _∙_, ap, ap₂, subst}
 use mathlib.Core.Logic.{_↔_, Iff·rfl, Iff·trans}
 use mathlib.Core.List.{List, [], _∷_, _++_}
@@ -187,17 +187,3 @@ pub sheet-closed : (es : List Edit) → sheetLegal es ≡ true → (xs : List No
 unfolding closed free
 sheet-closed es l xs f h c =
     all-cong variables _ _ (λ v _. ap₂ (λ x y. not (x || y)) (sheet-occ es l xs f h true v) (sheet-occ es l xs f h false v)) ∙ c
-
--- the rewritten table says today what the table says afterwards
-pub sheet-holds : (es : List Edit) → sheetLegal es ≡ true → (M : Model) → Valid M → sheetGoes es M ≡ true
-    → (xs : List Node) → nodesFit 0 xs ≡ true → 0 < length xs
-    → (ρ : Env) (s : ℕ) → s < slots → Holds (sheet es M) ρ (formOf xs) s ↔ Holds M ρ (formOf (rewriteSheet es xs)) s
-unfolding sheetLegal rewriteSheet sheet sheetGoes
-sheet-holds [] l M v g xs f h ρ s k = Iff·rfl
-sheet-holds (e ∷ es) l M v g xs f h ρ s k =
-    let here = and-l (legal e) _ l in
-    let rest = and-r (legal e) _ l in
-    let now = and-l (goes e M) _ g in
-    Iff·trans
-    (sheet-holds es rest (edit e M) (edit-keeps e here M v now) (and-r (goes e M) _ g) xs f h ρ s k)
-    (table-image e here _ (sheet-fits es rest xs f) (sheet-some es rest xs f h) .says M v (goes-out M v e now) ρ s k)
