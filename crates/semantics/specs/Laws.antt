@@ -4,8 +4,8 @@ pub mod Ways
 pub mod TreeAt
 pub mod Emit
 -- one condition on one site: growth in its variables, fixed points by iteration, the set computed
-pub mod Mono
-pub mod Fix
+pub mod Monotone
+pub mod FixedPoint
 pub mod Eval
 -- edits
 pub mod Edits

@@ -10,7 +10,7 @@ use Rattle.finite.specs.Laws.First.{first-in, first-low}
 use Rattle.semantics.specs.Form.{slots}
 use Rattle.semantics.specs.Holds.{Model}
 use Rattle.semantics.specs.Like.{Alike, IsClass}
-use Rattle.semantics.specs.Laws.Refine.{like, like-refl, like-sym, like-trans, Stable, stable, stable-alike, alike-like}
+use Rattle.semantics.specs.Laws.Refine.{like, like-refl, like-sym, like-trans, Stable, stable-alike, alike-like}
 
 module _ (M : Model) where
   -- the lowest slot that a round which told nothing apart relates to s

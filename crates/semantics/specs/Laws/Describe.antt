@@ -1,5 +1,5 @@
 -- A condition that describes a slot up to k rounds of refinement, as a block: slots that are not alike are told apart by its table.
-use mathlib.Core.Path.{_≡_, refl, sym, _∙_, ap, ap₂, subst, fun-ext}
+use mathlib.Core.Path.{_≡_, refl, _∙_, ap, ap₂, subst, fun-ext}
 use mathlib.Core.Logic.{inl, _↔_}
 use mathlib.Core.List.{List, [], _∷_, _++_}
 use mathlib.Core.Bool.{Bool, true, false, not, _&&_, _||_, cond, Bool·beq}
@@ -8,10 +8,10 @@ use native.Mathlib.Omega.{arith}
 use lib.ListN.{length}
 use Rattle.finite.specs.Tests.{same, below, any, all}
 use Rattle.finite.specs.Laws.Bools.{either, look, clash, and-in, and-l, and-r}
-use Rattle.finite.specs.Laws.Below.{same-refl, below-in, all-in, all-out}
-use Rattle.semantics.specs.Form.{slots, labels, names, variables, Form, top, here, label, name, occ, free, closed, even}
+use Rattle.finite.specs.Laws.Below.{same-refl, below-in, all-in}
+use Rattle.semantics.specs.Form.{slots, labels, names, variables, occ, free, closed, even}
 use Rattle.semantics.specs.Holds.{Env, Model, step, Holds, TellsApart}
-use Rattle.semantics.specs.Table.{Leaf, kTrue, kHere, kLabel, kName, kVar, kSlot, Unary, kNot, kDia, kBox, kMu, kNu, Binary, kOr, kAnd, leaf, unary, binary, kindNo, wayOf, Node, atom, one, two, trees, treeAt, formOf, leafFits, unaryFits, nodesFit, evenTable, slotFree, ClosedTable}
+use Rattle.semantics.specs.Table.{Leaf, kTrue, kHere, kLabel, kName, kVar, kSlot, Unary, kNot, kDia, kBox, kMu, kNu, Binary, kOr, kAnd, leaf, unary, binary, kindNo, wayOf, Node, atom, one, two, trees, treeAt, formOf, leafFits, unaryFits, evenTable, slotFree, ClosedTable}
 use Rattle.semantics.specs.Block.{Block, old, end, on, join, size, root, emit}
 use Rattle.semantics.specs.Like.{Alike}
 use Rattle.semantics.specs.Laws.Ways.{linkWays}

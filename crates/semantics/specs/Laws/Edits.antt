@@ -8,7 +8,7 @@ use native.Mathlib.Omega.{arith}
 use Rattle.finite.specs.Tests.{same, below}
 use Rattle.finite.specs.Laws.Bools.{either, look, clash, and-in, and-l, and-r, or-l, or-r, or-out, not-in, not-out}
 use Rattle.finite.specs.Laws.Below.{same-eq, eq-same, ne-same, equal?, below-out}
-use Rattle.semantics.specs.Form.{slots, names, labels, links}
+use Rattle.semantics.specs.Form.{slots, names, links}
 use Rattle.semantics.specs.Holds.{Set, Model}
 use Rattle.semantics.specs.Edit.{Edit, CN1, CN2, AP, DP, AT, DT1, DT2, AS, DS, functional, find, target, edit, legal, goes, Valid, sheet, sheetLegal, sheetGoes}
 

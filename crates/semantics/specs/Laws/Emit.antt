@@ -9,7 +9,7 @@ use Rattle.finite.specs.Tests.{below}
 use Rattle.finite.specs.Laws.Bools.{either, and-in, and-l, and-r}
 use Rattle.finite.specs.Laws.Below.{equal?, same-refl, below-in, below-out}
 use Rattle.semantics.specs.Form.{Form, top, even}
-use Rattle.semantics.specs.Table.{Leaf, kTrue, kHere, kLabel, kName, kVar, kSlot, Unary, kNot, kDia, kBox, kMu, kNu, Binary, kOr, kAnd, Kind, leaf, unary, binary, kindNo, kindOf, Node, atom, one, two, build, tree, trees, leafFits, unaryFits, kindFits, nodeFits, nodesFit}
+use Rattle.semantics.specs.Table.{Leaf, kTrue, kHere, kLabel, kName, kVar, kSlot, kNot, kDia, kBox, kMu, kNu, Binary, kOr, kAnd, Kind, leaf, unary, binary, kindNo, kindOf, Node, atom, one, two, build, tree, trees, leafFits, unaryFits, kindFits, nodeFits, nodesFit}
 use Rattle.semantics.specs.Block.{Block, old, end, on, join, size, root, emit}
 use Rattle.semantics.specs.Laws.TreeAt.{trees-append, trees-length, trees-old, trees-new}
 

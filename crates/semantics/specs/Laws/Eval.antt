@@ -3,18 +3,17 @@ use mathlib.Core.Path.{_≡_, refl, sym, _∙_, ap}
 use mathlib.Core.Logic.{inl, inr, _↔_}
 use mathlib.Core.List.{List}
 use mathlib.Core.Bool.{Bool, true, false, not, _&&_, _||_}
-use Prim.Native.Nat.{ℕ, zero, suc, _<_}
-use native.Mathlib.Omega.{arith}
-use lib.ListN.{length, getD}
+use Prim.Native.Nat.{ℕ, _<_}
+use lib.ListN.{length}
 use Rattle.finite.specs.Tests.{same, any, all}
 use Rattle.finite.specs.Laws.Bools.{either, look, no-true, and-in, and-l, and-r, or-l, or-r, or-out, not-in, not-out}
 use Rattle.finite.specs.Laws.Below.{same-eq, eq-same, any-in, any-out, all-out, all-in}
 use Rattle.semantics.specs.Form.{slots, Form, top, here, label, name, var, neg, or, and, dia, box, mu, nu, slot, occ, even}
 use Rattle.semantics.specs.Holds.{Set, Env, put, Model, step, Holds}
-use Rattle.semantics.specs.Table.{Leaf, kTrue, kHere, kLabel, kName, kVar, kSlot, Unary, kNot, kDia, kBox, kMu, kNu, Binary, kOr, kAnd, Kind, leaf, unary, binary, kindOf, Node, atom, one, two, build, treeAt, nodesFit, evenTable}
+use Rattle.semantics.specs.Table.{Leaf, kTrue, kHere, kLabel, kName, kVar, kSlot, Unary, kNot, kDia, kBox, kMu, kNu, Binary, kOr, kAnd, Kind, leaf, unary, binary, Node, atom, one, two, build, treeAt, nodesFit, evenTable}
 use Rattle.semantics.specs.Laws.TreeAt.{Parts, tree-ind}
-use Rattle.semantics.specs.Laws.Mono.{_⊆_, mono-put}
-use Rattle.semantics.specs.Laws.Fix.{iter, none, full, settled, least, settled-full, greatest}
+use Rattle.semantics.specs.Laws.Monotone.{_⊆_, mono-put}
+use Rattle.semantics.specs.Laws.FixedPoint.{iter, none, full, settled, least, settled-full, greatest}
 
 unfoldable pub eval : Model → Env → Form → Set
 eval M ρ top s = true

@@ -8,11 +8,11 @@ use native.Mathlib.Omega.{arith}
 use lib.ListN.{length, getD}
 use Rattle.finite.specs.Tests.{same, below}
 use Rattle.finite.specs.Laws.Bools.{either, look, clash, and-in, and-l, and-r, or-l, or-r, or-out, not-in, not-out}
-use Rattle.finite.specs.Laws.Below.{same-eq, eq-same, ne-same, equal?, same-refl, below-in, below-out, below-not}
-use Rattle.semantics.specs.Form.{slots, names, links, Way, along, against, every, Form, top, here, label, name, neg, or, and, dia, box, mu, nu, occ, even}
+use Rattle.finite.specs.Laws.Below.{same-eq, eq-same, ne-same, equal?, same-refl, below-in, below-out}
+use Rattle.semantics.specs.Form.{slots, names, Way, along, against, every, Form, top, name, neg, or, and, dia, box, mu, nu, occ, even}
 use Rattle.semantics.specs.Holds.{Env, Model, step, Holds}
 use Rattle.semantics.specs.Edit.{Edit, CN1, CN2, AP, DP, AT, DT1, DT2, AS, DS, functional, target, edit, Valid}
-use Rattle.semantics.specs.Table.{Leaf, kTrue, kHere, kLabel, kName, kVar, kSlot, Unary, kNot, kDia, kBox, kMu, kNu, kOr, kAnd, Kind, leaf, unary, binary, wayOf, Node, atom, one, two, build, leafFits, unaryFits, kindFits}
+use Rattle.semantics.specs.Table.{Leaf, kTrue, kHere, kLabel, kName, kVar, kSlot, kNot, kDia, kBox, kMu, kNu, kOr, kAnd, Kind, leaf, unary, binary, wayOf, Node, atom, one, two, build, leafFits, unaryFits, kindFits}
 use Rattle.semantics.specs.Block.{Change, keep, added, cut, cutFrom, cutTo, cutOff, change, Block, old, end, on, join, size, root, blockDia, blockBox, blockLeaf, block}
 use Rattle.semantics.specs.Laws.Ways.{way-along, way-against, everywhere}
 use Rattle.semantics.specs.Laws.Edits.{find-ends, Legal, Goes, target-one}

@@ -2,24 +2,24 @@
 use mathlib.Core.Path.{_≡_, refl, sym, _∙_, ap, ap₂}
 use mathlib.Core.Logic.{_⊎_, inl, inr, _↔_, Iff·trans, Iff·symm, _≢_}
 use mathlib.Core.List.{List, [], _∷_}
-use mathlib.Core.Bool.{Bool, true, false, not, _&&_, _||_, cond}
+use mathlib.Core.Bool.{Bool, true, false, not, _&&_, _||_}
 use Prim.Native.Nat.{ℕ, zero, suc, _-_, _<_}
 use native.Mathlib.Omega.{arith}
 use lib.Dec.{eqb, eqb→eq}
 use lib.ListN.{length, getD}
 use Rattle.finite.specs.Tests.{same, below, any, all}
-use Rattle.finite.specs.Laws.Bools.{either, look, clash, and-in, and-l, and-r, or-l, or-r, not-out, both}
+use Rattle.finite.specs.Laws.Bools.{either, look, and-in, and-l, and-r, or-l, or-r, not-out, both}
 use Rattle.finite.specs.Laws.Below.{same-eq, eq-same, equal?, below-in, below-out, any-in, any-out, all-out}
 use Rattle.finite.specs.Laws.Bits.{all-below}
 use Rattle.finite.specs.Laws.Dual.{all-any}
-use Rattle.semantics.specs.Form.{slots, labels, names, variables, Way, along, against, every, Form, top, here, label, name, var, neg, or, and, dia, box, mu, nu, slot, occ, free, closed}
+use Rattle.semantics.specs.Form.{slots, labels, names, variables, Way, every, Form, top, here, label, name, var, neg, or, and, dia, box, mu, nu, slot, occ, free, closed}
 use Rattle.semantics.specs.Holds.{Set, Env, put, Model, step, Holds}
 use Rattle.semantics.specs.Table.{kTrue, kHere, kLabel, kName, kVar, kSlot, kNot, kDia, kBox, kMu, kNu, kOr, kAnd, Kind, leaf, unary, binary, kindNo, kindOf, wayOf, Node, atom, one, two, build, treeAt, formOf, leafFits, unaryFits, kindFits, nodeFits, nodesFit, slotFree, ClosedTable}
 use Rattle.semantics.specs.Like.{Link, Likeness, Alike}
 use Rattle.semantics.specs.Laws.Ways.{way-link}
-use Rattle.semantics.specs.Laws.TreeAt.{fits-at, node-kind, blank, Parts, tree-ind}
-use Rattle.semantics.specs.Laws.Mono.{coincide}
-use Rattle.semantics.specs.Laws.Fix.{iter, none, full}
+use Rattle.semantics.specs.Laws.TreeAt.{fits-at, blank, Parts, tree-ind}
+use Rattle.semantics.specs.Laws.Monotone.{coincide}
+use Rattle.semantics.specs.Laws.FixedPoint.{iter, none, full}
 use Rattle.semantics.specs.Laws.Eval.{eval, eval-table}
 
 -- numbers in range and no slot number: what a likeness respects

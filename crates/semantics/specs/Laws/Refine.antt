@@ -14,8 +14,8 @@ use Rattle.semantics.specs.Holds.{Set, Model, step}
 use Rattle.semantics.specs.Table.{wayNo, wayOf}
 use Rattle.semantics.specs.Like.{Link, Likeness, Alike}
 use Rattle.semantics.specs.Laws.Ways.{linkWays, way-link, link-way}
-use Rattle.semantics.specs.Laws.Mono.{_⊆_}
-use Rattle.semantics.specs.Laws.Fix.{inside?}
+use Rattle.semantics.specs.Laws.Monotone.{_⊆_}
+use Rattle.semantics.specs.Laws.FixedPoint.{inside?}
 
 abbrev pub Rel : Type 0
 Rel = ℕ → ℕ → Bool

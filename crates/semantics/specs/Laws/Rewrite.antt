@@ -1,22 +1,19 @@
 -- A table rewritten through an edit says before it what the table says after it; and, through a sheet, meets none of items 8, 9 and 10 anew.
 use mathlib.Core.Path.{_≡_, refl, sym, _∙_, ap, ap₂, subst}
-use mathlib.Core.Logic.{_↔_, Iff·rfl, Iff·trans}
 use mathlib.Core.List.{List, [], _∷_, _++_}
 use mathlib.Core.Bool.{Bool, true, false, not, _||_}
 use Prim.Native.Nat.{ℕ, suc, _+_, _-_, _<_}
 use native.Mathlib.Omega.{arith}
 use lib.ListN.{length, getD, length-append, List·getD-append}
 use lib.Seq.{getD-at}
-use Rattle.finite.specs.Tests.{all}
 use Rattle.finite.specs.Laws.Bools.{either, and-l, and-r}
 use Rattle.finite.specs.Laws.Below.{equal?, below-in, all-in, all-out, all-cong}
-use Rattle.semantics.specs.Form.{slots, variables, Form, top, occ, free, closed, even}
-use Rattle.semantics.specs.Holds.{Env, Model, Holds}
-use Rattle.semantics.specs.Edit.{Edit, legal, goes, edit, Valid, sheet, sheetLegal, sheetGoes}
+use Rattle.semantics.specs.Form.{variables, Form, top, occ, free, closed, even}
+use Rattle.semantics.specs.Edit.{Edit, legal, sheetLegal}
 use Rattle.semantics.specs.Table.{Kind, leaf, unary, binary, kindOf, Node, tree, trees, treeAt, formOf, nodeFits, nodesFit, evenTable}
 use Rattle.semantics.specs.Block.{Block, old, size, root, emit, block, rewrite, rewriteTable, rewriteSheet}
 use Rattle.semantics.specs.Laws.TreeAt.{length-snoc, trees-append, table-length, trees-old, Lower, node-kind, node-lower, fits-first, fits-rest}
-use Rattle.semantics.specs.Laws.Edits.{Legal, legal-out, goes-out, edit-keeps}
+use Rattle.semantics.specs.Laws.Edits.{Legal, legal-out}
 use Rattle.semantics.specs.Laws.Emit.{fits-append, emit-length, blockFits, emit-fits, fill, emit-tree, Evens, emit-even}
 use Rattle.semantics.specs.Laws.Image.{Image, Good, Kid, Kids, block-good}
 

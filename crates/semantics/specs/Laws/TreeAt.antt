@@ -10,7 +10,7 @@ use Rattle.finite.specs.Tests.{same, below}
 use Rattle.finite.specs.Laws.Bools.{and-l, and-r}
 use Rattle.finite.specs.Laws.Below.{below-out}
 use Rattle.semantics.specs.Form.{Form, top}
-use Rattle.semantics.specs.Table.{Kind, leaf, unary, binary, kindOf, Node, one, two, build, tree, trees, treeAt, leafFits, unaryFits, kindFits, nodeFits, nodesFit}
+use Rattle.semantics.specs.Table.{Kind, leaf, unary, binary, kindOf, Node, one, two, build, tree, trees, treeAt, unaryFits, kindFits, nodeFits, nodesFit}
 
 -- a list with one more at its end
 pub length-snoc {ℓ} : {A : Type ℓ} (xs : List A) (x : A) → length (xs ++ (x ∷ [])) ≡ suc (length xs)

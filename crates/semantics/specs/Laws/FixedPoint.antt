@@ -1,9 +1,9 @@
 -- A monotone map of sets of slots, applied again and again from the empty set, comes to rest after at most as many rounds as there are
 -- slots, at its least fixed point; and from the full set at its greatest.
-use mathlib.Core.Path.{_≡_, refl, sym, _∙_, ap, subst, fun-ext}
+use mathlib.Core.Path.{_≡_, refl, _∙_, ap, fun-ext}
 use mathlib.Core.Logic.{_⊎_, inl, inr}
-use mathlib.Core.Bool.{Bool, true, false, not, _||_, cond}
-use Prim.Native.Nat.{ℕ, zero, suc, _+_, _≤_, _<_}
+use mathlib.Core.Bool.{Bool, true, false, not, _||_}
+use Prim.Native.Nat.{ℕ, zero, suc, _≤_, _<_}
 use native.Mathlib.Omega.{arith}
 use Rattle.finite.specs.Tests.{all, count}
 use Rattle.finite.specs.Laws.Bools.{either, look, clash, or-out, not-in, not-out, imp-fails, both}
@@ -11,7 +11,7 @@ use Rattle.finite.specs.Laws.Below.{all-out, all-fails}
 use Rattle.finite.specs.Laws.Count.{count-more, count-full}
 use Rattle.semantics.specs.Form.{slots}
 use Rattle.semantics.specs.Holds.{Set}
-use Rattle.semantics.specs.Laws.Mono.{_⊆_}
+use Rattle.semantics.specs.Laws.Monotone.{_⊆_}
 
 -- k rounds of F from S
 unfoldable pub iter : ℕ → (Set → Set) → Set → Set
