@@ -5,3 +5,4 @@ pub mod Bits
 pub mod Count
 pub mod First
 pub mod Dual
+pub mod Reflect

@@ -10,6 +10,7 @@ pub mod Eval
 -- edits
 pub mod Edits
 -- rewriting
+pub mod Steps
 pub mod Image
 pub mod Rewrite
 -- classes

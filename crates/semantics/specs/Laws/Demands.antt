@@ -1,19 +1,18 @@
 -- What the demands on rewriting and on classes come down to, over sites as models and conditions as tables.
 use mathlib.Core.Path.{_≡_}
-use mathlib.Core.Logic.{_⊎_, inl, inr, _↔_, Iff·rfl, Iff·trans}
-use mathlib.Core.List.{List, [], _∷_}
+use mathlib.Core.Logic.{_⊎_, inl, inr, _↔_, Iff·trans}
+use mathlib.Core.List.{List}
 use mathlib.Core.Bool.{true}
 use Prim.Native.Nat.{ℕ, _<_}
 use lib.ListN.{length}
-use Rattle.finite.specs.Laws.Bools.{either, look, clash, and-l, and-r}
+use Rattle.finite.specs.Laws.Bools.{either, look, clash}
 use Rattle.semantics.specs.Form.{slots}
 use Rattle.semantics.specs.Holds.{Env, Model, Holds, TellsApart}
 use Rattle.semantics.specs.Table.{Node, formOf, nodesFit, ClosedTable}
-use Rattle.semantics.specs.Edit.{Edit, edit, legal, goes, Valid, sheet, sheetLegal, sheetGoes}
+use Rattle.semantics.specs.Edit.{Edit, Valid, sheet, sheetLegal, sheetGoes}
 use Rattle.semantics.specs.Block.{rewriteSheet}
 use Rattle.semantics.specs.Like.{Alike, IsClass}
-use Rattle.semantics.specs.Laws.Edits.{goes-out, edit-keeps}
-use Rattle.semantics.specs.Laws.Rewrite.{table-image, sheet-fits, sheet-some}
+use Rattle.semantics.specs.Laws.Rewrite.{sheet-rewritten}
 use Rattle.semantics.specs.Laws.Invariance.{alike-holds}
 use Rattle.semantics.specs.Laws.Refine.{like, alike-like}
 use Rattle.semantics.specs.Laws.Describe.{tells-apart}
@@ -23,15 +22,7 @@ use Rattle.semantics.specs.Laws.Classes.{class-same}
 pub rewritten-holds : (es : List Edit) → sheetLegal es ≡ true → (M : Model) → Valid M → sheetGoes es M ≡ true
     → (xs : List Node) → nodesFit 0 xs ≡ true → 0 < length xs
     → (ρ : Env) (s : ℕ) → s < slots → Holds (sheet es M) ρ (formOf xs) s ↔ Holds M ρ (formOf (rewriteSheet es xs)) s
-unfolding sheetLegal rewriteSheet sheet sheetGoes
-rewritten-holds [] l M v g xs f h ρ s k = Iff·rfl
-rewritten-holds (e ∷ es) l M v g xs f h ρ s k =
-    let here = and-l (legal e) _ l in
-    let rest = and-r (legal e) _ l in
-    let now = and-l (goes e M) _ g in
-    Iff·trans
-    (rewritten-holds es rest (edit e M) (edit-keeps e here M v now) (and-r (goes e M) _ g) xs f h ρ s k)
-    (table-image e here _ (sheet-fits es rest xs f) (sheet-some es rest xs f h) .says M v (goes-out M v e now) ρ s k)
+rewritten-holds es l M v g xs f h ρ s k = sheet-rewritten es l xs f .says h M v g ρ s k
 
 -- two slots are alike exactly if no closed condition without slot numbers tells them apart
 pub alike-untold : (M : Model) (ρ : Env) (s t : ℕ) → s < slots → t < slots

@@ -111,65 +111,77 @@ module _ (M : Model) (v : Valid M) where
   goes-out (AS n k) g = tt
   goes-out (DS n) g = λ e. not-out _ g (eq-same e)
 
-  edit-valid : (e : Edit) → Legal e → Goes e M → Valid (edit e M)
+  -- a valid site with other names, other labels or other links
+  renamed : (place : ℕ → ℕ) → place 0 ≡ 0 → ((n : ℕ) → M .present (place n) ≡ true)
+      → Valid (record { present = M .present; marked = M .marked; place = place; link = M .link })
+  renamed place nil named = record {
+    small = v .small;
+    nil-present = v .nil-present;
+    nil-named = nil;
+    named = named;
+    labelled = v .labelled;
+    from = v .from;
+    to = v .to;
+    one = v .one;
+  }
+
+  relabelled : (marked : ℕ → Set) → ((p s : ℕ) → marked p s ≡ true → M .present s ≡ true)
+      → Valid (record { present = M .present; marked = marked; place = M .place; link = M .link })
+  relabelled marked h = record {
+    small = v .small;
+    nil-present = v .nil-present;
+    nil-named = v .nil-named;
+    named = v .named;
+    labelled = h;
+    from = v .from;
+    to = v .to;
+    one = v .one;
+  }
+
+  relinked : (link : ℕ → ℕ → Set)
+      → ((m s t : ℕ) → link m s t ≡ true → ((M .present s ≡ true) × (s ≢ 0)) × ((M .present t ≡ true) × (t ≢ 0)))
+      → ((m s t u : ℕ) → functional m ≡ true → link m s t ≡ true → link m s u ≡ true → t ≡ u)
+      → Valid (record { present = M .present; marked = M .marked; place = M .place; link = link })
+  relinked link ends one = record {
+    small = v .small;
+    nil-present = v .nil-present;
+    nil-named = v .nil-named;
+    named = v .named;
+    labelled = v .labelled;
+    from = λ m s t h. ends m s t h .0;
+    to = λ m s t h. ends m s t h .1;
+    one = one;
+  }
+
+  fewer-links : (link : ℕ → ℕ → Set) → ((m s t : ℕ) → link m s t ≡ true → M .link m s t ≡ true)
+      → Valid (record { present = M .present; marked = M .marked; place = M .place; link = link })
+  fewer-links link h =
+      relinked link (λ m s t p. (v .from m s t (h m s t p), v .to m s t (h m s t p))) (λ m s t u f p q. v .one m s t u f (h m s t p) (h m s u q))
+
+  valid-after : (e : Edit) → Legal e → Goes e M → Valid (edit e M)
   unfolding edit Legal Goes
-  edit-valid (CN1 n1 n2) l g = record {
-    small = v .small;
-    nil-present = v .nil-present;
-    nil-named = rw (ne-same {m = 0} {n = n1} (λ q. l .0 (sym q))) (v .nil-named);
-    named = λ n. either (look (same n n1)) (λ e. rw e (v .named n2)) (λ e. rw e (v .named n));
-    labelled = v .labelled;
-    from = v .from;
-    to = v .to;
-    one = v .one;
-  }
-  edit-valid (CN2 n1 n2 f) l g = record {
-    small = v .small;
-    nil-present = v .nil-present;
-    nil-named = rw (ne-same {m = 0} {n = n1} (λ q. l .0 (sym q))) (v .nil-named);
-    named = λ n. either (look (same n n1)) (λ e. rw e (target-present f (M .place n2))) (λ e. rw e (v .named n));
-    labelled = v .labelled;
-    from = v .from;
-    to = v .to;
-    one = v .one;
-  }
-  edit-valid (AP n p) l g = record {
-    small = v .small;
-    nil-present = v .nil-present;
-    nil-named = v .nil-named;
-    named = v .named;
-    labelled = λ q s h. either (more (same q p) _ _ h) (λ x. v .labelled q s x) (λ x. rw (same-eq (x .1)) (v .named n));
-    from = v .from;
-    to = v .to;
-    one = v .one;
-  }
-  edit-valid (DP n p) l g = record {
-    small = v .small;
-    nil-present = v .nil-present;
-    nil-named = v .nil-named;
-    named = v .named;
-    labelled = λ q s h. v .labelled q s (fewer (same q p) _ _ h);
-    from = v .from;
-    to = v .to;
-    one = v .one;
-  }
-  edit-valid (AT m n1 n2) l g = record {
-    small = v .small;
-    nil-present = v .nil-present;
-    nil-named = v .nil-named;
-    named = v .named;
-    labelled = v .labelled;
-    from = λ j s t h. either (more (same j m) _ _ h) (λ x. v .from j s t x)
-        (λ x. let e : s ≡ M .place n1 = same-eq (and-l _ _ (x .1)) in (rw e (v .named n1), rw e (g .0)));
-    to = λ j s t h. either (more (same j m) _ _ h) (λ x. v .to j s t x)
-        (λ x. let e : t ≡ M .place n2 = same-eq (and-r (same s (M .place n1)) _ (x .1)) in (rw e (v .named n2), rw e (g .1)));
-    one = λ j s t u f h k.
-        either (more (same j m) _ _ h)
-        (λ x. either (more (same j m) _ _ k) (λ y. v .one j s t u f x y) (λ y. old j s t f (y .0) (and-l _ _ (y .1)) x ∙ sym (new s u (y .1))))
-        (λ x. either (more (same j m) _ _ k)
-        (λ y. new s t (x .1) ∙ sym (old j s u f (x .0) (and-l _ _ (x .1)) y))
-        (λ y. new s t (x .1) ∙ sym (new s u (y .1))));
-  }
+  valid-after (CN1 n1 n2) l g =
+      renamed _ (rw (ne-same {m = 0} {n = n1} (λ q. l .0 (sym q))) (v .nil-named))
+      (λ n. either (look (same n n1)) (λ e. rw e (v .named n2)) (λ e. rw e (v .named n)))
+  valid-after (CN2 n1 n2 f) l g =
+      renamed _ (rw (ne-same {m = 0} {n = n1} (λ q. l .0 (sym q))) (v .nil-named))
+      (λ n. either (look (same n n1)) (λ e. rw e (target-present f (M .place n2))) (λ e. rw e (v .named n)))
+  valid-after (AP n p) l g =
+      relabelled _ (λ q s h. either (more (same q p) _ _ h) (λ x. v .labelled q s x) (λ x. let e : s ≡ M .place n = same-eq (x .1) in rw e (v .named n)))
+  valid-after (DP n p) l g = relabelled _ (λ q s h. v .labelled q s (fewer (same q p) _ _ h))
+  valid-after (AT m n1 n2) l g =
+      relinked _
+      (λ j s t h. either (more (same j m) _ _ h)
+      (λ x. (v .from j s t x, v .to j s t x))
+      (λ x.
+      let a : s ≡ M .place n1 = same-eq (and-l _ _ (x .1)) in
+      let b : t ≡ M .place n2 = new s t (x .1) in
+      (rw a (v .named n1, g .0), rw b (v .named n2, g .1))))
+      (λ j s t u f h k. either (more (same j m) _ _ h)
+      (λ x. either (more (same j m) _ _ k) (λ y. v .one j s t u f x y) (λ y. old j s t f (y .0) (and-l _ _ (y .1)) x ∙ sym (new s u (y .1))))
+      (λ x. either (more (same j m) _ _ k)
+      (λ y. new s t (x .1) ∙ sym (old j s u f (x .0) (and-l _ _ (x .1)) y))
+      (λ y. new s t (x .1) ∙ sym (new s u (y .1)))))
     where
       -- the new link leads to @n2, and so does an old one from @n1
       new : (s t : ℕ) → (same s (M .place n1) && same t (M .place n2)) ≡ true → t ≡ M .place n2
@@ -179,27 +191,9 @@ module _ (M : Model) (v : Valid M) where
       old j s t f a b h =
           g .2 (subst (λ i. functional i ≡ true) (same-eq a) f) t
           (subst (λ z. M .link m z t ≡ true) (same-eq b) (subst (λ i. M .link i s t ≡ true) (same-eq a) h))
-  edit-valid (DT1 m n1 n2) l g = record {
-    small = v .small;
-    nil-present = v .nil-present;
-    nil-named = v .nil-named;
-    named = v .named;
-    labelled = v .labelled;
-    from = λ j s t h. v .from j s t (fewer (same j m) _ _ h);
-    to = λ j s t h. v .to j s t (fewer (same j m) _ _ h);
-    one = λ j s t u f h k. v .one j s t u f (fewer (same j m) _ _ h) (fewer (same j m) _ _ k);
-  }
-  edit-valid (DT2 f n) l g = record {
-    small = v .small;
-    nil-present = v .nil-present;
-    nil-named = v .nil-named;
-    named = v .named;
-    labelled = v .labelled;
-    from = λ j s t h. v .from j s t (fewer (same j f) _ _ h);
-    to = λ j s t h. v .to j s t (fewer (same j f) _ _ h);
-    one = λ j s t u o h k. v .one j s t u o (fewer (same j f) _ _ h) (fewer (same j f) _ _ k);
-  }
-  edit-valid (AS n j) l g = record {
+  valid-after (DT1 m n1 n2) l g = fewer-links _ (λ j s t h. fewer (same j m) _ _ h)
+  valid-after (DT2 f n) l g = fewer-links _ (λ j s t h. fewer (same j f) _ _ h)
+  valid-after (AS n j) l g = record {
     small = λ s h. either (or-out _ _ h) (λ x. v .small s x) (λ x. rw (same-eq x) (below-out j slots (l .1)));
     nil-present = or-l _ _ (v .nil-present);
     nil-named = rw (ne-same {m = 0} {n = n} (λ q. l .0 (sym q))) (v .nil-named);
@@ -209,7 +203,7 @@ module _ (M : Model) (v : Valid M) where
     to = λ m s t h. (or-l _ _ (v .to m s t h .0), v .to m s t h .1);
     one = v .one;
   }
-  edit-valid (DS n) l g =
+  valid-after (DS n) l g =
       let nil : (M .present 0 && not (same 0 (M .place n))) ≡ true = and-in (v .nil-present) (not-in (λ q. g (sym (same-eq q)))) in
       record {
         small = λ s h. v .small s (and-l _ _ h);
@@ -228,11 +222,11 @@ module _ (M : Model) (v : Valid M) where
         one = λ m s t u f h k. v .one m s t u f (and-l _ _ h) (and-l _ _ k);
       }
 
-pub edit-keeps : (e : Edit) → legal e ≡ true → (M : Model) → Valid M → goes e M ≡ true → Valid (edit e M)
-edit-keeps e l M v g = edit-valid M v e (legal-out e l) (goes-out M v e g)
+pub edit-valid : (e : Edit) → legal e ≡ true → (M : Model) → Valid M → goes e M ≡ true → Valid (edit e M)
+edit-valid e l M v g = valid-after M v e (legal-out e l) (goes-out M v e g)
 
 pub sheet-valid : (es : List Edit) → sheetLegal es ≡ true → (M : Model) → Valid M → sheetGoes es M ≡ true → Valid (sheet es M)
 unfolding sheet sheetLegal sheetGoes
 sheet-valid [] l M v g = v
 sheet-valid (e ∷ es) l M v g =
-    sheet-valid es (and-r (legal e) _ l) (edit e M) (edit-keeps e (and-l _ _ l) M v (and-l _ _ g)) (and-r (goes e M) _ g)
+    sheet-valid es (and-r (legal e) _ l) (edit e M) (edit-valid e (and-l _ _ l) M v (and-l _ _ g)) (and-r (goes e M) _ g)

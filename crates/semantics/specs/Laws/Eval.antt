@@ -1,13 +1,14 @@
 -- The set of a condition, computed, and that it is the set of the slots where the condition holds.
 use mathlib.Core.Path.{_≡_, refl, sym, _∙_, ap}
-use mathlib.Core.Logic.{inl, inr, _↔_}
+use mathlib.Core.Logic.{_↔_, Iff·rfl}
 use mathlib.Core.List.{List}
 use mathlib.Core.Bool.{Bool, true, false, not, _&&_, _||_}
 use Prim.Native.Nat.{ℕ, _<_}
 use lib.ListN.{length}
 use Rattle.finite.specs.Tests.{same, any, all}
-use Rattle.finite.specs.Laws.Bools.{either, look, no-true, and-in, and-l, and-r, or-l, or-r, or-out, not-in, not-out}
-use Rattle.finite.specs.Laws.Below.{same-eq, eq-same, any-in, any-out, all-out, all-in}
+use Rattle.finite.specs.Laws.Bools.{no-true, and-in, and-l, and-r, not-out}
+use Rattle.finite.specs.Laws.Below.{all-out}
+use Rattle.finite.specs.Laws.Reflect.{same-iff, not-iff, and-iff, or-iff, some-iff, every-iff}
 use Rattle.semantics.specs.Form.{slots, Form, top, here, label, name, var, neg, or, and, dia, box, mu, nu, slot, occ, even}
 use Rattle.semantics.specs.Holds.{Set, Env, put, Model, step, Holds}
 use Rattle.semantics.specs.Table.{Leaf, kTrue, kHere, kLabel, kName, kVar, kSlot, Unary, kNot, kDia, kBox, kMu, kNu, Binary, kOr, kAnd, Kind, leaf, unary, binary, Node, atom, one, two, build, treeAt, nodesFit, evenTable}
@@ -56,32 +57,15 @@ module _ (M : Model) where
   pub eval-holds : (φ : Form) → evenTree φ ≡ true → (ρ : Env) (s : ℕ) → s < slots → (eval M ρ φ s ≡ true) ↔ Holds M ρ φ s
   unfolding eval Holds even evenTree
   eval-holds top w ρ s h = (λ p. tt, λ p. refl)
-  eval-holds here w ρ s h = (λ p. p, λ p. p)
-  eval-holds (label _) w ρ s h = (λ p. p, λ p. p)
-  eval-holds (name n) w ρ s h = (same-eq, eq-same)
-  eval-holds (var v) w ρ s h = (λ p. p, λ p. p)
-  eval-holds (neg φ) w ρ s h =
-      let ih = eval-holds φ w ρ s h in
-      (λ p q. not-out _ p (ih .1 q), λ p. not-in (λ q. p (ih .0 q)))
-  eval-holds (or φ ψ) w ρ s h =
-      let i = eval-holds φ (and-l _ _ w) ρ s h in
-      let j = eval-holds ψ (and-r (evenTree φ) _ w) ρ s h in
-      (λ p. either (or-out _ _ p) (λ q. inl (i .0 q)) (λ q. inr (j .0 q)), λ p. either p (λ q. or-l _ _ (i .1 q)) (λ q. or-r (eval M ρ φ s) _ (j .1 q)))
-  eval-holds (and φ ψ) w ρ s h =
-      let i = eval-holds φ (and-l _ _ w) ρ s h in
-      let j = eval-holds ψ (and-r (evenTree φ) _ w) ρ s h in
-      (λ p. (i .0 (and-l _ _ p), j .0 (and-r (eval M ρ φ s) _ p)), λ p. and-in (i .1 (p .0)) (j .1 (p .1)))
-  eval-holds (dia d φ) w ρ s h = (
-    λ p. let r = any-out slots _ p in
-        (r .0, r .1, and-l _ _ (r .2), eval-holds φ w ρ (r .0) (r .1) .0 (and-r (step M d s (r .0)) _ (r .2))),
-    λ p. any-in slots _ (p .0) (p .1) (and-in (p .2) (eval-holds φ w ρ (p .0) (p .1) .1 (p .3))),
-  )
-  eval-holds (box d φ) w ρ s h = (
-    λ p t k q. either (or-out _ _ (all-out slots _ p t k)) (λ r. absurd (not-out _ r q)) (λ r. eval-holds φ w ρ t k .0 r),
-    λ p. all-in slots _ (λ t k. either (look (step M d s t))
-        (λ q. or-r (not (step M d s t)) _ (eval-holds φ w ρ t k .1 (p t k q)))
-        (λ q. or-l _ _ (ap not q))),
-  )
+  eval-holds here w ρ s h = Iff·rfl
+  eval-holds (label _) w ρ s h = Iff·rfl
+  eval-holds (name n) w ρ s h = same-iff s _
+  eval-holds (var v) w ρ s h = Iff·rfl
+  eval-holds (neg φ) w ρ s h = not-iff _ (eval-holds φ w ρ s h)
+  eval-holds (or φ ψ) w ρ s h = or-iff _ _ (eval-holds φ (and-l _ _ w) ρ s h) (eval-holds ψ (and-r (evenTree φ) _ w) ρ s h)
+  eval-holds (and φ ψ) w ρ s h = and-iff _ _ (eval-holds φ (and-l _ _ w) ρ s h) (eval-holds ψ (and-r (evenTree φ) _ w) ρ s h)
+  eval-holds (dia d φ) w ρ s h = some-iff slots (step M d s) (eval M ρ φ) (eval-holds φ w ρ)
+  eval-holds (box d φ) w ρ s h = every-iff slots (step M d s) (eval M ρ φ) (eval-holds φ w ρ)
   eval-holds (mu v φ) w ρ s h =
       let F : Set → Set = λ S. eval M (put ρ v S) φ in
       let ih = eval-holds φ (and-r (even (mu v φ)) _ w) in
@@ -96,7 +80,7 @@ module _ (M : Model) where
         λ p. (iter slots F full, (λ x k q. ih _ x k .0 (settled-full F grows x k q)), p),
         λ p. greatest F grows (p .0) (λ x k q. ih _ x k .1 (p .1 x k q)) slots s h (p .2),
       )
-  eval-holds (slot k) w ρ s h = (same-eq, eq-same)
+  eval-holds (slot k) w ρ s h = same-iff s k
 
 -- the even rule of a node's tree, from the rule at the node and its children's trees
 pub atom-even : (k : Leaf) (p : ℕ) → evenTree (atom k p) ≡ true

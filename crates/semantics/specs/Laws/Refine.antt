@@ -1,13 +1,14 @@
 -- Refinement: slots that agree on what is said of them, then those whose neighbours cannot be told apart, round after round. After as many
 -- rounds as there are slots the relation is a likeness.
 use mathlib.Core.Path.{_≡_, refl, sym, _∙_, ap, subst}
-use mathlib.Core.Logic.{_⊎_, inl, inr, _↔_}
+use mathlib.Core.Logic.{_⊎_, inl, inr, _↔_, Iff·rfl}
 use mathlib.Core.Bool.{Bool, true, false, not, _&&_, _||_, Bool·beq}
 use Prim.Native.Nat.{ℕ, zero, suc, _≤_, _<_}
 use native.Mathlib.Omega.{arith}
 use Rattle.finite.specs.Tests.{same, any, all, count}
-use Rattle.finite.specs.Laws.Bools.{either, look, clash, and-in, and-l, and-r, or-l, or-r, or-out, not-in, not-out, both}
+use Rattle.finite.specs.Laws.Bools.{either, look, clash, and-in, and-l, and-r, not-in, not-out, both}
 use Rattle.finite.specs.Laws.Below.{same-eq, eq-same, any-in, any-out, all-out, all-in}
+use Rattle.finite.specs.Laws.Reflect.{some-iff, every-iff}
 use Rattle.finite.specs.Laws.Count.{count-more, count-full}
 use Rattle.semantics.specs.Form.{slots, labels, names, Way}
 use Rattle.semantics.specs.Holds.{Set, Model, step}
@@ -53,17 +54,10 @@ eq-beq {a} p = subst (λ x. Bool·beq a x ≡ true) p (beq-refl a)
 abbrev Cover : Model → Way → Rel → ℕ → ℕ → Type 0
 Cover M w E s t = (s′ : ℕ) → s′ < slots → step M w s s′ ≡ true → (t′ : ℕ) × (t′ < slots) × (step M w t t′ ≡ true) × (E s′ t′ ≡ true)
 
-covers-out : (M : Model) (w : Way) (E : Rel) (s t : ℕ) → covers M w E s t ≡ true → Cover M w E s t
+covers-iff : (M : Model) (w : Way) (E : Rel) (s t : ℕ) → (covers M w E s t ≡ true) ↔ Cover M w E s t
 unfolding covers
-covers-out M w E s t p s′ h q =
-    let a = any-out slots (λ t′. step M w t t′ && E s′ t′) (either (or-out _ _ (all-out slots _ p s′ h)) (λ r. absurd (not-out _ r q)) (λ r. r)) in
-    (a .0, a .1, and-l _ _ (a .2), and-r (step M w t (a .0)) _ (a .2))
-
-covers-in : (M : Model) (w : Way) (E : Rel) (s t : ℕ) → Cover M w E s t → covers M w E s t ≡ true
-unfolding covers
-covers-in M w E s t c = all-in slots _ (λ s′ h. either (look (step M w s s′))
-    (λ q. let a = c s′ h q in or-r (not (step M w s s′)) _ (any-in slots _ (a .0) (a .1) (and-in (a .2) (a .3))))
-    (λ q. or-l _ _ (ap not q)))
+covers-iff M w E s t =
+    every-iff slots (step M w s) (λ s′. any slots (λ t′. step M w t t′ && E s′ t′)) (λ s′ h. some-iff slots (step M w t) (E s′) (λ t′ k. Iff·rfl))
 
 -- both ways round, by every way 0 to 15
 abbrev Match : Model → Rel → ℕ → ℕ → Type 0
@@ -78,14 +72,14 @@ module _ (M : Model) where
         let n = link-way w l in
         let q = all-out linkWays _ (and-r (like k M s t) _ p) (wayNo w) (n .0) in
         subst (λ d. Cover M d (like k M) s t × Cover M d (λ a b. like k M b a) t s) (n .1)
-        (covers-out M _ _ s t (and-l _ _ q), covers-out M _ _ t s (and-r (covers M (wayOf (wayNo w)) (like k M) s t) _ q)),
+        (covers-iff M _ _ s t .0 (and-l _ _ q), covers-iff M _ _ t s .0 (and-r (covers M (wayOf (wayNo w)) (like k M) s t) _ q)),
   )
 
   next-in : (k s t : ℕ) → like k M s t ≡ true → Match M (like k M) s t → like (suc k) M s t ≡ true
   unfolding like match
   next-in k s t p c = and-in p (all-in linkWays _ (λ i h.
       let q = c (wayOf i) (way-link i h) in
-      and-in (covers-in M _ (like k M) s t (q .0)) (covers-in M _ (λ a b. like k M b a) t s (q .1))))
+      and-in (covers-iff M _ (like k M) s t .1 (q .0)) (covers-iff M _ (λ a b. like k M b a) t s .1 (q .1))))
 
   abbrev Agree : ℕ → ℕ → Type 0
   Agree s t = (M .present s ≡ M .present t) × ((p : ℕ) → p < labels → M .marked p s ≡ M .marked p t)

@@ -1,5 +1,6 @@
--- A table rewritten through an edit says before it what the table says after it; and, through a sheet, meets none of items 8, 9 and 10 anew.
+-- A table rewritten through a sheet is a table again, and says before the sheet what the table says after it.
 use mathlib.Core.Path.{_≡_, refl, sym, _∙_, ap, ap₂, subst}
+use mathlib.Core.Logic.{_↔_, Iff·rfl, Iff·trans}
 use mathlib.Core.List.{List, [], _∷_, _++_}
 use mathlib.Core.Bool.{Bool, true, false, not, _||_}
 use Prim.Native.Nat.{ℕ, suc, _+_, _-_, _<_}
@@ -8,14 +9,15 @@ use lib.ListN.{length, getD, length-append, List·getD-append}
 use lib.Seq.{getD-at}
 use Rattle.finite.specs.Laws.Bools.{either, and-l, and-r}
 use Rattle.finite.specs.Laws.Below.{equal?, below-in, all-in, all-out, all-cong}
-use Rattle.semantics.specs.Form.{variables, Form, top, occ, free, closed, even}
-use Rattle.semantics.specs.Edit.{Edit, legal, sheetLegal}
+use Rattle.semantics.specs.Form.{slots, variables, Form, top, occ, free, closed, even}
+use Rattle.semantics.specs.Holds.{Env, Model, Holds}
+use Rattle.semantics.specs.Edit.{Edit, edit, legal, goes, Valid, sheet, sheetLegal, sheetGoes}
 use Rattle.semantics.specs.Table.{Kind, leaf, unary, binary, kindOf, Node, tree, trees, treeAt, formOf, nodeFits, nodesFit, evenTable}
 use Rattle.semantics.specs.Block.{Block, old, size, root, emit, block, rewrite, rewriteTable, rewriteSheet}
 use Rattle.semantics.specs.Laws.TreeAt.{length-snoc, trees-append, table-length, trees-old, Lower, node-kind, node-lower, fits-first, fits-rest}
-use Rattle.semantics.specs.Laws.Edits.{Legal, legal-out}
+use Rattle.semantics.specs.Laws.Edits.{Legal, legal-out, goes-out, edit-valid}
 use Rattle.semantics.specs.Laws.Emit.{fits-append, emit-length, blockFits, emit-fits, fill, emit-tree, Evens, emit-even}
-use Rattle.semantics.specs.Laws.Image.{Image, Good, Kid, Kids, block-good}
+use Rattle.semantics.specs.Laws.Image.{Image, root-last, Good, Kid, Kids, block-good}
 
 -- what holds after some nodes, which have the trees ts and became the nodes out: each has its image there, and the last node's is the last
 record Done (e : Edit) (ts : List Form) (images : List ℕ) (out : List Node) : Type 0 where
@@ -84,7 +86,7 @@ module _ (e : Edit) (l : Legal e) (ts : List Form) (images : List ℕ) (out : Li
       let n = length ts in
       let lenT = length-snoc ts (tree ts x) in
       let lenO : length (out ++ emit B b) ≡ b + size B = simp length-append (omega (arith, emit-length B b)) in
-      let end = good .solid b in
+      let end = root-last B (good .made) b in
       let own : getD (images ++ (root B b ∷ [])) n 0 ≡ root B b = getD-at images (root B b) [] 0 n (done .len) in
       let at-b : blockFits b B ≡ true = subst (λ (m : ℕ). blockFits m B ≡ true) (table-length out) (good .fits) in
       record {
@@ -149,38 +151,54 @@ module _ (e : Edit) (l : legal e ≡ true) (xs : List Node) (f : nodesFit 0 xs �
       subst (λ (j : ℕ). Image e (getD (trees [] xs) j top) (formOf (rewriteTable e xs))) same-last
       (subst (λ (j : ℕ). Image e (getD (trees [] xs) i top) (getD (trees [] (rewriteTable e xs)) j top)) at-end (r .1))
 
--- through a sheet: items 8, 9 and 10 stay unmet
-pub sheet-fits : (es : List Edit) → sheetLegal es ≡ true → (xs : List Node) → nodesFit 0 xs ≡ true → nodesFit 0 (rewriteSheet es xs) ≡ true
-unfolding sheetLegal rewriteSheet
-sheet-fits [] l xs f = f
-sheet-fits (e ∷ es) l xs f = table-fits e (and-l _ _ l) _ (sheet-fits es (and-r (legal e) _ l) xs f)
+-- the table ys is xs rewritten through a sheet
+pub record Rewritten (es : List Edit) (xs ys : List Node) : Type 0 where
+  pub fits : nodesFit 0 ys ≡ true
+  pub evens : evenTable xs ≡ true → evenTable ys ≡ true
+  pub some : 0 < length xs → 0 < length ys
+  pub occurs : 0 < length xs → (b : Bool) (v : ℕ) → occ b v (formOf ys) ≡ occ b v (formOf xs)
+  pub says : 0 < length xs → (M : Model) → Valid M → sheetGoes es M ≡ true
+      → (ρ : Env) (s : ℕ) → s < slots → Holds (sheet es M) ρ (formOf xs) s ↔ Holds M ρ (formOf ys) s
 
-pub sheet-some : (es : List Edit) → sheetLegal es ≡ true → (xs : List Node) → nodesFit 0 xs ≡ true
-    → 0 < length xs → 0 < length (rewriteSheet es xs)
-unfolding sheetLegal rewriteSheet
-sheet-some [] l xs f h = h
-sheet-some (e ∷ es) l xs f h =
-    let r = and-r (legal e) _ l in
-    table-some e (and-l _ _ l) _ (sheet-fits es r xs f) (sheet-some es r xs f h)
+-- the edit before the sheet is rewritten after it
+one-more : (e : Edit) (es : List Edit) (xs ys : List Node) → legal e ≡ true → Rewritten es xs ys → Rewritten (e ∷ es) xs (rewriteTable e ys)
+unfolding sheet sheetGoes
+one-more e es xs ys l r = record {
+  fits = table-fits e l ys (r .fits);
+  evens = λ h. table-evens e l ys (r .fits) (r .evens h);
+  some = λ h. table-some e l ys (r .fits) (r .some h);
+  occurs = λ h b v. table-image e l ys (r .fits) (r .some h) .occurs b v ∙ r .occurs h b v;
+  says = λ h M v g ρ s k.
+      let now = and-l (goes e M) _ g in
+      Iff·trans
+      (r .says h (edit e M) (edit-valid e l M v now) (and-r (goes e M) _ g) ρ s k)
+      (table-image e l ys (r .fits) (r .some h) .says M v (goes-out M v e now) ρ s k);
+}
 
-pub sheet-even : (es : List Edit) → sheetLegal es ≡ true → (xs : List Node) → nodesFit 0 xs ≡ true
-    → evenTable xs ≡ true → evenTable (rewriteSheet es xs) ≡ true
-unfolding sheetLegal rewriteSheet
-sheet-even [] l xs f h = h
-sheet-even (e ∷ es) l xs f h =
-    let r = and-r (legal e) _ l in
-    table-evens e (and-l _ _ l) _ (sheet-fits es r xs f) (sheet-even es r xs f h)
+pub sheet-rewritten : (es : List Edit) → sheetLegal es ≡ true → (xs : List Node) → nodesFit 0 xs ≡ true → Rewritten es xs (rewriteSheet es xs)
+unfolding sheetLegal rewriteSheet sheet
+sheet-rewritten [] l xs f = record {
+  fits = f;
+  evens = λ h. h;
+  some = λ h. h;
+  occurs = λ h b v. refl;
+  says = λ h M v g ρ s k. Iff·rfl;
+}
+sheet-rewritten (e ∷ es) l xs f = one-more e es xs (rewriteSheet es xs) (and-l _ _ l) (sheet-rewritten es (and-r (legal e) _ l) xs f)
 
-pub sheet-occ : (es : List Edit) → sheetLegal es ≡ true → (xs : List Node) → nodesFit 0 xs ≡ true → 0 < length xs
-    → (b : Bool) (v : ℕ) → occ b v (formOf (rewriteSheet es xs)) ≡ occ b v (formOf xs)
-unfolding sheetLegal rewriteSheet
-sheet-occ [] l xs f h b v = refl
-sheet-occ (e ∷ es) l xs f h b v =
-    let r = and-r (legal e) _ l in
-    table-image e (and-l _ _ l) _ (sheet-fits es r xs f) (sheet-some es r xs f h) .occurs b v ∙ sheet-occ es r xs f h b v
+-- items 8, 9 and 10 stay unmet
+module _ (es : List Edit) (l : sheetLegal es ≡ true) (xs : List Node) (f : nodesFit 0 xs ≡ true) where
+  pub sheet-fits : nodesFit 0 (rewriteSheet es xs) ≡ true
+  sheet-fits = sheet-rewritten es l xs f .fits
 
-pub sheet-closed : (es : List Edit) → sheetLegal es ≡ true → (xs : List Node) → nodesFit 0 xs ≡ true → 0 < length xs
-    → closed (formOf xs) ≡ true → closed (formOf (rewriteSheet es xs)) ≡ true
-unfolding closed free
-sheet-closed es l xs f h c =
-    all-cong variables _ _ (λ v _. ap₂ (λ x y. not (x || y)) (sheet-occ es l xs f h true v) (sheet-occ es l xs f h false v)) ∙ c
+  pub sheet-some : 0 < length xs → 0 < length (rewriteSheet es xs)
+  sheet-some = sheet-rewritten es l xs f .some
+
+  pub sheet-even : evenTable xs ≡ true → evenTable (rewriteSheet es xs) ≡ true
+  sheet-even = sheet-rewritten es l xs f .evens
+
+  pub sheet-closed : 0 < length xs → closed (formOf xs) ≡ true → closed (formOf (rewriteSheet es xs)) ≡ true
+  unfolding closed free
+  sheet-closed h c =
+      let o = sheet-rewritten es l xs f .occurs h in
+      all-cong variables _ _ (λ v _. ap₂ (λ x y. not (x || y)) (o true v) (o false v)) ∙ c
