@@ -2,3 +2,7 @@
 pub mod Bools
 pub mod Below
 pub mod Bits
+pub mod Count
+pub mod First
+pub mod Dual
+pub mod Reflect
