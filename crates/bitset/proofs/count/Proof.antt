@@ -2,11 +2,9 @@
 use mathlib.Core.Path.{_≡_, refl}
 use Prim.Native.Nat.{_+_, _-_, _*_, _≤_}
 use native.Mathlib.Omega.{arith}
-use lib.Count.{ones-le}
 use Rattle.finite.specs.Tests.{count}
-use Rattle.finite.specs.Laws.Loops.{count-le}
 use Rattle.bitset.specs.Set.{setBytes, setSlots, has}
-use Rattle.bitset.specs.Laws.Count.{count-byte}
+use Rattle.bitset.specs.Laws.Count.{count-byte, count-fits}
 use Rattle.bitset.proofs.count.Statement.{statement}
 use Rattle.bitset.proofs.count.Tie as tie
 
@@ -24,7 +22,7 @@ shared-slice-read-n : tie.Need-shared-slice-read-n Inv-loop μ-loop
 shared-slice-read-n c = omega arith
 
 add-n : tie.Need-add-n Inv-loop μ-loop
-add-n c = omega (arith, count-le (c .before .before .loop .i * 8) (has (c .before .before .before .args .set .now)), ones-le 8 _ (c .shared-slice-known .given (c .before .before .loop .i) .fits))
+add-n c = record { fits = count-fits _ (c .before .before .loop .i) _ _ (c .before .before .loop .inv .1) (omega arith) (c .shared-slice-known .given _ .fits) }
 
 add-i : tie.Need-add-i Inv-loop μ-loop
 add-i c = omega arith
