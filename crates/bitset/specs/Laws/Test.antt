@@ -11,7 +11,7 @@ use borrow.Author.Tests.{ne-eqb}
 use Rattle.finite.specs.Tests.{bit, all}
 use Rattle.finite.specs.Laws.Bits.{beq-eq, all-below, bit-and, bit-not}
 use Rattle.finite.specs.Laws.Below.{all-cong}
-use Rattle.finite.specs.Laws.Loops.{all-add}
+use Rattle.finite.specs.Laws.Loops.{all-add, imp-and}
 use Rattle.bitset.specs.Set.{setBytes, setSlots, has}
 use Rattle.bitset.specs.Laws.Bytes.{has-byte}
 
@@ -55,11 +55,6 @@ module _ (p : ℕ → Bool) where
   test-done i t h = rw (let e : setSlots ≡ i * 8 = omega arith in e) (t .passed)
 
 -- a slot of a that is not in b; a slot of both
-imp-and : (a b : Bool) → (not a || b) ≡ not (a && not b)
-imp-and true true = refl
-imp-and true false = refl
-imp-and false b = refl
-
 pub inside-byte : (A B : List ℕ) (i : ℕ) → getD B i 0 < 256 → (k : ℕ) → k < 8
     → (not (has A (i * 8 + k)) || has B (i * 8 + k)) ≡ not (bit (bitAnd (getD A i 0) (255 - getD B i 0)) k)
 inside-byte A B i h k hk =

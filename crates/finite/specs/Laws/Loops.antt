@@ -51,6 +51,20 @@ any-all (suc n) f = rw (any-all n f) (go (f n) (all n (λ k. not (f k))))
     go true b = refl
     go false b = refl
 
+-- none passes, if all fail
+pub none-all : (n : ℕ) (f : ℕ → Bool) → not (any n f) ≡ all n (λ k. not (f k))
+none-all n f = rw (any-all n f) (twice (all n (λ k. not (f k))))
+  where
+    twice : (a : Bool) → not (not a) ≡ a
+    twice true = refl
+    twice false = refl
+
+-- an implication, as a test
+pub imp-and : (a b : Bool) → (not a || b) ≡ not (a && not b)
+imp-and true true = refl
+imp-and true false = refl
+imp-and false b = refl
+
 -- a loop that has passed the tests below i: at its start, after one more, at its end
 pub all-none : (f : ℕ → Bool) → all 0 f ≡ true
 unfolding all
