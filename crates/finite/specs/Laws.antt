@@ -2,3 +2,4 @@
 pub mod Bools
 pub mod Below
 pub mod Bits
+pub mod First
