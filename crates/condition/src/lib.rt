@@ -1,4 +1,4 @@
-// The node table of a condition: reading a node's fields, and item 8.
+// The node table of a condition: reading a node's fields, and items 7 and 8.
 ghost use mathlib.Core.Path.{_≡_};
 ghost use mathlib.Core.Bool.{true};
 ghost use Prim.Native.Nat.{_+_, _*_, _≤_, _<_};
@@ -6,7 +6,23 @@ ghost use lib.ListN.{length};
 ghost use Rattle.semantics.specs.Table.{kindOf, nodeFits, nodesFit};
 ghost use Rattle.condition.specs.Bytes.{wordAt, nodeAt, tableOf};
 ghost use Rattle.condition.specs.Limits.{paramLimit, leftLimit, rightLimit};
-ghost use Rattle.condition.specs.Refusal.{firstUnfit};
+ghost use Rattle.condition.specs.Refusal.{sizeFits, firstUnfit};
+
+// Item 7 is not met by a table of n bytes.
+pub fn size_fits(n: usize) -> bool
+    ensures { λ r. ⌜ r ≡ sizeFits n ⌝ }
+{
+    if n % 6 != 0 {
+        return false;
+    }
+    if n < 6 {
+        return false;
+    }
+    if 12288 < n {
+        return false;
+    }
+    true
+}
 
 fn wide(x: u8) -> usize
     ensures { λ r. ⌜ (r ≡ x) × (r < 256) ⌝ }

@@ -3,3 +3,4 @@ pub mod Bools
 pub mod Below
 pub mod Bits
 pub mod First
+pub mod Weights

@@ -1,4 +1,4 @@
--- Item 8 over a table's bytes: each node fits.
+-- A table's nodes from its bytes: each fits, and its tree comes from its children's.
 use mathlib.Core.Path.{_≡_, refl, sym, _∙_, ap, subst}
 use mathlib.Core.List.{List, [], _∷_}
 use mathlib.Core.Bool.{true, false, not}
@@ -10,8 +10,8 @@ use Rattle.finite.specs.Tests.{below}
 use Rattle.finite.specs.Laws.Bools.{and-in}
 use Rattle.finite.specs.Laws.Below.{any-none, none-any}
 use Rattle.finite.specs.Laws.First.{first-below}
-use Rattle.semantics.specs.Table.{Node, nodeFits, nodesFit}
-use Rattle.semantics.specs.Laws.TreeAt.{fits-at}
+use Rattle.semantics.specs.Table.{Node, kindOf, build, treeAt, nodeFits, nodesFit}
+use Rattle.semantics.specs.Laws.TreeAt.{fits-at, tree-at}
 use Rattle.condition.specs.Bytes.{nodeAt, tableOf}
 use Rattle.condition.specs.Refusal.{firstUnfit}
 use Rattle.condition.specs.Laws.Bytes.{length-table, table-at}
@@ -54,3 +54,12 @@ fit-none S f =
     let n = length-table S in
     first-below (length (tableOf S)) (λ i. not (nodeFits i (nodeAt S i)))
     ∙ none-any (length (tableOf S)) (λ i. not (nodeFits i (nodeAt S i))) (λ i h. ap not (node-fits S f i (omega arith)))
+
+-- the tree of node i, from the trees of its children
+pub node-tree : (S : List ℕ) → nodesFit 0 (tableOf S) ≡ true → (i : ℕ) → 6 * i + 6 ≤ length S
+    → treeAt (tableOf S) i
+    ≡ build (kindOf (nodeAt S i .kind)) (nodeAt S i .param) (treeAt (tableOf S) (nodeAt S i .left)) (treeAt (tableOf S) (nodeAt S i .right))
+node-tree S f i h =
+    let e = length-table S in
+    tree-at (tableOf S) blank f i (omega arith)
+    ∙ ap (λ (x : Node). build (kindOf (x .kind)) (x .param) (treeAt (tableOf S) (x .left)) (treeAt (tableOf S) (x .right))) (table-at S blank i h)

@@ -74,12 +74,21 @@ pub kind-past : (k : ℕ) → 12 ≤ k → kindOf k ≡ leaf kSlot
 unfolding kindOf
 kind-past k h = let e : suc (suc (suc (suc (suc (suc (suc (suc (suc (suc (suc (suc (k - 12)))))))))))) ≡ k = omega arith in subst (λ (j : ℕ). kindOf j ≡ leaf kSlot) e refl
 
--- numbers below 16: labels, names and variables
 pub number-limit : (k : ℕ) → paramLimit (kindOf k) ≡ cond (ltb k 2) 1 (cond (ltb k 5) 16 (cond (ltb k 8) 1 (cond (ltb k 10) 17 (cond (ltb k 12) 16 256))))
 unfolding kindOf paramLimit
 number-limit =
     each-kind _ refl refl refl refl refl refl refl refl refl refl refl refl
     (λ k h. rw (kind-past k h, le-ltb k 2 (omega arith), le-ltb k 5 (omega arith), le-ltb k 8 (omega arith), le-ltb k 10 (omega arith), le-ltb k 12 h) refl)
+
+pub limit-name : (k : ℕ) → 2 ≤ k → k < 5 → paramLimit (kindOf k) ≡ 16
+limit-name k h l = rw (number-limit k, le-ltb k 2 h, lt-ltb k 5 l) refl
+
+pub limit-way : (k : ℕ) → 8 ≤ k → k < 10 → paramLimit (kindOf k) ≡ 17
+limit-way k h l = rw (number-limit k, le-ltb k 2 (omega arith), le-ltb k 5 (omega arith), le-ltb k 8 h, lt-ltb k 10 l) refl
+
+pub limit-loop : (k : ℕ) → 10 ≤ k → k < 12 → paramLimit (kindOf k) ≡ 16
+limit-loop k h l =
+    rw (number-limit k, le-ltb k 2 (omega arith), le-ltb k 5 (omega arith), le-ltb k 8 (omega arith), le-ltb k 10 h, lt-ltb k 12 l) refl
 
 pub left-limit : (i k : ℕ) → leftLimit (kindOf k) i ≡ cond (ltb k 5) 1 (cond (ltb k 12) i 1)
 unfolding kindOf leftLimit
