@@ -9,6 +9,7 @@ use Rattle.verdict.specs.declared.Verdict.the-variants.{Accepted, Refused}
 use Rattle.semantics.specs.Form.{variables, free}
 use Rattle.semantics.specs.Table.{treeAt}
 use Rattle.condition.specs.Bytes.{tableOf}
+use Rattle.condition.specs.Refusal.{conditionVerdict}
 
 -- digit v of entry i: the variable v is free in node i. Entries that are no node's are 0
 pub record FreeRows (S rows : List ℕ) : Type 0 where
@@ -19,3 +20,8 @@ pub record FreeRows (S rows : List ℕ) : Type 0 where
 unfoldable pub FreeAfter : Verdict → List ℕ → List ℕ → Type 0
 FreeAfter Accepted S rows = FreeRows S rows
 FreeAfter (Refused n w) S rows = rows ≡ replicate 2048 0
+
+-- the check of the table S answers r and leaves these masks
+pub record Checked (S rows : List ℕ) (r : Verdict) : Type 0 where
+  pub verdict : r ≡ conditionVerdict S
+  pub masks : FreeAfter r S rows

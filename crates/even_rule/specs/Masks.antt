@@ -1,9 +1,10 @@
 -- The state of the pass: for each node that is done, the variables that occur free under an even and under an odd number of nots.
 use mathlib.Core.Path.{_≡_}
 use mathlib.Core.List.{List}
-use mathlib.Core.Bool.{Bool, true, not}
+use mathlib.Core.Bool.{Bool, true, false, not}
 use Prim.Native.Nat.{ℕ, _+_, _*_, _≤_, _<_}
 use lib.ListN.{length, getD}
+use lib.Bits.{bitOr}
 use Rattle.finite.specs.Tests.{bit}
 use Rattle.semantics.specs.Form.{variables, Form, occ}
 use Rattle.semantics.specs.Table.{treeAt, nodesFit}
@@ -29,6 +30,10 @@ Good S done evens odds = (j : ℕ) → 6 * j + 6 ≤ length S → getD done j 0 
 -- those of every node are
 unfoldable pub Rows : List ℕ → List ℕ → List ℕ → Type 0
 Rows S evens odds = (j : ℕ) → 6 * j + 6 ≤ length S → Row true S evens odds j
+
+-- the odd masks alone
+unfoldable pub Odds : List ℕ → List ℕ → Type 0
+Odds S odds = (j : ℕ) → 6 * j + 6 ≤ length S → Shows false (treeAt (tableOf S) j) (getD odds j 0)
 
 -- a node that was done stays done
 unfoldable pub Kept : List ℕ → List ℕ → Type 0
@@ -58,3 +63,8 @@ pub record Ripe (S done done′ evens′ odds′ : List ℕ) (i : ℕ) : Type 0 
   pub good : Good S done′ evens′ odds′
   pub kept : Kept done done′
   pub children : Children true S evens′ odds′ i
+
+-- the first n entries are the masks of both parities, united; the others are as they were
+pub record United (evens odds rows rows′ : List ℕ) (n : ℕ) : Type 0 where
+  pub node : (j : ℕ) → j < n → getD rows′ j 0 ≡ bitOr (getD evens j 0) (getD odds j 0)
+  pub rest : (j : ℕ) → n ≤ j → getD rows′ j 0 ≡ getD rows j 0

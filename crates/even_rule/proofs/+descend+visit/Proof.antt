@@ -1,9 +1,8 @@
+-- `even_rule::descend` and `even_rule::visit`, a cycle of calls, meet their contracts. The measure: twice the node's number, and 1 more for `visit`.
 use Rattle.even_rule.specs.Laws.Pass.{children-swap, was-done, no-child, again, one-child, two-children, finish}
-use lib.ListN.{length, length-set}
+use lib.ListN.{length-set}
 use native.Mathlib.Omega.{arith}
-use Prim.Native.Nat.{_+_, _*_, _≤_}
-use mathlib.Core.List.{List}
-use mathlib.Core.Path.{sym, _∙_}
+use Prim.Native.Nat.{_+_, _*_}
 use Prim.Native.Nat.{ℕ, _<_}
 use borrow.Fn.Kinds.{In}
 use borrow.Fn.PlainCycle.{Measures, is, falls, and}

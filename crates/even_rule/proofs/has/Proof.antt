@@ -1,20 +1,16 @@
+-- `even_rule::has` meets its contract.
 use Rattle.finite.specs.Tests.{bit}
 use mathlib.Core.Path.{refl}
 use borrow.Author.Needs.{needs}
 use Rattle.even_rule.proofs.has.Statement.{statement}
 use Rattle.even_rule.proofs.has.Tie as tie
-use Rattle.even_rule.proofs.has.Reads as reads
-use Rattle.even_rule.proofs.has.Lts as lts
 
--- src/lib.rt:36:14
 cast-result : tie.Need-cast-result
 cast-result c = search needs
 
--- src/lib.rt:36:6
 shr-result : tie.Need-shr-result
 shr-result c = search needs
 
--- src/lib.rt:32:1
 returns : tie.Need-returns
 unfolding bit
 returns c = refl

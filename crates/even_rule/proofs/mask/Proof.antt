@@ -1,123 +1,89 @@
+-- `even_rule::mask` meets its contract.
 use Rattle.even_rule.specs.Laws.Shows.{mask-none, mask-slot, mask-var, mask-not, mask-two, mask-step, mask-loop}
 use Rattle.condition.specs.Laws.Limits.{limit-name, limit-loop}
 use native.Mathlib.Omega.{arith}
 use borrow.Author.Needs.{needs}
 use Rattle.even_rule.proofs.mask.Statement.{statement}
 use Rattle.even_rule.proofs.mask.Tie as tie
-use Rattle.even_rule.proofs.mask.Reads as reads
-use Rattle.even_rule.proofs.mask.Lts as lts
-use Rattle.condition.proofs.kind.Reads as kind-reads
-use Rattle.condition.proofs.left_child.Reads as left-child-reads
-use Rattle.condition.proofs.number.Reads as number-reads
-use Rattle.condition.proofs.right_child.Reads as right-child-reads
-use Rattle.even_rule.proofs.variable.Reads as variable-reads
-use Rattle.even_rule.proofs.without.Reads as without-reads
 
--- src/lib.rt:47:9
 kind-requires : tie.Need-kind-requires
 kind-requires c κs = search needs
 
--- src/lib.rt:49:9
 returns : tie.Need-returns
 returns c = let a = c .before .before .before .before .before .args in let p = c .before .before .before .before .before .pre in mask-none (a .table .now) (a .own .now) (a .other .now) (a .i) (c .before .kind .result) (a .parity) (p .0) (p .1 .0) (c .before .kind .ensures) (p .1 .1 .1) (c .if1 .taken)
 
--- src/lib.rt:52:25
 number-requires : tie.Need-number-requires
 number-requires c κs = let a = c .before .before .before .before .before .before .args in let p = c .before .before .before .before .before .before .pre in (p .0 .fits, (p .1 .0, limit-name _ (omega arith) (omega arith)))
 
--- src/lib.rt:52:9
 variable-requires : tie.Need-variable-requires
 variable-requires c κs = search needs
 
--- src/lib.rt:52:9
 returns-2 : tie.Need-returns-2
 returns-2 c = let a = c .before .before .before .before .before .before .before .before .args in let p = c .before .before .before .before .before .before .before .before .pre in mask-var (a .table .now) (a .own .now) (a .other .now) (a .i) (c .before .before .before .before .kind .result) (a .parity) (p .0) (p .1 .0) (c .before .before .before .before .kind .ensures) (p .1 .1 .1) (c .before .before .before .if1 .left) (c .before .before .if2 .taken) (c .before .number .result) _ (c .before .number .ensures .0) (c .variable .ensures)
 
--- src/lib.rt:55:22
 left-child-requires : tie.Need-left-child-requires
 left-child-requires c κs = search needs
 
--- src/lib.rt:55:16
 mul-result : tie.Need-mul-result
 mul-result c = search needs
 
--- src/lib.rt:55:16
 shared-slice-read-result : tie.Need-shared-slice-read-result
 shared-slice-read-result c = search needs
 
--- src/lib.rt:55:9
 returns-3 : tie.Need-returns-3
 returns-3 c = let a = c .before .before .before .before .before .before .before .before .before .args in let p = c .before .before .before .before .before .before .before .before .before .pre in mask-not (a .table .now) (a .own .now) (a .other .now) (a .i) (c .before .before .before .before .before .kind .result) (a .parity) (p .0) (p .1 .0) (c .before .before .before .before .before .kind .ensures) (p .1 .1 .1) (c .before .left-child .result) (c .before .left-child .ensures .0) (c .before .before .before .if2 .left) (c .before .before .if3 .taken)
 
--- src/lib.rt:58:20
 left-child-requires-2 : tie.Need-left-child-requires-2
 left-child-requires-2 c κs = search needs
 
--- src/lib.rt:58:16
 mul-result-2 : tie.Need-mul-result-2
 mul-result-2 c = search needs
 
--- src/lib.rt:58:16
 shared-slice-read-result-2 : tie.Need-shared-slice-read-result-2
 shared-slice-read-result-2 c = search needs
 
--- src/lib.rt:58:59
 right-child-requires : tie.Need-right-child-requires
 right-child-requires c κs = search needs
 
--- src/lib.rt:58:55
 mul-result-3 : tie.Need-mul-result-3
 mul-result-3 c = search needs
 
--- src/lib.rt:58:55
 shared-slice-read-result-3 : tie.Need-shared-slice-read-result-3
 shared-slice-read-result-3 c = search needs
 
--- src/lib.rt:58:9
 returns-4 : tie.Need-returns-4
 returns-4 c = let a = c .before .before .before .before .before .before .before .before .before .before .before .before .args in let p = c .before .before .before .before .before .before .before .before .before .before .before .before .pre in mask-two (a .table .now) (a .own .now) (a .other .now) (a .i) (c .before .before .before .before .before .before .before .before .kind .result) (a .parity) (p .0) (p .1 .0) (c .before .before .before .before .before .before .before .before .kind .ensures) (p .1 .1 .1) (c .before .before .before .left-child2 .result) (c .before .before .before .left-child2 .ensures .0) (c .before .before .before .before .before .if3 .left) (c .before .before .before .before .if4 .taken) (c .before .right-child .result) (c .before .right-child .ensures .0)
 
--- src/lib.rt:61:20
 left-child-requires-3 : tie.Need-left-child-requires-3
 left-child-requires-3 c κs = search needs
 
--- src/lib.rt:61:16
 mul-result-4 : tie.Need-mul-result-4
 mul-result-4 c = search needs
 
--- src/lib.rt:61:16
 shared-slice-read-result-4 : tie.Need-shared-slice-read-result-4
 shared-slice-read-result-4 c = search needs
 
--- src/lib.rt:61:9
 returns-5 : tie.Need-returns-5
 returns-5 c = let a = c .before .before .before .before .before .before .before .before .before .before .before .args in let p = c .before .before .before .before .before .before .before .before .before .before .before .pre in mask-step (a .table .now) (a .own .now) (a .other .now) (a .i) (c .before .before .before .before .before .before .before .kind .result) (a .parity) (p .0) (p .1 .0) (c .before .before .before .before .before .before .before .kind .ensures) (p .1 .1 .1) (c .before .left-child3 .result) (c .before .left-child3 .ensures .0) (c .before .before .before .if4 .left) (c .before .before .if5 .taken)
 
--- src/lib.rt:64:28
 left-child-requires-4 : tie.Need-left-child-requires-4
 left-child-requires-4 c κs = search needs
 
--- src/lib.rt:64:24
 mul-without : tie.Need-mul-without
 mul-without c = search needs
 
--- src/lib.rt:64:24
 shared-slice-read-without : tie.Need-shared-slice-read-without
 shared-slice-read-without c = search needs
 
--- src/lib.rt:64:62
 number-requires-2 : tie.Need-number-requires-2
 number-requires-2 c κs = let a = c .before .before .before .before .before .before .before .before .before .before .before .before .args in let p = c .before .before .before .before .before .before .before .before .before .before .before .before .pre in (p .0 .fits, (p .1 .0, limit-loop _ (omega arith) (omega arith)))
 
--- src/lib.rt:64:9
 without-requires : tie.Need-without-requires
 without-requires c κs = search needs
 
--- src/lib.rt:64:9
 returns-6 : tie.Need-returns-6
 returns-6 c = let a = c .before .before .before .before .before .before .before .before .before .before .before .before .before .before .args in let p = c .before .before .before .before .before .before .before .before .before .before .before .before .before .before .pre in mask-loop (a .table .now) (a .own .now) (a .other .now) (a .i) (c .before .before .before .before .before .before .before .before .before .before .kind .result) (a .parity) (p .0) (p .1 .0) (c .before .before .before .before .before .before .before .before .before .before .kind .ensures) (p .1 .1 .1) (c .before .before .before .left-child4 .result) (c .before .before .before .left-child4 .ensures .0) (c .before .before .before .before .before .if5 .left) (c .before .before .before .before .if6 .taken) (c .before .number2 .result) _ (c .before .number2 .ensures .0) (c .before .number2 .ensures .1) (c .without .ensures)
 
--- src/lib.rt:40:1
 returns-7 : tie.Need-returns-7
 returns-7 c = let a = c .before .before .before .before .before .before .before .before .before .before .args in let p = c .before .before .before .before .before .before .before .before .before .before .pre in mask-slot (a .table .now) (a .own .now) (a .other .now) (a .i) (c .before .before .before .before .before .before .kind .result) (a .parity) (p .0) (p .1 .0) (c .before .before .before .before .before .before .kind .ensures) (p .1 .1 .1) (c .if6 .left)
 

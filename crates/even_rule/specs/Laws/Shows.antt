@@ -1,5 +1,5 @@
 -- The masks of a node from its children's, kind by kind.
-use mathlib.Core.Path.{_≡_, refl, sym, _∙_, ap, ap₂, subst}
+use mathlib.Core.Path.{_≡_, refl, _∙_, ap, ap₂}
 use mathlib.Core.List.{List}
 use mathlib.Core.Bool.{Bool, true, false, not, _&&_, _||_, cond}
 use Prim.Native.Nat.{ℕ, zero, suc, _+_, _*_, _-_, _%_, _^_, _≤_, _<_}
@@ -13,12 +13,11 @@ use Rattle.finite.specs.Laws.Bools.{either}
 use Rattle.finite.specs.Laws.Below.{equal?}
 use Rattle.finite.specs.Laws.Bits.{bit-or, bit-and, bit-not}
 use Rattle.finite.specs.Laws.Weights.{bit-zero, bit-weight}
-use Rattle.semantics.specs.Form.{variables, Form, occ, even}
-use Rattle.semantics.specs.Table.{Leaf, kTrue, kHere, kLabel, kName, kVar, kSlot, Unary, kNot, kDia, kBox, kMu, kNu, Binary, kOr, kAnd, Kind, leaf, unary, binary, kindOf, build, atom, one, two, treeAt, nodesFit}
+use Rattle.semantics.specs.Form.{Form, occ, even}
+use Rattle.semantics.specs.Table.{kindOf, build, atom, one, two, treeAt}
 use Rattle.condition.specs.Bytes.{nodeAt, tableOf}
-use Rattle.condition.specs.Limits.{paramLimit}
 use Rattle.condition.specs.Laws.Limits.{each-kind, kind-past}
-use Rattle.condition.specs.Laws.Fits.{node-fits, node-tree}
+use Rattle.condition.specs.Laws.Fits.{node-tree}
 use Rattle.even_rule.specs.Masks.{Shows, Row, Children, Fit}
 
 -- ---- masks
