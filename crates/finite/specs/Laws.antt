@@ -2,3 +2,5 @@
 pub mod Bools
 pub mod Below
 pub mod Bits
+pub mod Search
+pub mod Arms
