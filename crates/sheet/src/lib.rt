@@ -54,12 +54,8 @@ pub fn edit_at(sheet: &[u8], k: usize) -> Op
     requires { ⌜ 4 * k + 4 ≤ length (now sheet) ⌝ }
     ensures { λ r. ⌜ editOf r ≡ editAt (now (sheet .entry)) k ⌝ }
 {
-    read_edit(
-        sheet[4 * k],
-        sheet[4 * k + 1],
-        sheet[4 * k + 2],
-        sheet[4 * k + 3],
-    )
+    let at = 4 * k;
+    read_edit(sheet[at], sheet[at + 1], sheet[at + 2], sheet[at + 3])
 }
 
 // A name that an edit may move: any but name 0.
@@ -98,12 +94,8 @@ pub fn edit_fits(sheet: &[u8], k: usize) -> bool
     requires { ⌜ 4 * k + 4 ≤ length (now sheet) ⌝ }
     ensures { λ r. ⌜ r ≡ fitsAt (now (sheet .entry)) k ⌝ }
 {
-    fits(
-        sheet[4 * k],
-        sheet[4 * k + 1],
-        sheet[4 * k + 2],
-        sheet[4 * k + 3],
-    )
+    let at = 4 * k;
+    fits(sheet[at], sheet[at + 1], sheet[at + 2], sheet[at + 3])
 }
 
 // The lowest faulty edit, or the number of edits where none is.

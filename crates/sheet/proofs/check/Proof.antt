@@ -1,6 +1,8 @@
 -- By the cases of items 11 and 12.
 use Rattle.sheet.specs.Refusal.{sized, sheetVerdict}
 use Rattle.finite.specs.Laws.Below.{ne-same, eq-same, below-in, below-not}
+use lib.ListN.{length}
+use native.Mathlib.Omega.{arith}
 use borrow.Author.Needs.{needs}
 use Rattle.sheet.proofs.check.Statement.{statement}
 use Rattle.sheet.proofs.check.Tie as tie
@@ -11,7 +13,7 @@ returns c = rw (ne-same (c .if1 .taken))
 
 returns-2 : tie.Need-returns-2
 unfolding sheetVerdict sized
-returns-2 c = rw (eq-same (c .before .if1 .left), below-in 256 _ (c .if2 .taken))
+returns-2 c = rw (eq-same (c .before .if1 .left), below-in 256 (length (c .before .before .before .args .sheet .now)) (omega arith))
 
 first-fault-requires : tie.Need-first-fault-requires
 first-fault-requires c κs = search needs

@@ -4,7 +4,7 @@ use mathlib.Core.List.{List, [], _∷_, _++_}
 use mathlib.Core.Bool.{Bool, true, not, _&&_, and-true, and-assoc}
 use Prim.Native.Nat.{ℕ, zero, suc, _<_}
 use native.Mathlib.Omega.{arith}
-use lib.Dec.{leb}
+use lib.Dec.{leb, ltb}
 use borrow.Author.Tests.{le-leb, lt-leb}
 use Rattle.finite.specs.Tests.{same, below}
 use Rattle.finite.specs.Laws.Bools.{either, look, and-l, and-r}
@@ -14,12 +14,16 @@ use Rattle.semantics.specs.Form.{slots, names, links}
 use Rattle.sheet.specs.Bytes.{readEdit, fourAt, editBytes}
 use Rattle.sheet.specs.Refusal.{operands, unusedZero, editFits}
 
-pub from-below : (m n : ℕ) → leb m n ≡ not (below n m)
+from-below : (m n : ℕ) → leb m n ≡ not (below n m)
 from-below m n =
     either
     (look (below n m))
     (λ e. rw e (lt-leb m n (below-out n m e)))
     (λ e. rw e (le-leb m n (not-below n m e)))
+
+pub functional-from : (f : ℕ) → (leb 4 f && ltb f 8) ≡ functional f
+unfolding functional below
+functional-from f = rw (from-below 4 f)
 
 -- unused operands 0: the bytes are those of the edit that is read
 unused-bytes : (o x y z : ℕ) → o < 9 → unusedZero o y z ≡ true → editBytes (readEdit o x y z) ≡ o ∷ x ∷ y ∷ z ∷ []
