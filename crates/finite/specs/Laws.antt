@@ -2,5 +2,8 @@
 pub mod Bools
 pub mod Below
 pub mod Bits
+pub mod Count
+pub mod First
+pub mod Dual
 pub mod Search
 pub mod Arms
