@@ -1,6 +1,6 @@
 -- The loop's invariant: no edit before k is at fault.
 use Rattle.sheet.specs.Refusal.{faulty}
-use Rattle.finite.specs.Laws.Search.{search-start, search-on, search-end}
+use Rattle.finite.specs.Laws.Search.{none-start, none-more, first-stop}
 use Rattle.finite.specs.Laws.Below.{first-is}
 use Rattle.finite.specs.Tests.{any}
 use lib.ListN.{length}
@@ -18,7 +18,7 @@ abbrev μ-loop : tie.MeasureT-loop
 μ-loop sheet n k₀ k = n - k
 
 loop-holds : tie.Need-loop-holds Inv-loop μ-loop
-loop-holds c = (omega arith, search-start _, refl)
+loop-holds c = (omega arith, none-start _, refl)
 
 edit-fits-requires : tie.Need-edit-fits-requires Inv-loop μ-loop
 edit-fits-requires c κs = omega arith
@@ -35,10 +35,10 @@ loop-less c = omega arith
 
 loop-again : tie.Need-loop-again Inv-loop μ-loop
 unfolding faulty
-loop-again c = let l = c .before .before .before .loop in (omega arith, search-on _ (l .k) (l .inv .1) (ap not (sym (c .before .edit-fits .ensures)) ∙ c .if1 .left), refl)
+loop-again c = let l = c .before .before .before .loop in (omega arith, none-more _ (l .k) (l .inv .1) (ap not (sym (c .before .edit-fits .ensures)) ∙ c .if1 .left), refl)
 
 returns-2 : tie.Need-returns-2 Inv-loop μ-loop
-returns-2 c = let l = c .before .loop in sym (search-end _ _ (l .k) (l .inv .1) (omega arith) (omega arith))
+returns-2 c = let l = c .before .loop in sym (first-stop _ _ (l .k) (l .inv .1) (omega arith) (omega arith))
 
 pub first-fault-spec : {M : Type 1} → statement M
 first-fault-spec =
