@@ -1,4 +1,4 @@
--- The test of a row, that each row passes it, and what it says.
+-- The test of a row, and that each row of the table passes it: the checker computes it over all slots, for any valuation.
 use mathlib.Core.Path.{_≡_, refl}
 use mathlib.Core.List.{List, [], _∷_}
 use mathlib.Core.Bool.{Bool, true, not, _&&_, Bool·beq}
@@ -23,7 +23,7 @@ sameSet S T = all slots (λ s. Bool·beq (S s) (T s))
 unfoldable pub listsSet : Model → Env → Form → Slots → Bool
 listsSet M ρ φ S = sameSet (quick M ρ φ) (has S)
 
--- for the empty sheet that is the set after it
+-- the rewritten table lists the set today; for the empty sheet that is the set after it, which is computed already
 unfoldable pub todayTest : Model → Env → List Edit → List Node → Slots → Bool
 todayTest M ρ [] xs S = true
 todayTest M ρ (e ∷ es) xs S = listsSet M ρ (formOf (rewriteSheet (e ∷ es) xs)) S

@@ -66,6 +66,7 @@ loop : (S : Set) (F G : Set → Set) → ((T : Set) (x : ℕ) → F T x ≡ G T 
 loop S F G h s =
     ap (λ (T : Set). T s) (rounds-iter slots F S) ∙ ap (λ (H : Set → Set). iter slots H S s) (fun-ext (λ T. fun-ext (h T)))
 
+-- the set of a condition
 unfoldable pub quick : Model → Env → Form → Set
 quick M ρ top = always true
 quick M ρ here = M .present
@@ -104,7 +105,7 @@ module _ (M : Model) (valid : Valid M) (few : fewSlots M ≡ true) where
 
   within : (s : ℕ) → reach s ≤ slots
   unfolding reach slots span
-  within s = either (look (below s 5)) (λ e. rw e (omega arith)) (λ e. rw e (omega arith))
+  within s = either (look (below s span)) (λ e. rw e (omega arith)) (λ e. rw e (omega arith))
 
   some-next : (next : ℕ → Set) → Links next → (S : Set) (s : ℕ) → someNext next S s ≡ any slots (λ t. next s t && S t)
   unfolding someNext

@@ -51,7 +51,7 @@ edits-take s k h =
     take-suc (editsOf s) k (DS 0) l ∙ ap (λ e. take k (editsOf s) ++ (e ∷ [])) (edits-at s k (DS 0) h)
 
 -- an edit's bytes read back as it
-read-back : (e : Edit) (s : List ℕ) → editsOf (editBytes e ++ s) ≡ e ∷ editsOf s
+pub read-back : (e : Edit) (s : List ℕ) → editsOf (editBytes e ++ s) ≡ e ∷ editsOf s
 unfolding editsOf editBytes readEdit
 read-back (CN1 n1 n2) s = refl
 read-back (CN2 n1 n2 f) s = refl
