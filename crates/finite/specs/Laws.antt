@@ -11,3 +11,5 @@ pub mod First
 -- binary digits
 pub mod Bits
 pub mod Weights
+pub mod Search
+pub mod Arms

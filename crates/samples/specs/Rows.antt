@@ -1,0 +1,80 @@
+-- The starred examples of document 01, "Small sites, by hand", that stand on sites, sheets and conditions: a row each.
+use mathlib.Core.List.{List, [], _∷_}
+use mathlib.Core.Bool.{Bool, not}
+use Prim.Native.Nat.{ℕ}
+use Rattle.finite.specs.Tests.{same}
+use Rattle.semantics.specs.Table.{Node}
+use Rattle.semantics.specs.Edit.{Edit, CN1, CN2, AT, DT2, AS, DS}
+use Rattle.samples.specs.Site.{some, Small, siteA, ring}
+
+-- a set of slots: these only, or all but these
+pub data Slots : Type 0 where
+  only : List ℕ → Slots
+  allBut : List ℕ → Slots
+
+unfoldable pub has : Slots → ℕ → Bool
+has (only xs) s = some (same s) xs
+has (allBut xs) s = not (some (same s) xs)
+
+-- what is expected: the set that the condition lists after the sheet, and the rewritten one today, how many slots it has, and how many nodes
+-- the rewritten table has; or that edit w is the first that does not go through (item 13); or that node w is the first that breaks the even rule (item 9)
+pub data Expected : Type 0 where
+  lists : (set : Slots) (size nodes : ℕ) → Expected
+  stuckAt : (w : ℕ) → Expected
+  oddAt : (w : ℕ) → Expected
+
+pub record Row : Type 0 where
+  pub site : Small
+  pub edits : List Edit
+  pub table : List Node
+  pub expected : Expected
+
+abbrev pub row : Small → List Edit → List Node → Expected → Row
+row a es xs x = record { site = a; edits = es; table = xs; expected = x }
+
+-- a node: kind, parameter, left, right
+abbrev pub node : ℕ → ℕ → ℕ → ℕ → Node
+node k p l r = record { kind = k; param = p; left = l; right = r }
+
+-- R: mu 0 (label 0 or diamond 4 variable 0), 5 nodes
+unfoldable pub tableR : List Node
+tableR = node 2 0 0 0 ∷ node 4 0 0 0 ∷ node 8 4 1 0 ∷ node 6 0 0 2 ∷ node 10 0 3 0 ∷ []
+
+-- name n
+unfoldable pub tableName : ℕ → List Node
+tableName n = node 3 n 0 0 ∷ []
+
+-- diamond 4 variable 0, under the loop of kind k, which is 10 for mu and 11 for nu
+unfoldable pub tableLoop : ℕ → List Node
+tableLoop k = node 4 0 0 0 ∷ node 8 4 0 0 ∷ node k 0 1 0 ∷ []
+
+unfoldable pub rows : List Row
+rows =
+    -- A lists R at {1, 2, 3}
+    row siteA [] tableR (lists (only (1 ∷ 2 ∷ 3 ∷ [])) 3 5)
+    -- J: after, and rewritten, {1}; 8 nodes
+    ∷ row siteA (DT2 4 1 ∷ []) tableR (lists (only (1 ∷ [])) 1 8)
+    -- DS 1: R {1}; 14 nodes. Name 1 goes to 0
+    ∷ row siteA (DS 1 ∷ []) tableR (lists (only (1 ∷ [])) 1 14)
+    ∷ row siteA (DS 1 ∷ []) (tableName 1) (lists (only (0 ∷ [])) 1 11)
+    -- CN1 1 2 then DT2 4 1: R {1, 2}; the other order {1}
+    ∷ row siteA (CN1 1 2 ∷ DT2 4 1 ∷ []) tableR (lists (only (1 ∷ 2 ∷ [])) 2 8)
+    ∷ row siteA (DT2 4 1 ∷ CN1 1 2 ∷ []) tableR (lists (only (1 ∷ [])) 1 8)
+    -- AS 3 4: condition "name 3" lists {4}. AS 3 3: refused, 13
+    ∷ row siteA (AS 3 4 ∷ []) (tableName 3) (lists (only (4 ∷ [])) 1 1)
+    ∷ row siteA (AS 3 3 ∷ []) (tableName 3) (stuckAt 0)
+    -- AT 4 1 2: refused, 13. AT 4 1 1: refused, 13
+    ∷ row siteA (AT 4 1 2 ∷ []) tableR (stuckAt 0)
+    ∷ row siteA (AT 4 1 1 ∷ []) tableR (stuckAt 0)
+    -- CN2 1 1 4: name 1 at 1. CN2 1 3 4: at 0
+    ∷ row siteA (CN2 1 1 4 ∷ []) (tableName 1) (lists (only (1 ∷ [])) 1 11)
+    ∷ row siteA (CN2 1 3 4 ∷ []) (tableName 1) (lists (only (0 ∷ [])) 1 11)
+    -- box 4 of not true: 254 slots
+    ∷ row siteA [] (node 0 0 0 0 ∷ node 5 0 0 0 ∷ node 9 4 1 0 ∷ []) (lists (allBut (2 ∷ 3 ∷ [])) 254 3)
+    -- with link 4 also 1 to 3: nu 0 (diamond 4 variable 0) {1, 2, 3}; mu, none
+    ∷ row ring [] (tableLoop 11) (lists (only (1 ∷ 2 ∷ 3 ∷ [])) 3 3)
+    ∷ row ring [] (tableLoop 10) (lists (only []) 0 3)
+    -- variable 0, not, mu 0: refused, 9, W 2. With two nots: empty
+    ∷ row siteA [] (node 4 0 0 0 ∷ node 5 0 0 0 ∷ node 10 0 1 0 ∷ []) (oddAt 2)
+    ∷ row siteA [] (node 4 0 0 0 ∷ node 5 0 0 0 ∷ node 5 0 1 0 ∷ node 10 0 2 0 ∷ []) (lists (only []) 0 4)
+    ∷ []

@@ -1,0 +1,56 @@
+-- A sheet as bytes, four to an edit: the operation, then the operands in the order of document 01, "The sheet", unused ones 0.
+use mathlib.Core.List.{List, [], _∷_, _++_}
+use Prim.Native.Nat.{ℕ, _+_, _*_}
+use lib.ListN.{getD}
+use Rattle.semantics.specs.Edit.{Edit, CN1, CN2, AP, DP, AT, DT1, DT2, AS, DS}
+use Rattle.sheet.specs.declared.Op.{Op}
+use Rattle.sheet.specs.declared.Op.the-variants.{Cn1, Cn2, Ap, Dp, At, Dt1, Dt2, As, Ds}
+
+-- the edit with the operation o, 0 to 8, and the operands x, y and z; an operation above 8 is refused by item 12 and read as 8 here
+unfoldable pub readEdit : ℕ → ℕ → ℕ → ℕ → Edit
+readEdit o x y z =
+    getD (CN1 x y ∷ CN2 x y z ∷ AP x y ∷ DP x y ∷ AT x y z ∷ DT1 x y z ∷ DT2 x y ∷ AS x y ∷ []) o (DS x)
+
+-- what f says of the four bytes of edit k of a sheet
+abbrev pub fourAt : {A : Type 0} → (ℕ → ℕ → ℕ → ℕ → A) → List ℕ → ℕ → A
+fourAt f s k = f (getD s (4 * k) 0) (getD s (4 * k + 1) 0) (getD s (4 * k + 2) 0) (getD s (4 * k + 3) 0)
+
+-- edit k of a sheet
+abbrev pub editAt : List ℕ → ℕ → Edit
+editAt s k = fourAt readEdit s k
+
+-- the edits of a sheet; fewer than four bytes at its end are refused by item 11 and left out here
+unfoldable pub editsOf : List ℕ → List Edit
+editsOf [] = []
+editsOf (o ∷ []) = []
+editsOf (o ∷ x ∷ []) = []
+editsOf (o ∷ x ∷ y ∷ []) = []
+editsOf (o ∷ x ∷ y ∷ z ∷ s) = readEdit o x y z ∷ editsOf s
+
+-- the bytes of an edit, and of a sheet
+unfoldable pub editBytes : Edit → List ℕ
+editBytes (CN1 n1 n2) = 0 ∷ n1 ∷ n2 ∷ 0 ∷ []
+editBytes (CN2 n1 n2 f) = 1 ∷ n1 ∷ n2 ∷ f ∷ []
+editBytes (AP n p) = 2 ∷ n ∷ p ∷ 0 ∷ []
+editBytes (DP n p) = 3 ∷ n ∷ p ∷ 0 ∷ []
+editBytes (AT m n1 n2) = 4 ∷ m ∷ n1 ∷ n2 ∷ []
+editBytes (DT1 m n1 n2) = 5 ∷ m ∷ n1 ∷ n2 ∷ []
+editBytes (DT2 f n) = 6 ∷ f ∷ n ∷ 0 ∷ []
+editBytes (AS n k) = 7 ∷ n ∷ k ∷ 0 ∷ []
+editBytes (DS n) = 8 ∷ n ∷ 0 ∷ 0 ∷ []
+
+unfoldable pub bytesOf : List Edit → List ℕ
+bytesOf [] = []
+bytesOf (e ∷ es) = editBytes e ++ bytesOf es
+
+-- the code's edits, case by case
+abbrev pub editOf : Op → Edit
+editOf (Cn1 n1 n2) = CN1 n1 n2
+editOf (Cn2 n1 n2 f) = CN2 n1 n2 f
+editOf (Ap n p) = AP n p
+editOf (Dp n p) = DP n p
+editOf (At m n1 n2) = AT m n1 n2
+editOf (Dt1 m n1 n2) = DT1 m n1 n2
+editOf (Dt2 f n) = DT2 f n
+editOf (As n k) = AS n k
+editOf (Ds n) = DS n

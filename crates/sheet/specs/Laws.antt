@@ -1,0 +1,4 @@
+-- What is proved of them.
+pub mod Read
+pub mod Fits
+pub mod Accepted

@@ -1,0 +1,111 @@
+-- A sheet is accepted just where its bytes are those of at most 64 legal edits.
+use mathlib.Core.Path.{_≡_, refl, sym, ap, _∙_}
+use mathlib.Core.Logic.{_↔_}
+use mathlib.Core.List.{List, [], _∷_}
+use mathlib.Core.Bool.{true, false, not}
+use Prim.Native.Nat.{ℕ, zero, suc, _*_, _/_, _%_, _≤_, _<_}
+use native.Mathlib.Omega.{arith}
+use lib.ListN.{length}
+use borrow.Author.Tests.{not-false}
+use lib.Seq.{drop-at}
+use Rattle.finite.specs.Tests.{same, below, any, first}
+use Rattle.finite.specs.Laws.Bools.{either, look, no-true, and-in, and-l, and-r, not-in, not-out}
+use Rattle.finite.specs.Laws.Below.{same-eq, eq-same, below-out, below-not, not-below, any-none, none-any, first-none}
+use Rattle.finite.specs.Laws.Search.{first-past}
+use Rattle.semantics.specs.Edit.{Edit, legal, sheetLegal}
+use Rattle.verdict.specs.Verdict.{reasonOf}
+use Rattle.verdict.specs.declared.Verdict.the-variants.{Accepted}
+use Rattle.sheet.specs.Bytes.{editAt, editsOf, editBytes, bytesOf}
+use Rattle.sheet.specs.Refusal.{editFits, fitsAt, faulty, sized, sheetVerdict}
+use Rattle.sheet.specs.Laws.Read.{four-next, edits-length, four-bytes, bytes-length}
+use Rattle.sheet.specs.Laws.Fits.{fits-legal, fits-bytes, bytes-fit}
+
+-- the bytes of at most 64 legal edits
+pub record Sheet (s : List ℕ) (es : List Edit) : Type 0 where
+  pub bytes : s ≡ bytesOf es
+  pub are-legal : sheetLegal es ≡ true
+  pub few : length es ≤ 64
+
+-- item 11 in numbers
+pub sized-out : (s : List ℕ) → sized s ≡ true → (length s % 4 ≡ 0) × (length s ≤ 256)
+unfolding sized
+sized-out s p =
+    (same-eq (and-l _ _ p), not-below 256 (length s) (no-true (not-out _ (and-r (same (length s % 4) 0) _ p))))
+
+pub sized-in : (s : List ℕ) → length s % 4 ≡ 0 → length s ≤ 256 → sized s ≡ true
+unfolding sized
+sized-in s e h = and-in (eq-same e) (not-in (λ p. let l = below-out 256 (length s) p in absurd (omega arith)))
+
+-- accepted: neither item is met
+verdict-out : (s : List ℕ) → sheetVerdict s ≡ Accepted → (sized s ≡ true) × (any (length s / 4) (faulty s) ≡ false)
+unfolding sheetVerdict
+verdict-out s p =
+    let n = length s / 4 in
+    let w = first n (faulty s) in
+    either
+    (look (sized s))
+    (λ e.
+    either
+    (look (below w n))
+    (λ b. let z : _≡_ {A = ℕ} 12 0 = ap reasonOf (rw (e, b) at p) in absurd (omega arith))
+    (λ b. (e, first-past n (faulty s) (not-below w n b))))
+    (λ e. let z : _≡_ {A = ℕ} 11 0 = ap reasonOf (rw e at p) in absurd (omega arith))
+
+verdict-in : (s : List ℕ) → sized s ≡ true → any (length s / 4) (faulty s) ≡ false → sheetVerdict s ≡ Accepted
+unfolding sheetVerdict
+verdict-in s e h =
+    let n = length s / 4 in
+    rw (e, first-none n (faulty s) h, below-not n n (omega arith))
+
+fits-each : (s : List ℕ) → any (length s / 4) (faulty s) ≡ false → (k : ℕ) → k < length s / 4 → fitsAt s k ≡ true
+unfolding faulty
+fits-each s p k h = not-false _ (any-none (length s / 4) (faulty s) p k h)
+
+-- by induction on the sheet
+each-bytes : (s : List ℕ) → length s % 4 ≡ 0 → ((k : ℕ) → k < length s / 4 → fitsAt s k ≡ true)
+    → (s ≡ bytesOf (editsOf s)) × (sheetLegal (editsOf s) ≡ true)
+unfolding editsOf bytesOf sheetLegal
+each-bytes [] e h = (refl, refl)
+each-bytes (o ∷ []) e h = absurd (omega arith)
+each-bytes (o ∷ x ∷ []) e h = absurd (omega arith)
+each-bytes (o ∷ x ∷ y ∷ []) e h = absurd (omega arith)
+each-bytes (o ∷ x ∷ y ∷ z ∷ s) e h =
+    let f : editFits o x y z ≡ true = h 0 (omega arith) in
+    let ih = each-bytes s (omega arith) (λ k l. sym (four-next editFits (o ∷ x ∷ y ∷ z ∷ s) k) ∙ h (suc k) (omega arith)) in
+    (rw (fits-bytes o x y z f) (ap (λ t. o ∷ x ∷ y ∷ z ∷ t) (ih .0)), and-in (fits-legal o x y z f) (ih .1))
+
+each-fits : (es : List Edit) → sheetLegal es ≡ true → (k : ℕ) → k < length es → fitsAt (bytesOf es) k ≡ true
+unfolding bytesOf sheetLegal
+each-fits [] p k h = absurd (omega arith)
+each-fits (e ∷ es) p zero h = bytes-fit e (bytesOf es) (and-l _ _ p)
+each-fits (e ∷ es) p (suc k) h =
+    four-next editFits (bytesOf (e ∷ es)) k
+    ∙ rw (drop-at (editBytes e) (bytesOf es) 4 (four-bytes e)) (each-fits es (and-r (legal e) _ p) k (omega arith))
+
+pub accepted-sheet : (s : List ℕ) → sheetVerdict s ≡ Accepted → Sheet s (editsOf s)
+accepted-sheet s p =
+    let v = verdict-out s p in
+    let l = sized-out s (v .0) in
+    let b = each-bytes s (l .0) (fits-each s (v .1)) in
+    record { bytes = b .0; are-legal = b .1; few = omega (arith, l .1, edits-length s) }
+
+pub sheet-accepted : (s : List ℕ) (es : List Edit) → Sheet s es → sheetVerdict s ≡ Accepted
+unfolding faulty
+sheet-accepted s es h =
+    let n : length s ≡ 4 * length es = ap length (h .bytes) ∙ bytes-length es in
+    let f : (k : ℕ) → k < length s / 4 → faulty s k ≡ false =
+    λ k l.
+    let g : fitsAt s k ≡ true = rw (h .bytes) (each-fits es (h .are-legal) k (omega arith)) in
+    ap not g
+    in
+    verdict-in s (sized-in s (omega arith) (omega (arith, h .few))) (none-any (length s / 4) (faulty s) f)
+
+-- the same as one statement, with the edits that the bytes are read as
+pub accepted-iff : (s : List ℕ) → (sheetVerdict s ≡ Accepted) ↔ Sheet s (editsOf s)
+accepted-iff s = (accepted-sheet s, sheet-accepted s (editsOf s))
+
+pub accepted-length : (s : List ℕ) → sheetVerdict s ≡ Accepted → length s ≡ 4 * length (editsOf s)
+accepted-length s p = ap length (accepted-sheet s p .bytes) ∙ bytes-length (editsOf s)
+
+pub accepted-at : (s : List ℕ) → sheetVerdict s ≡ Accepted → (k : ℕ) → k < length s / 4 → legal (editAt s k) ≡ true
+accepted-at s p k h = fits-legal _ _ _ _ (fits-each s (verdict-out s p .1) k h)

@@ -1,0 +1,90 @@
+-- An edit's four bytes fit just where they are the bytes of a legal edit.
+use mathlib.Core.Path.{_≡_, refl}
+use mathlib.Core.List.{List, [], _∷_, _++_}
+use mathlib.Core.Bool.{Bool, true, not, _&&_, and-true, and-assoc}
+use Prim.Native.Nat.{ℕ, zero, suc, _<_}
+use native.Mathlib.Omega.{arith}
+use lib.Dec.{leb, ltb}
+use borrow.Author.Tests.{le-leb, lt-leb}
+use Rattle.finite.specs.Tests.{same, below}
+use Rattle.finite.specs.Laws.Bools.{either, look, and-l, and-r}
+use Rattle.finite.specs.Laws.Below.{same-eq, below-in, below-out, not-below}
+use Rattle.semantics.specs.Edit.{Edit, CN1, CN2, AP, DP, AT, DT1, DT2, AS, DS, functional, legal}
+use Rattle.semantics.specs.Form.{slots, names, links}
+use Rattle.sheet.specs.Bytes.{readEdit, fourAt, editBytes}
+use Rattle.sheet.specs.Refusal.{operands, unusedZero, editFits}
+
+from-below : (m n : ℕ) → leb m n ≡ not (below n m)
+from-below m n =
+    either
+    (look (below n m))
+    (λ e. rw e (lt-leb m n (below-out n m e)))
+    (λ e. rw e (le-leb m n (not-below n m e)))
+
+pub functional-from : (f : ℕ) → (leb 4 f && ltb f 8) ≡ functional f
+unfolding functional below
+functional-from f = rw (from-below 4 f)
+
+-- unused operands 0: the bytes are those of the edit that is read
+unused-bytes : (o x y z : ℕ) → o < 9 → unusedZero o y z ≡ true → editBytes (readEdit o x y z) ≡ o ∷ x ∷ y ∷ z ∷ []
+unfolding unusedZero operands readEdit editBytes below
+unused-bytes zero x y z h p = rw (same-eq {m = z} {n = 0} p)
+unused-bytes (suc zero) x y z h p = refl
+unused-bytes (suc (suc zero)) x y z h p = rw (same-eq {m = z} {n = 0} p)
+unused-bytes (suc (suc (suc zero))) x y z h p = rw (same-eq {m = z} {n = 0} p)
+unused-bytes (suc (suc (suc (suc zero)))) x y z h p = refl
+unused-bytes (suc (suc (suc (suc (suc zero))))) x y z h p = refl
+unused-bytes (suc (suc (suc (suc (suc (suc zero)))))) x y z h p = rw (same-eq {m = z} {n = 0} p)
+unused-bytes (suc (suc (suc (suc (suc (suc (suc zero))))))) x y z h p = rw (same-eq {m = z} {n = 0} p)
+unused-bytes (suc (suc (suc (suc (suc (suc (suc (suc zero)))))))) x y z h p =
+    rw (same-eq {m = y} {n = 0} (and-l _ _ p), same-eq {m = z} {n = 0} (and-r (same y 0) _ p))
+unused-bytes (suc (suc (suc (suc (suc (suc (suc (suc (suc o))))))))) x y z h p = absurd (omega arith)
+
+pub fits-legal : (o x y z : ℕ) → editFits o x y z ≡ true → legal (readEdit o x y z) ≡ true
+unfolding editFits
+fits-legal o x y z p = and-l _ _ (and-r (below o 9) _ p)
+
+pub fits-bytes : (o x y z : ℕ) → editFits o x y z ≡ true → editBytes (readEdit o x y z) ≡ o ∷ x ∷ y ∷ z ∷ []
+unfolding editFits
+fits-bytes o x y z p =
+    unused-bytes o x y z (below-out o 9 (and-l _ _ p)) (and-r (legal (readEdit o x y z)) _ (and-r (below o 9) _ p))
+
+-- and a legal edit's bytes fit
+pub bytes-fit : (e : Edit) (s : List ℕ) → legal e ≡ true → fourAt editFits (editBytes e ++ s) 0 ≡ true
+unfolding editFits unusedZero operands readEdit editBytes below same
+bytes-fit (CN1 n1 n2) s p = rw p
+bytes-fit (CN2 n1 n2 f) s p = rw p
+bytes-fit (AP n q) s p = rw p
+bytes-fit (DP n q) s p = rw p
+bytes-fit (AT m n1 n2) s p = rw p
+bytes-fit (DT1 m n1 n2) s p = rw p
+bytes-fit (DT2 f n) s p = rw p
+bytes-fit (AS n k) s p = rw p
+bytes-fit (DS n) s p = rw p
+
+-- rows of the table whose tests the code makes in another order
+and-end : (a b c : Bool) → (a && b && c) ≡ (a && (b && c) && true)
+and-end a b c = simp (and-assoc, and-true)
+
+and-mid : (a k c : Bool) → k ≡ true → (a && c) ≡ (a && k && c)
+and-mid a k c e = rw (e, and-true)
+
+pub row-CN2 : (x y z : ℕ) → (below x names && not (same x 0) && below y names && functional z) ≡ editFits 1 x y z
+unfolding editFits unusedZero operands readEdit legal below
+row-CN2 x y z = and-end (below x names && not (same x 0)) (below y names) (functional z)
+
+pub row-AT : (x y z : ℕ) → (below x links && below y names && below z names) ≡ editFits 4 x y z
+unfolding editFits unusedZero operands readEdit legal below
+row-AT x y z = and-end (below x links) (below y names) (below z names)
+
+pub row-DT1 : (x y z : ℕ) → (below x links && below y names && below z names) ≡ editFits 5 x y z
+unfolding editFits unusedZero operands readEdit legal below
+row-DT1 x y z = and-end (below x links) (below y names) (below z names)
+
+pub row-AS : (x y z : ℕ) → y < slots → (below x names && not (same x 0) && same z 0) ≡ editFits 7 x y z
+unfolding editFits unusedZero operands readEdit legal below
+row-AS x y z h = and-mid (below x names && not (same x 0)) (below y slots) (same z 0) (below-in y slots h)
+
+pub row-DS : (x y z : ℕ) → (below x names && same y 0 && same z 0) ≡ editFits 8 x y z
+unfolding editFits unusedZero operands readEdit legal below
+row-DS x y z = and-assoc (below x names) (same y 0) (same z 0)
