@@ -1,15 +1,14 @@
 -- Laws of tests, by topic.
--- Booleans; numbers compared; any, all and the count below a bound; box as the dual of diamond; tests and what they say
+-- Booleans; numbers compared; any, all and the count below a bound; all as the dual of any; tests and what they say
 pub mod Bools
 pub mod Below
 pub mod Count
 pub mod Dual
 pub mod Reflect
--- loops over 0, 1, ..: tests that all pass, and the lowest that passes
+-- loops over 0, 1, ..: tests that all pass, and the lowest that passes; the last arm of a match on numbers
 pub mod Loops
 pub mod First
+pub mod Arms
 -- binary digits
 pub mod Bits
 pub mod Weights
-pub mod Search
-pub mod Arms

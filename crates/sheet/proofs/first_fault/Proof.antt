@@ -1,7 +1,6 @@
 -- The loop's invariant: no edit before k is at fault.
 use Rattle.sheet.specs.Refusal.{faulty}
-use Rattle.finite.specs.Laws.Search.{none-start, none-more, first-stop}
-use Rattle.finite.specs.Laws.Below.{first-is}
+use Rattle.finite.specs.Laws.First.{none-start, none-more, first-stop, first-is}
 use Rattle.finite.specs.Tests.{any}
 use lib.ListN.{length}
 use native.Mathlib.Omega.{arith}

@@ -10,8 +10,8 @@ use borrow.Author.Tests.{not-false}
 use lib.Seq.{drop-at}
 use Rattle.finite.specs.Tests.{same, below, any, first}
 use Rattle.finite.specs.Laws.Bools.{either, look, no-true, and-in, and-l, and-r, not-in, not-out}
-use Rattle.finite.specs.Laws.Below.{same-eq, eq-same, below-out, below-not, not-below, any-none, none-any, first-none}
-use Rattle.finite.specs.Laws.Search.{first-past}
+use Rattle.finite.specs.Laws.Below.{same-eq, eq-same, below-out, below-not, not-below, any-none, none-any}
+use Rattle.finite.specs.Laws.First.{first-none, first-past}
 use Rattle.semantics.specs.Edit.{Edit, legal, sheetLegal}
 use Rattle.verdict.specs.Verdict.{reasonOf}
 use Rattle.verdict.specs.declared.Verdict.the-variants.{Accepted}
