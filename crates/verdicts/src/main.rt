@@ -48,7 +48,7 @@ fn judge(kind: u8, piece: &[u8]) -> Verdict {
     }
     if kind == CONDITION {
         let mut free = [0u16; 2048];
-        return condition::check(piece, &mut free);
+        return even_rule::check(piece, &mut free);
     }
     sheet::check(piece)
 }
