@@ -3,9 +3,8 @@ use mathlib.Core.Path.{sym}
 use mathlib.Core.Bool.{not, _||_}
 use Prim.Native.Nat.{_-_}
 use native.Mathlib.Omega.{arith}
-use lib.Bits.{and-lt}
 use Rattle.bitset.specs.Set.{setBytes, has}
-use Rattle.bitset.specs.Laws.Test.{Tested, test-none, test-more, test-fails, test-done, inside-byte}
+use Rattle.bitset.specs.Laws.Test.{Tested, test-none, test-done, subset-more, subset-fails}
 use Rattle.bitset.proofs.subset.Statement.{statement}
 use Rattle.bitset.proofs.subset.Tie as tie
 
@@ -25,7 +24,7 @@ shared-slice-read-if1-2 : tie.Need-shared-slice-read-if1-2 Inv-loop μ-loop
 shared-slice-read-if1-2 c = omega arith
 
 returns : tie.Need-returns Inv-loop μ-loop
-returns c = sym (test-fails _ _ _ (omega arith) (and-lt 8 _ _ (c .before .before .shared-slice-known .given (c .before .before .before .before .loop .i) .fits) (omega arith)) (inside-byte (c .before .before .before .before .before .args .a .now) (c .before .before .before .before .before .args .b .now) _ (c .before .shared-slice-known2 .given (c .before .before .before .before .loop .i) .fits)) (c .if1 .taken))
+returns c = sym (subset-fails _ _ (c .before .before .before .before .loop .i) (omega arith) (c .before .before .shared-slice-known .given _ .fits) (c .before .shared-slice-known2 .given _ .fits) (c .if1 .taken))
 
 add-i : tie.Need-add-i Inv-loop μ-loop
 add-i c = omega arith
@@ -34,7 +33,7 @@ loop-less : tie.Need-loop-less Inv-loop μ-loop
 loop-less c = omega arith
 
 loop-again : tie.Need-loop-again Inv-loop μ-loop
-loop-again c = test-more _ _ _ (omega arith) (and-lt 8 _ _ (c .before .before .shared-slice-known .given (c .before .before .before .before .loop .i) .fits) (omega arith)) (inside-byte (c .before .before .before .before .before .args .a .now) (c .before .before .before .before .before .args .b .now) _ (c .before .shared-slice-known2 .given (c .before .before .before .before .loop .i) .fits)) (c .before .before .before .before .loop .inv) (c .if1 .left)
+loop-again c = subset-more _ _ (c .before .before .before .before .loop .i) (omega arith) (c .before .before .shared-slice-known .given _ .fits) (c .before .shared-slice-known2 .given _ .fits) (c .before .before .before .before .loop .inv) (c .if1 .left)
 
 returns-2 : tie.Need-returns-2 Inv-loop μ-loop
 returns-2 c = sym (test-done _ _ (c .before .loop .inv) (omega arith))

@@ -1,18 +1,19 @@
 -- Loops that go up over the bytes of two sets and test eight slots at a time.
-use mathlib.Core.Path.{_≡_, refl, sym, _∙_}
+use mathlib.Core.Path.{_≡_, refl, sym, _∙_, ap}
 use mathlib.Core.Bool.{Bool, true, false, not, _&&_, _||_, Bool·beq, and-false}
 use mathlib.Core.List.{List}
 use Prim.Native.Nat.{ℕ, _+_, _-_, _*_, _≤_, _<_}
 use native.Mathlib.Omega.{arith}
 use lib.Dec.{eqb}
 use lib.ListN.{getD}
-use lib.Bits.{bitAnd}
+use lib.Bits.{bitAnd, and-lt}
 use borrow.Author.Tests.{ne-eqb}
-use Rattle.finite.specs.Tests.{bit, all}
+use Rattle.finite.specs.Tests.{bit, any, all}
 use Rattle.finite.specs.Laws.Bits.{beq-eq, all-below, bit-and, bit-not}
 use Rattle.finite.specs.Laws.Below.{all-cong}
-use Rattle.finite.specs.Laws.Loops.{all-add}
 use Rattle.finite.specs.Laws.Bools.{imp-and}
+use Rattle.finite.specs.Laws.Dual.{any-all}
+use Rattle.finite.specs.Laws.Loops.{all-add}
 use Rattle.bitset.specs.Set.{setBytes, setSlots, has}
 use Rattle.bitset.specs.Laws.Bytes.{has-byte}
 
@@ -55,13 +56,29 @@ module _ (p : ℕ → Bool) where
   pub test-done : (i : ℕ) → Tested p i → setBytes ≤ i → all setSlots p ≡ true
   test-done i t h = rw (let e : setSlots ≡ i * 8 = omega arith in e) (t .passed)
 
--- a slot of a that is not in b; a slot of both
-pub inside-byte : (A B : List ℕ) (i : ℕ) → getD B i 0 < 256 → (k : ℕ) → k < 8
-    → (not (has A (i * 8 + k)) || has B (i * 8 + k)) ≡ not (bit (bitAnd (getD A i 0) (255 - getD B i 0)) k)
-inside-byte A B i h k hk =
-    rw (has-byte A i k hk, has-byte B i k hk, bit-and (getD A i 0) (255 - getD B i 0) k, bit-not 8 (getD B i 0) k h hk)
-    (imp-and (bit (getD A i 0) k) (bit (getD B i 0) k))
+module _ (A B : List ℕ) (i : ℕ) (hi : i < setBytes) (ha : getD A i 0 < 256) (hb : getD B i 0 < 256) where
+  -- is every slot of A in B? A bit of v = a & !b says no
+  inside-byte : (k : ℕ) → k < 8 → (not (has A (i * 8 + k)) || has B (i * 8 + k)) ≡ not (bit (bitAnd (getD A i 0) (255 - getD B i 0)) k)
+  inside-byte k hk =
+      rw (has-byte A i k hk, has-byte B i k hk, bit-and (getD A i 0) (255 - getD B i 0) k, bit-not 8 (getD B i 0) k hb hk)
+      (imp-and (bit (getD A i 0) k) (bit (getD B i 0) k))
 
-pub meet-byte : (A B : List ℕ) (i k : ℕ) → k < 8
-    → not (has A (i * 8 + k) && has B (i * 8 + k)) ≡ not (bit (bitAnd (getD A i 0) (getD B i 0)) k)
-meet-byte A B i k hk = rw (has-byte A i k hk, has-byte B i k hk, bit-and (getD A i 0) (getD B i 0) k)
+  pub subset-more : Tested (λ s. not (has A s) || has B s) i → bitAnd (getD A i 0) (255 - getD B i 0) ≡ 0
+      → Tested (λ s. not (has A s) || has B s) (i + 1)
+  subset-more = test-more (λ s. not (has A s) || has B s) i _ hi (and-lt 8 _ _ ha (omega arith)) inside-byte
+
+  pub subset-fails : (bitAnd (getD A i 0) (255 - getD B i 0) ≡ 0 → ⊥) → all setSlots (λ s. not (has A s) || has B s) ≡ false
+  subset-fails = test-fails (λ s. not (has A s) || has B s) i _ hi (and-lt 8 _ _ ha (omega arith)) inside-byte
+
+  -- is some slot in both? A bit of v = a & b says yes
+  meet-byte : (k : ℕ) → k < 8 → not (has A (i * 8 + k) && has B (i * 8 + k)) ≡ not (bit (bitAnd (getD A i 0) (getD B i 0)) k)
+  meet-byte k hk = rw (has-byte A i k hk, has-byte B i k hk, bit-and (getD A i 0) (getD B i 0) k)
+
+  pub meets-more : Tested (λ s. not (has A s && has B s)) i → bitAnd (getD A i 0) (getD B i 0) ≡ 0 → Tested (λ s. not (has A s && has B s)) (i + 1)
+  meets-more = test-more (λ s. not (has A s && has B s)) i _ hi (and-lt 8 _ _ ha hb) meet-byte
+
+  pub meets-found : (bitAnd (getD A i 0) (getD B i 0) ≡ 0 → ⊥) → any setSlots (λ s. has A s && has B s) ≡ true
+  meets-found ne = any-all setSlots (λ s. has A s && has B s) ∙ ap not (test-fails (λ s. not (has A s && has B s)) i _ hi (and-lt 8 _ _ ha hb) meet-byte ne)
+
+pub meets-none : (A B : List ℕ) (i : ℕ) → Tested (λ s. not (has A s && has B s)) i → setBytes ≤ i → any setSlots (λ s. has A s && has B s) ≡ false
+meets-none A B i t h = any-all setSlots (λ s. has A s && has B s) ∙ ap not (test-done (λ s. not (has A s && has B s)) i t h)

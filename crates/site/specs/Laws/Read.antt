@@ -1,12 +1,12 @@
 -- The site's model, read off the bytes in range, and what is in range.
-use mathlib.Core.Path.{_≡_, _∙_, ap}
-use mathlib.Core.Bool.{Bool, true, false, not, _&&_}
+use mathlib.Core.Path.{_≡_, _∙_}
+use mathlib.Core.Bool.{true, not, _&&_}
 use mathlib.Core.List.{List}
 use Prim.Native.Nat.{ℕ, _+_, _*_, _^_, _≤_, _<_}
 use native.Mathlib.Omega.{arith}
 use lib.ListN.{getD}
 use Rattle.finite.specs.Tests.{same, below}
-use Rattle.finite.specs.Laws.Bools.{either, look, and-l, and-r}
+use Rattle.finite.specs.Laws.Bools.{either, look, no-true, and-l, and-r, not-out}
 use Rattle.finite.specs.Laws.Below.{below-in, below-out, below-not, not-below}
 use Rattle.bitset.specs.Set.{has}
 use Rattle.semantics.specs.Form.{slots, labels, names, links}
@@ -25,13 +25,9 @@ functional-in f h k = rw (below-not f 4 h, below-in f links k)
 pub functional-out : (f : ℕ) → functional f ≡ true → (generalLinks ≤ f) × (f < links)
 unfolding functional
 functional-out f p = (
-  either (look (below f 4)) (λ q. absurd (false-true (ap (λ (b : Bool). not b && below f links) q) p)) (not-below f 4),
+  not-below f 4 (no-true (not-out (below f 4) (and-l (not (below f 4)) (below f links) p))),
   below-out f links (and-r (not (below f 4)) (below f links) p),
 )
-  where
-    false-true : {b : Bool} → b ≡ false → b ≡ true → ⊥
-    false-true {b = true} q p = let z : _≡_ {A = ℕ} 0 1 = cc in omega arith
-    false-true {b = false} q p = let z : _≡_ {A = ℕ} 0 1 = cc in omega arith
 
 module _ (S : List ℕ) where
   pub present-is : (s : ℕ) → s < slots → siteOf S .present s ≡ has S s
