@@ -1,10 +1,10 @@
--- `condition::params` meets its contract.
+-- `condition::param_limit` meets its contract.
 use Rattle.condition.specs.Laws.Limits.{number-limit}
 use borrow.Author.Tests.{lt-ltb, le-ltb}
 use native.Mathlib.Omega.{arith}
 use mathlib.Core.Path.{refl}
-use Rattle.condition.proofs.params.Statement.{statement}
-use Rattle.condition.proofs.params.Tie as tie
+use Rattle.condition.proofs.param_limit.Statement.{statement}
+use Rattle.condition.proofs.param_limit.Tie as tie
 
 returns : tie.Need-returns
 returns c = let a = c .before .args in rw (number-limit (a .k), lt-ltb (a .k) 2 (omega arith)) refl
@@ -24,5 +24,5 @@ returns-5 c = let a = c .before .before .before .before .before .args in rw (num
 returns-6 : tie.Need-returns-6
 returns-6 c = let a = c .before .before .before .before .before .args in rw (number-limit (a .k), le-ltb (a .k) 2 (omega arith), le-ltb (a .k) 5 (omega arith), le-ltb (a .k) 8 (omega arith), le-ltb (a .k) 10 (omega arith), le-ltb (a .k) 12 (omega arith)) refl
 
-pub params-spec : {M : Type 1} → statement M
-params-spec = tie.close (tie.spec returns returns-2 returns-3 returns-4 returns-5 returns-6)
+pub param-limit-spec : {M : Type 1} → statement M
+param-limit-spec = tie.close (tie.spec returns returns-2 returns-3 returns-4 returns-5 returns-6)
