@@ -21,7 +21,7 @@ abbrev μ-loop : tie.MeasureT-loop
 μ-loop table n i₀ i = n - i
 
 loop-holds : tie.Need-loop-holds Inv-loop μ-loop
-loop-holds c = (omega arith, sym (length-table (c .before .args .table .now)), none-start _)
+loop-holds c = (omega arith, omega (arith, length-table (c .before .args .table .now)), none-start _)
 
 node-fits-requires : tie.Need-node-fits-requires Inv-loop μ-loop
 node-fits-requires c κs = omega (arith, length-table (c .before .before .before .args .table .now))

@@ -1,3 +1,5 @@
+use native.Mathlib.Omega.{arith}
+use Prim.Native.Nat.{_≤_, _<_}
 -- `condition::node_fits` meets its contract.
 use Rattle.condition.specs.Laws.Limits.{unfit-kind, unfit-param, unfit-left, fits-right}
 use Rattle.condition.specs.Bytes.{nodeAt}
@@ -39,8 +41,9 @@ returns-3 : tie.Need-returns-3
 returns-3 c =
     let a = c .before .before .before .before .before .before .before .before .before .before .args in
     let p = c .before .before .before .before .wide .ensures .0 ∙ c .before .before .before .before .before .param .ensures in
+    let g : c .before .before .child-limit .result ≤ c .before .left .result = omega arith in
     sym (unfit-left (a .i) _ (nodeAt (a .table .now) (a .i)) (c .before .before .before .before .before .before .before .before .kind .ensures) (c .before .before .before .before .before .before .before .if1 .left) _ _ p (c .before .before .before .before .before .before .param-limit .ensures) (c .before .before .before .if2 .left)
-    _ _ (c .before .left .ensures .0) (c .before .before .child-limit .ensures) (c .if3 .taken))
+    _ _ (c .before .left .ensures .0) (c .before .before .child-limit .ensures) g)
 
 right-requires : tie.Need-right-requires
 right-requires c κs = search needs
@@ -52,8 +55,9 @@ returns-4 : tie.Need-returns-4
 returns-4 c =
     let a = c .before .before .before .before .before .before .before .before .before .before .before .before .args in
     let p = c .before .before .before .before .before .before .wide .ensures .0 ∙ c .before .before .before .before .before .before .before .param .ensures in
+    let g : c .before .before .before .left .result < c .before .before .before .before .child-limit .result = omega arith in
     fits-right (a .i) _ (nodeAt (a .table .now) (a .i)) (c .before .before .before .before .before .before .before .before .before .before .kind .ensures) (c .before .before .before .before .before .before .before .before .before .if1 .left) _ _ p (c .before .before .before .before .before .before .before .before .param-limit .ensures) (c .before .before .before .before .before .if2 .left)
-    _ _ (c .before .before .before .left .ensures .0) (c .before .before .before .before .child-limit .ensures) _ _ (c .before .right .ensures .0) (c .child-limit2 .ensures) (c .before .before .if3 .left)
+    _ _ (c .before .before .before .left .ensures .0) (c .before .before .before .before .child-limit .ensures) _ _ (c .before .right .ensures .0) (c .child-limit2 .ensures) g
 
 pub node-fits-spec : {M : Type 1} → statement M
 node-fits-spec =
