@@ -2,5 +2,9 @@
 pub mod Bools
 pub mod Below
 pub mod Bits
+pub mod Count
 pub mod First
+pub mod Dual
+pub mod Reflect
+pub mod Search
 pub mod Weights

@@ -1,3 +1,22 @@
 -- The theorems, by topic.
--- tables: the tree of a node from its children's trees
+-- tables: ways and kinds by their numbers, the tree of a node from its children's trees, blocks written as nodes
+pub mod Ways
 pub mod TreeAt
+pub mod Emit
+-- one condition on one site: growth in its variables, fixed points by iteration, the set computed
+pub mod Monotone
+pub mod FixedPoint
+pub mod Eval
+-- edits
+pub mod Edits
+-- rewriting
+pub mod Steps
+pub mod Image
+pub mod Rewrite
+-- classes
+pub mod Invariance
+pub mod Refine
+pub mod Describe
+pub mod Classes
+-- the demands, for models and tables
+pub mod Demands

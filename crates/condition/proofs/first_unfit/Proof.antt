@@ -3,7 +3,7 @@ use Rattle.condition.specs.Laws.Bytes.{length-table}
 use Rattle.condition.specs.Refusal.{firstUnfit}
 use Rattle.condition.specs.Bytes.{nodeAt, tableOf}
 use Rattle.semantics.specs.Table.{nodeFits}
-use Rattle.finite.specs.Laws.First.{none-start, none-more, first-stop}
+use Rattle.finite.specs.Laws.Search.{none-start, none-more, first-stop}
 use Rattle.finite.specs.Laws.Below.{first-is}
 use Rattle.finite.specs.Tests.{any}
 use native.Mathlib.Omega.{arith}

@@ -4,7 +4,7 @@ use Rattle.condition.specs.Refusal.{firstUneven}
 use Rattle.condition.specs.Bytes.{tableOf}
 use Rattle.semantics.specs.Table.{treeAt}
 use Rattle.semantics.specs.Form.{even}
-use Rattle.finite.specs.Laws.First.{none-start, none-more, first-stop}
+use Rattle.finite.specs.Laws.Search.{none-start, none-more, first-stop}
 use Rattle.finite.specs.Laws.Below.{first-is}
 use Rattle.finite.specs.Tests.{any}
 use native.Mathlib.Omega.{arith}

@@ -10,7 +10,7 @@ use Rattle.finite.specs.Tests.{same, below}
 use Rattle.finite.specs.Laws.Bools.{and-l, and-r}
 use Rattle.finite.specs.Laws.Below.{below-out}
 use Rattle.semantics.specs.Form.{Form, top}
-use Rattle.semantics.specs.Table.{Kind, leaf, unary, binary, kindOf, Node, one, two, build, tree, trees, treeAt, leafFits, unaryFits, kindFits, nodeFits, nodesFit}
+use Rattle.semantics.specs.Table.{Kind, leaf, unary, binary, kindOf, Node, one, two, build, tree, trees, treeAt, unaryFits, kindFits, nodeFits, nodesFit}
 
 -- a list with one more at its end
 pub length-snoc {ℓ} : {A : Type ℓ} (xs : List A) (x : A) → length (xs ++ (x ∷ [])) ≡ suc (length xs)
@@ -115,3 +115,34 @@ pub tree-at : (xs : List Node) (d : Node) → nodesFit 0 xs ≡ true → (i : �
     ≡ build (kindOf (getD xs i d .kind)) (getD xs i d .param) (treeAt xs (getD xs i d .left)) (treeAt xs (getD xs i d .right))
 unfolding tree treeAt
 tree-at xs d f i h = ap (λ (j : ℕ). getD (trees [] xs) j top) (omega arith) ∙ tree-from xs [] d f i h
+
+-- a node to read where there is none
+abbrev pub blank : Node
+blank = record { kind = 0; param = 0; left = 0; right = 0 }
+
+-- induction on node numbers: what passes from the children's trees to each node's tree holds of all trees of a table
+module _ (P : Form → Type 0) where
+  unfoldable pub Parts : Kind → Form → Form → Type 0
+  Parts (leaf k) φ ψ = Unit {0}
+  Parts (unary k) φ ψ = P φ
+  Parts (binary k) φ ψ = P φ × P ψ
+
+  module _ (xs : List Node) (fits : nodesFit 0 xs ≡ true)
+      (passes : (i : ℕ) (x : Node) (k : Kind) (φ ψ : Form) → i < length xs → getD xs i blank ≡ x → kindOf (x .kind) ≡ k
+      → kindFits i x k ≡ true → treeAt xs i ≡ build k (x .param) φ ψ → Parts k φ ψ → P (build k (x .param) φ ψ)) where
+    parts : (n : ℕ) (x : Node) (k : Kind) → Lower n x k → ((j : ℕ) → j < n → P (treeAt xs j))
+        → Parts k (treeAt xs (x .left)) (treeAt xs (x .right))
+    unfolding Parts Lower
+    parts n x (leaf k) l h = tt
+    parts n x (unary k) l h = h _ l
+    parts n x (binary k) l h = (h _ (l .0), h _ (l .1))
+
+    trees-to : (n i : ℕ) → i < n → i < length xs → P (treeAt xs i)
+    trees-to zero i h k = absurd (omega arith)
+    trees-to (suc n) i h k =
+        let at = tree-at xs blank fits i k in
+        let fit = node-kind i (getD xs i blank) (fits-at xs blank fits i k) in
+        rw at (passes i _ _ _ _ k refl refl fit at (parts i _ _ (fits-lower i _ _ fit) (λ j l. trees-to n j (omega arith) (omega arith))))
+
+    pub tree-ind : (i : ℕ) → i < length xs → P (treeAt xs i)
+    tree-ind i h = trees-to (suc i) i (omega arith) h
