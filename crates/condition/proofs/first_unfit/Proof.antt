@@ -28,7 +28,9 @@ node-fits-requires c κs = omega (arith, length-table (c .before .before .before
 
 returns : tie.Need-returns Inv-loop μ-loop
 unfolding firstUnfit
-returns c = let l = c .before .before .before .loop in sym (first-is _ _ (l .i) (omega arith) (l .inv .2) (ap not (sym (c .before .node-fits .ensures)) ∙ c .if1 .taken))
+returns c =
+    let l = c .before .before .before .loop in
+    sym (first-is _ _ (l .i) (omega arith) (l .inv .2) (ap not (sym (c .before .node-fits .ensures)) ∙ c .if1 .taken))
 
 add-i : tie.Need-add-i Inv-loop μ-loop
 add-i c = omega arith
@@ -37,7 +39,9 @@ loop-less : tie.Need-loop-less Inv-loop μ-loop
 loop-less c = omega arith
 
 loop-again : tie.Need-loop-again Inv-loop μ-loop
-loop-again c = let l = c .before .before .before .loop in (omega arith, l .inv .1, none-more _ (l .i) (l .inv .2) (ap not (sym (c .before .node-fits .ensures)) ∙ c .if1 .left))
+loop-again c =
+    let l = c .before .before .before .loop in
+    (omega arith, l .inv .1, none-more _ (l .i) (l .inv .2) (ap not (sym (c .before .node-fits .ensures)) ∙ c .if1 .left))
 
 returns-2 : tie.Need-returns-2 Inv-loop μ-loop
 unfolding firstUnfit
