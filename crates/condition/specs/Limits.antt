@@ -1,5 +1,7 @@
 -- Item 8 as bounds on a node's fields: a field that a kind does not use has the one value 0.
+use mathlib.Core.Bool.{cond}
 use Prim.Native.Nat.{ℕ}
+use lib.Dec.{ltb}
 use Rattle.semantics.specs.Form.{labels, names, variables}
 use Rattle.semantics.specs.Table.{kTrue, kHere, kLabel, kName, kVar, kSlot, kNot, kDia, kBox, kMu, kNu, Kind, leaf, unary, binary}
 
@@ -18,13 +20,6 @@ paramLimit (unary kMu) = variables
 paramLimit (unary kNu) = variables
 paramLimit (binary k) = 1
 
--- and the left and right fields of node i are below these
-unfoldable pub leftLimit : Kind → ℕ → ℕ
-leftLimit (leaf k) i = 1
-leftLimit (unary k) i = i
-leftLimit (binary k) i = i
-
-unfoldable pub rightLimit : Kind → ℕ → ℕ
-rightLimit (leaf k) i = 1
-rightLimit (unary k) i = 1
-rightLimit (binary k) i = i
+-- and a field that is a child of node i for the kinds from lo to below hi, and not used by the others, is below this
+abbrev pub childLimit : ℕ → ℕ → ℕ → ℕ → ℕ
+childLimit lo hi k i = cond (ltb k lo) 1 (cond (ltb k hi) i 1)

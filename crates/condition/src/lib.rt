@@ -5,7 +5,7 @@ ghost use Prim.Native.Nat.{_+_, _*_, _≤_, _<_};
 ghost use lib.ListN.{length};
 ghost use Rattle.semantics.specs.Table.{kindOf, nodeFits, nodesFit};
 ghost use Rattle.condition.specs.Bytes.{wordAt, nodeAt, tableOf};
-ghost use Rattle.condition.specs.Limits.{paramLimit, leftLimit, rightLimit};
+ghost use Rattle.condition.specs.Limits.{paramLimit, childLimit};
 ghost use Rattle.condition.specs.Refusal.{sizeFits, firstUnfit};
 
 // Item 7 is not met by a table of n bytes.
@@ -94,8 +94,8 @@ pub fn right_child(table: &[u8], i: usize) -> usize
     right(table, i)
 }
 
-// The bounds of item 8 by kind. A field that is not used has the one value 0.
-fn params(k: u8) -> usize
+// The bounds of item 8 by kind. A field that is not used is below 1.
+fn param_limit(k: u8) -> usize
     ensures { λ r. ⌜ r ≡ paramLimit (kindOf k) ⌝ }
 {
     if k < 2 {
@@ -116,25 +116,13 @@ fn params(k: u8) -> usize
     256
 }
 
-fn lefts(k: u8, i: usize) -> usize
-    ensures { λ r. ⌜ r ≡ leftLimit (kindOf k) i ⌝ }
+fn child_limit(k: u8, lo: u8, hi: u8, i: usize) -> usize
+    ensures { λ r. ⌜ r ≡ childLimit lo hi k i ⌝ }
 {
-    if k < 5 {
+    if k < lo {
         return 1;
     }
-    if k < 12 {
-        return i;
-    }
-    1
-}
-
-fn rights(k: u8, i: usize) -> usize
-    ensures { λ r. ⌜ r ≡ rightLimit (kindOf k) i ⌝ }
-{
-    if k < 6 {
-        return 1;
-    }
-    if k < 8 {
+    if k < hi {
         return i;
     }
     1
@@ -149,13 +137,13 @@ pub fn node_fits(table: &[u8], i: usize) -> bool
     if 13 <= k {
         return false;
     }
-    if wide(param(table, i)) >= params(k) {
+    if param_limit(k) <= wide(param(table, i)) {
         return false;
     }
-    if left(table, i) >= lefts(k, i) {
+    if child_limit(k, 5, 12, i) <= left(table, i) {
         return false;
     }
-    right(table, i) < rights(k, i)
+    right(table, i) < child_limit(k, 6, 8, i)
 }
 
 // The lowest node that meets item 8, and the number of nodes where none does.

@@ -20,14 +20,16 @@ abbrev μ-loop : tie.MeasureT-loop
 μ-loop table n i₀ i = n - i
 
 loop-holds : tie.Need-loop-holds Inv-loop μ-loop
-loop-holds c = (omega arith, sym (length-table (c .before .args .table .now)), none-start _)
+loop-holds c = (omega arith, omega (arith, length-table (c .before .args .table .now)), none-start _)
 
 node-fits-requires : tie.Need-node-fits-requires Inv-loop μ-loop
 node-fits-requires c κs = omega (arith, length-table (c .before .before .before .args .table .now))
 
 returns : tie.Need-returns Inv-loop μ-loop
 unfolding firstUnfit
-returns c = let l = c .before .before .before .loop in sym (first-is _ _ (l .i) (omega arith) (l .inv .2) (ap not (sym (c .before .node-fits .ensures)) ∙ c .if1 .taken))
+returns c =
+    let l = c .before .before .before .loop in
+    sym (first-is _ _ (l .i) (omega arith) (l .inv .2) (ap not (sym (c .before .node-fits .ensures)) ∙ c .if1 .taken))
 
 add-i : tie.Need-add-i Inv-loop μ-loop
 add-i c = omega arith
@@ -36,7 +38,9 @@ loop-less : tie.Need-loop-less Inv-loop μ-loop
 loop-less c = omega arith
 
 loop-again : tie.Need-loop-again Inv-loop μ-loop
-loop-again c = let l = c .before .before .before .loop in (omega arith, l .inv .1, none-more _ (l .i) (l .inv .2) (ap not (sym (c .before .node-fits .ensures)) ∙ c .if1 .left))
+loop-again c =
+    let l = c .before .before .before .loop in
+    (omega arith, l .inv .1, none-more _ (l .i) (l .inv .2) (ap not (sym (c .before .node-fits .ensures)) ∙ c .if1 .left))
 
 returns-2 : tie.Need-returns-2 Inv-loop μ-loop
 unfolding firstUnfit

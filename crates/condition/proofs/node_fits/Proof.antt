@@ -1,3 +1,5 @@
+use native.Mathlib.Omega.{arith}
+use Prim.Native.Nat.{_≤_, _<_}
 -- `condition::node_fits` meets its contract.
 use Rattle.condition.specs.Laws.Limits.{unfit-kind, unfit-param, unfit-left, fits-right}
 use Rattle.condition.specs.Bytes.{nodeAt}
@@ -10,7 +12,12 @@ kind-requires : tie.Need-kind-requires
 kind-requires c κs = search needs
 
 returns : tie.Need-returns
-returns c = let a = c .before .before .before .args in sym (unfit-kind (a .i) _ (nodeAt (a .table .now) (a .i)) (c .before .kind .ensures) (c .if1 .taken))
+returns c =
+    let a = c .before .before .before .args in
+    sym (unfit-kind (a .i) _ (nodeAt (a .table .now) (a .i)) (c .before .kind .ensures) (c .if1 .taken))
+
+param-limit-requires : tie.Need-param-limit-requires
+param-limit-requires c κs = search needs
 
 param-requires : tie.Need-param-requires
 param-requires c κs = search needs
@@ -18,29 +25,39 @@ param-requires c κs = search needs
 wide-requires : tie.Need-wide-requires
 wide-requires c κs = search needs
 
-params-requires : tie.Need-params-requires
-params-requires c κs = search needs
-
 returns-2 : tie.Need-returns-2
-returns-2 c = let a = c .before .before .before .before .before .before .before .args in sym (unfit-param (a .i) _ (nodeAt (a .table .now) (a .i)) (c .before .before .before .before .before .kind .ensures) (c .before .before .before .before .if1 .left) _ _ (c .before .before .wide .ensures .0 ∙ c .before .before .before .param .ensures) (c .before .params .ensures) (c .if2 .taken))
+returns-2 c =
+    let a = c .before .before .before .before .before .before .before .args in
+    let p = c .before .wide .ensures .0 ∙ c .before .before .param .ensures in
+    sym (unfit-param (a .i) _ (nodeAt (a .table .now) (a .i)) (c .before .before .before .before .before .kind .ensures) (c .before .before .before .before .if1 .left) _ _ p (c .before .before .before .param-limit .ensures) (c .if2 .taken))
+
+child-limit-requires : tie.Need-child-limit-requires
+child-limit-requires c κs = search needs
 
 left-requires : tie.Need-left-requires
 left-requires c κs = search needs
 
-lefts-requires : tie.Need-lefts-requires
-lefts-requires c κs = search needs
-
 returns-3 : tie.Need-returns-3
-returns-3 c = let a = c .before .before .before .before .before .before .before .before .before .before .args in sym (unfit-left (a .i) _ (nodeAt (a .table .now) (a .i)) (c .before .before .before .before .before .before .before .before .kind .ensures) (c .before .before .before .before .before .before .before .if1 .left) _ _ (c .before .before .before .before .before .wide .ensures .0 ∙ c .before .before .before .before .before .before .param .ensures) (c .before .before .before .before .params .ensures) (c .before .before .before .if2 .left) _ _ (c .before .before .left .ensures .0) (c .before .lefts .ensures) (c .if3 .taken))
+returns-3 c =
+    let a = c .before .before .before .before .before .before .before .before .before .before .args in
+    let p = c .before .before .before .before .wide .ensures .0 ∙ c .before .before .before .before .before .param .ensures in
+    let g : c .before .before .child-limit .result ≤ c .before .left .result = omega arith in
+    sym (unfit-left (a .i) _ (nodeAt (a .table .now) (a .i)) (c .before .before .before .before .before .before .before .before .kind .ensures) (c .before .before .before .before .before .before .before .if1 .left) _ _ p (c .before .before .before .before .before .before .param-limit .ensures) (c .before .before .before .if2 .left)
+    _ _ (c .before .left .ensures .0) (c .before .before .child-limit .ensures) g)
 
 right-requires : tie.Need-right-requires
 right-requires c κs = search needs
 
-rights-requires : tie.Need-rights-requires
-rights-requires c κs = search needs
+child-limit-requires-2 : tie.Need-child-limit-requires-2
+child-limit-requires-2 c κs = search needs
 
 returns-4 : tie.Need-returns-4
-returns-4 c = let a = c .before .before .before .before .before .before .before .before .before .before .before .before .args in fits-right (a .i) _ (nodeAt (a .table .now) (a .i)) (c .before .before .before .before .before .before .before .before .before .before .kind .ensures) (c .before .before .before .before .before .before .before .before .before .if1 .left) _ _ (c .before .before .before .before .before .before .before .wide .ensures .0 ∙ c .before .before .before .before .before .before .before .before .param .ensures) (c .before .before .before .before .before .before .params .ensures) (c .before .before .before .before .before .if2 .left) _ _ (c .before .before .before .before .left .ensures .0) (c .before .before .before .lefts .ensures) _ _ (c .before .right .ensures .0) (c .rights .ensures) (c .before .before .if3 .left)
+returns-4 c =
+    let a = c .before .before .before .before .before .before .before .before .before .before .before .before .args in
+    let p = c .before .before .before .before .before .before .wide .ensures .0 ∙ c .before .before .before .before .before .before .before .param .ensures in
+    let g : c .before .before .before .left .result < c .before .before .before .before .child-limit .result = omega arith in
+    fits-right (a .i) _ (nodeAt (a .table .now) (a .i)) (c .before .before .before .before .before .before .before .before .before .before .kind .ensures) (c .before .before .before .before .before .before .before .before .before .if1 .left) _ _ p (c .before .before .before .before .before .before .before .before .param-limit .ensures) (c .before .before .before .before .before .if2 .left)
+    _ _ (c .before .before .before .left .ensures .0) (c .before .before .before .before .child-limit .ensures) _ _ (c .before .right .ensures .0) (c .child-limit2 .ensures) g
 
 pub node-fits-spec : {M : Type 1} → statement M
 node-fits-spec =
@@ -48,13 +65,13 @@ node-fits-spec =
     (tie.spec
     kind-requires
     returns
+    param-limit-requires
     param-requires
     wide-requires
-    params-requires
     returns-2
+    child-limit-requires
     left-requires
-    lefts-requires
     returns-3
     right-requires
-    rights-requires
+    child-limit-requires-2
     returns-4)

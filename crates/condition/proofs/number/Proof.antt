@@ -14,7 +14,11 @@ wide-requires : tie.Need-wide-requires
 wide-requires c κs = search needs
 
 returns : tie.Need-returns
-returns c = let a = c .before .before .before .args in let p = c .before .before .before .pre in let f = param-lower (a .i) (nodeAt (a .table .now) (a .i)) (node-fits (a .table .now) (p .0) (a .i) (p .1 .0)) in (omega arith, omega (arith, f, p .1 .1))
+returns c =
+    let a = c .before .before .before .args in
+    let p = c .before .before .before .pre in
+    let f = param-lower (a .i) (nodeAt (a .table .now) (a .i)) (node-fits (a .table .now) (p .0) (a .i) (p .1 .0)) in
+    (omega arith, omega arith)
 
 pub number-spec : {M : Type 1} → statement M
 number-spec = tie.close (tie.spec param-requires wide-requires returns)

@@ -11,7 +11,12 @@ right-requires : tie.Need-right-requires
 right-requires c κs = search needs
 
 returns : tie.Need-returns
-returns c = let a = c .before .before .args in let p = c .before .before .pre in let f = right-lower (a .i) (nodeAt (a .table .now) (a .i)) (node-fits (a .table .now) (p .0) (a .i) (p .1 .0)) (p .1 .1 .0) (p .1 .1 .1) in (omega arith, omega arith)
+returns c =
+    let a = c .before .before .args in
+    let p = c .before .before .pre in
+    let x = nodeAt (a .table .now) (a .i) in
+    let f = right-lower (a .i) x (node-fits (a .table .now) (p .0) (a .i) (p .1 .0)) (omega arith) (omega arith) in
+    (omega arith, omega arith)
 
 pub right-child-spec : {M : Type 1} → statement M
 right-child-spec = tie.close (tie.spec right-requires returns)

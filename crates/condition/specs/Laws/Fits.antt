@@ -1,24 +1,20 @@
 -- A table's nodes from its bytes: each fits, and its tree comes from its children's.
 use mathlib.Core.Path.{_≡_, refl, sym, _∙_, ap, subst}
 use mathlib.Core.List.{List, [], _∷_}
-use mathlib.Core.Bool.{true, false, not}
+use mathlib.Core.Bool.{Bool, true, false, not}
 use Prim.Native.Nat.{ℕ, suc, _+_, _*_, _≤_, _<_}
 use native.Mathlib.Omega.{arith}
 use lib.ListN.{length, getD}
 use borrow.Author.Tests.{not-false}
 use Rattle.finite.specs.Tests.{below}
 use Rattle.finite.specs.Laws.Bools.{and-in}
-use Rattle.finite.specs.Laws.Below.{any-none, none-any}
-use Rattle.finite.specs.Laws.First.{first-below}
+use Rattle.finite.specs.Laws.Below.{below-not, not-below, any-none, none-any}
+use Rattle.finite.specs.Laws.First.{first-none, first-past}
 use Rattle.semantics.specs.Table.{Node, kindOf, build, treeAt, nodeFits, nodesFit}
-use Rattle.semantics.specs.Laws.TreeAt.{fits-at, tree-at}
+use Rattle.semantics.specs.Laws.TreeAt.{blank, fits-at, tree-at}
 use Rattle.condition.specs.Bytes.{nodeAt, tableOf}
 use Rattle.condition.specs.Refusal.{firstUnfit}
 use Rattle.condition.specs.Laws.Bytes.{length-table, table-at}
-
--- where a list has no node i
-abbrev blank : Node
-blank = record { kind = 0; param = 0; left = 0; right = 0 }
 
 fits-in : (xs : List Node) (i : ℕ) → ((j : ℕ) → j < length xs → nodeFits (i + j) (getD xs j blank) ≡ true) → nodesFit i xs ≡ true
 unfolding nodesFit
@@ -41,19 +37,23 @@ nodes-fit S h =
     (rw (table-at S blank j g) (h j g)))
 
 -- no node is the lowest that meets item 8 exactly where the table's nodes fit
+abbrev unfit : List ℕ → ℕ → Bool
+unfit S i = not (nodeFits i (nodeAt S i))
+
 pub none-unfit : (S : List ℕ) → below (firstUnfit S) (length (tableOf S)) ≡ false → nodesFit 0 (tableOf S) ≡ true
 unfolding firstUnfit
 none-unfit S e =
     let n = length-table S in
-    let a = sym (first-below (length (tableOf S)) (λ i. not (nodeFits i (nodeAt S i)))) ∙ e in
-    nodes-fit S (λ i h. not-false _ (any-none (length (tableOf S)) (λ i. not (nodeFits i (nodeAt S i))) a i (omega arith)))
+    let a = first-past (length (tableOf S)) (unfit S) (not-below _ _ e) in
+    nodes-fit S (λ i h. not-false _ (any-none (length (tableOf S)) (unfit S) a i (omega arith)))
 
 pub fit-none : (S : List ℕ) → nodesFit 0 (tableOf S) ≡ true → below (firstUnfit S) (length (tableOf S)) ≡ false
 unfolding firstUnfit
 fit-none S f =
     let n = length-table S in
-    first-below (length (tableOf S)) (λ i. not (nodeFits i (nodeAt S i)))
-    ∙ none-any (length (tableOf S)) (λ i. not (nodeFits i (nodeAt S i))) (λ i h. ap not (node-fits S f i (omega arith)))
+    let e =
+    first-none (length (tableOf S)) (unfit S) (none-any (length (tableOf S)) (unfit S) (λ i h. ap not (node-fits S f i (omega arith)))) in
+    below-not _ _ (omega arith)
 
 -- the tree of node i, from the trees of its children
 pub node-tree : (S : List ℕ) → nodesFit 0 (tableOf S) ≡ true → (i : ℕ) → 6 * i + 6 ≤ length S

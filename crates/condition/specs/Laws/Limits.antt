@@ -10,7 +10,7 @@ use Rattle.finite.specs.Laws.Bools.{and-l, and-r, both}
 use Rattle.finite.specs.Laws.Below.{same-eq, eq-same, below-in, below-out, below-not}
 use Rattle.semantics.specs.Form.{slots}
 use Rattle.semantics.specs.Table.{Leaf, kTrue, kHere, kLabel, kName, kVar, kSlot, Unary, kNot, kDia, kBox, kMu, kNu, Kind, leaf, unary, binary, kindOf, Node, leafFits, unaryFits, kindFits, nodeFits}
-use Rattle.condition.specs.Limits.{paramLimit, leftLimit, rightLimit}
+use Rattle.condition.specs.Limits.{paramLimit, childLimit}
 
 -- a field that is not used
 same-below : (n : ℕ) → same n 0 ≡ below n 1
@@ -35,6 +35,17 @@ unary-limit kDia p = refl
 unary-limit kBox p = refl
 unary-limit kMu p = refl
 unary-limit kNu p = refl
+
+-- the bounds of the left and right fields of node i
+unfoldable pub leftLimit : Kind → ℕ → ℕ
+leftLimit (leaf k) i = 1
+leftLimit (unary k) i = i
+leftLimit (binary k) i = i
+
+unfoldable pub rightLimit : Kind → ℕ → ℕ
+rightLimit (leaf k) i = 1
+rightLimit (unary k) i = 1
+rightLimit (binary k) i = i
 
 -- each field of the node x with number i, of kind k, is below its bound
 unfoldable pub within : ℕ → Node → Kind → Bool
@@ -90,11 +101,11 @@ pub limit-loop : (k : ℕ) → 10 ≤ k → k < 12 → paramLimit (kindOf k) ≡
 limit-loop k h l =
     rw (number-limit k, le-ltb k 2 (omega arith), le-ltb k 5 (omega arith), le-ltb k 8 (omega arith), le-ltb k 10 h, lt-ltb k 12 l) refl
 
-pub left-limit : (i k : ℕ) → leftLimit (kindOf k) i ≡ cond (ltb k 5) 1 (cond (ltb k 12) i 1)
+pub left-limit : (i k : ℕ) → leftLimit (kindOf k) i ≡ childLimit 5 12 k i
 unfolding kindOf leftLimit
 left-limit i = each-kind _ refl refl refl refl refl refl refl refl refl refl refl refl (λ k h. rw (kind-past k h, le-ltb k 5 (omega arith), le-ltb k 12 h) refl)
 
-pub right-limit : (i k : ℕ) → rightLimit (kindOf k) i ≡ cond (ltb k 6) 1 (cond (ltb k 8) i 1)
+pub right-limit : (i k : ℕ) → rightLimit (kindOf k) i ≡ childLimit 6 8 k i
 unfolding kindOf rightLimit
 right-limit i = each-kind _ refl refl refl refl refl refl refl refl refl refl refl refl (λ k h. rw (kind-past k h, le-ltb k 6 (omega arith), le-ltb k 8 (omega arith)) refl)
 
@@ -139,11 +150,16 @@ module _ (i k : ℕ) (x : Node) (e : k ≡ x .kind) where
       unfolding within
       unfit-param g = rw (node-limits i x, known, ← e, ← em, ← ep, below-not p m g) refl
 
-      module _ (hp : p < m) (l n : ℕ) (el : l ≡ x .left) (en : n ≡ leftLimit (kindOf k) i) where
+      module _ (hp : p < m) (l n : ℕ) (el : l ≡ x .left) (cn : n ≡ childLimit 5 12 k i) where
+        en : n ≡ leftLimit (kindOf k) i
+        en = cn ∙ sym (left-limit i k)
+
         pub unfit-left : n ≤ l → nodeFits i x ≡ false
         unfolding within
         unfit-left g = rw (node-limits i x, known, ← e, ← em, ← ep, below-in p m hp, ← en, ← el, below-not l n g) refl
 
-        pub fits-right : (r o : ℕ) → r ≡ x .right → o ≡ rightLimit (kindOf k) i → l < n → ltb r o ≡ nodeFits i x
+        pub fits-right : (r o : ℕ) → r ≡ x .right → o ≡ childLimit 6 8 k i → l < n → ltb r o ≡ nodeFits i x
         unfolding within below
-        fits-right r o er eo g = rw (node-limits i x, known, ← e, ← em, ← ep, below-in p m hp, ← en, ← el, below-in l n g, ← eo, ← er) refl
+        fits-right r o er co g =
+            let eo : o ≡ rightLimit (kindOf k) i = co ∙ sym (right-limit i k) in
+            rw (node-limits i x, known, ← e, ← em, ← ep, below-in p m hp, ← en, ← el, below-in l n g, ← eo, ← er) refl

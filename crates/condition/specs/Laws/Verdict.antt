@@ -9,7 +9,7 @@ use borrow.Author.Tests.{not-true, not-false}
 use Rattle.finite.specs.Tests.{same, below}
 use Rattle.finite.specs.Laws.Bools.{and-in, and-l, and-r}
 use Rattle.finite.specs.Laws.Below.{same-eq, eq-same, below-not, not-below, any-none, none-any, all-in, all-out}
-use Rattle.finite.specs.Laws.First.{first-below}
+use Rattle.finite.specs.Laws.First.{first-none, first-past}
 use Rattle.verdict.specs.declared.Verdict.{Verdict}
 use Rattle.verdict.specs.declared.Verdict.the-variants.{Accepted, Refused}
 use Rattle.semantics.specs.Form.{even, closed}
@@ -36,14 +36,16 @@ uneven S i = not (even (treeAt (tableOf S) i))
 pub none-uneven : (S : List ℕ) → below (firstUneven S) (length (tableOf S)) ≡ false → evenTable (tableOf S) ≡ true
 unfolding firstUneven evenTable
 none-uneven S e =
-    let a = sym (first-below (length (tableOf S)) (uneven S)) ∙ e in
+    let a = first-past (length (tableOf S)) (uneven S) (not-below _ _ e) in
     all-in (length (tableOf S)) (λ i. even (treeAt (tableOf S) i)) (λ i h. not-false _ (any-none (length (tableOf S)) (uneven S) a i h))
 
 pub even-none : (S : List ℕ) → evenTable (tableOf S) ≡ true → below (firstUneven S) (length (tableOf S)) ≡ false
 unfolding firstUneven evenTable
 even-none S f =
-    first-below (length (tableOf S)) (uneven S)
-    ∙ none-any (length (tableOf S)) (uneven S) (λ i h. ap not (all-out (length (tableOf S)) (λ i. even (treeAt (tableOf S) i)) f i h))
+    let a =
+    none-any (length (tableOf S)) (uneven S) (λ i h. ap not (all-out (length (tableOf S)) (λ i. even (treeAt (tableOf S) i)) f i h)) in
+    let e = first-none (length (tableOf S)) (uneven S) a in
+    below-not _ _ (omega arith)
 
 -- ---- the verdict, item by item
 

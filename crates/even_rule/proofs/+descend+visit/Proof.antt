@@ -44,16 +44,28 @@ descend-kind-requires : (t : ℕ) → descend-lts.Need-kind-requires (descend-ca
 descend-kind-requires t c κs = c .before .before .before .before .pre .1 .1
 
 descend-returns : (t : ℕ) → descend-lts.Need-returns (descend-calls t) (descend-at t) descend.Post
-descend-returns t c = let a = c .before .before .before .before .before .before .args in let p = c .before .before .before .before .before .before .pre .1 in no-child (a .table .now) (a .done .now) (a .evens .now) (a .odds .now) (p .0) (a .i) (λ h l. omega arith)
+descend-returns t c =
+    let a = c .before .before .before .before .before .before .args in
+    let p = c .before .before .before .before .before .before .pre .1 in
+    no-child (a .table .now) (a .done .now) (a .evens .now) (a .odds .now) (p .0) (a .i) (λ h l. omega arith)
 
 descend-returns-2 : (t : ℕ) → descend-lts.Need-returns-2 (descend-calls t) (descend-at t) descend.Post
-descend-returns-2 t c = let a = c .before .before .before .before .before .before .before .args in let p = c .before .before .before .before .before .before .before .pre .1 in no-child (a .table .now) (a .done .now) (a .evens .now) (a .odds .now) (p .0) (a .i) (λ h l. omega arith)
+descend-returns-2 t c =
+    let a = c .before .before .before .before .before .before .before .args in
+    let p = c .before .before .before .before .before .before .before .pre .1 in
+    no-child (a .table .now) (a .done .now) (a .evens .now) (a .odds .now) (p .0) (a .i) (λ h l. omega arith)
 
 descend-left-child-requires : (t : ℕ) → descend-lts.Need-left-child-requires (descend-calls t) (descend-at t) descend.Post
-descend-left-child-requires t c κs = let a = c .before .before .before .before .before .before .before .args in let p = c .before .before .before .before .before .before .before .pre .1 in (p .0 .fit .fits, (p .1, omega arith))
+descend-left-child-requires t c κs =
+    let a = c .before .before .before .before .before .before .before .args in
+    let p = c .before .before .before .before .before .before .before .pre .1 in
+    (p .0 .fit .fits, (p .1, omega arith))
 
 descend-visit-requires : (t : ℕ) → descend-lts.Need-visit-requires (descend-calls t) (descend-at t) descend.Post
-descend-visit-requires t c κs = let a = c .before .before .before .before .before .before .before .before .before .before .before .args in let p = c .before .before .before .before .before .before .before .before .before .before .before .pre .1 in (omega (arith, c .before .before .before .before .before .before .before .before .before .before .before .pre .0, c .before .before .before .left-child .ensures), (p .0, omega (arith, p .1, c .before .before .before .left-child .ensures)))
+descend-visit-requires t c κs =
+    let a = c .before .before .before .before .before .before .before .before .before .before .before .args in
+    let p = c .before .before .before .before .before .before .before .before .before .before .before .pre .1 in
+    (omega (arith, c .before .before .before .before .before .before .before .before .before .before .before .pre .0, c .before .before .before .left-child .ensures), (p .0, omega (arith, p .1, c .before .before .before .left-child .ensures)))
 
 descend-same-length : (t : ℕ) → descend-lts.Need-same-length (descend-calls t) (descend-at t) descend.Post
 descend-same-length t c = c .before .before .before .before .before .before .before .visit .kept .1 .0
@@ -65,7 +77,20 @@ descend-same-length-3 : (t : ℕ) → descend-lts.Need-same-length-3 (descend-ca
 descend-same-length-3 t c = c .before .before .before .before .before .before .before .visit .kept .1 .1 .1 .0
 
 descend-returns-3 : (t : ℕ) → descend-lts.Need-returns-3 (descend-calls t) (descend-at t) descend.Post
-descend-returns-3 t c = let a = c .before .before .before .before .before .before .before .before .before .before .before .before .before .before .before .before .before .before .before .args in let p = c .before .before .before .before .before .before .before .before .before .before .before .before .before .before .before .before .before .before .before .pre .1 in one-child (a .table .now) (a .done .now) (a .evens .now) (a .odds .now) (p .0) (a .i) (c .before .before .before .before .before .before .before .visit .last .1 .0) (c .before .before .before .before .before .before .before .visit .last .1 .1 .0) (c .before .before .before .before .before .before .before .visit .last .1 .1 .1 .0) (c .before .before .before .before .before .before .before .before .before .before .before .left-child .result) (c .before .before .before .before .before .before .before .visit .ensures) (omega (arith, p .1, c .before .before .before .before .before .before .before .before .before .before .before .left-child .ensures)) (c .before .before .before .before .before .before .before .before .before .before .before .left-child .ensures .0) (λ h l. omega (arith, c .before .before .before .before .before .before .before .before .before .before .before .before .before .before .kind .ensures, c .if3 .taken))
+descend-returns-3 t c =
+    let a = c .before .before .before .before .before .before .before .before .before .before .before .before .before .before .before
+    .before .before .before .before .args in
+    let p = c .before .before .before .before .before .before .before .before .before .before .before .before .before .before .before
+    .before .before .before .before .pre .1 in
+    one-child (a .table .now) (a .done .now) (a .evens .now) (a .odds .now) (p .0) (a .i)
+    (c .before .before .before .before .before .before .before .visit .last .1 .0)
+    (c .before .before .before .before .before .before .before .visit .last .1 .1 .0)
+    (c .before .before .before .before .before .before .before .visit .last .1 .1 .1 .0)
+    (c .before .before .before .before .before .before .before .before .before .before .before .left-child .result)
+    (c .before .before .before .before .before .before .before .visit .ensures)
+    (omega (arith, p .1, c .before .before .before .before .before .before .before .before .before .before .before .left-child .ensures))
+    (c .before .before .before .before .before .before .before .before .before .before .before .left-child .ensures .0)
+    (λ h l. omega (arith, c .before .before .before .before .before .before .before .before .before .before .before .before .before .before .kind .ensures, c .if3 .taken))
 
 descend-same-length-4 : (t : ℕ) → descend-lts.Need-same-length-4 (descend-calls t) (descend-at t) descend.Post
 descend-same-length-4 t c = c .before .before .before .before .before .before .before .before .visit .kept .1 .0
@@ -77,13 +102,36 @@ descend-same-length-6 : (t : ℕ) → descend-lts.Need-same-length-6 (descend-ca
 descend-same-length-6 t c = c .before .before .before .before .before .before .before .before .visit .kept .1 .1 .1 .0
 
 descend-returns-4 : (t : ℕ) → descend-lts.Need-returns-4 (descend-calls t) (descend-at t) descend.Post
-descend-returns-4 t c = let a = c .before .before .before .before .before .before .before .before .before .before .before .before .before .before .before .before .before .before .before .before .args in let p = c .before .before .before .before .before .before .before .before .before .before .before .before .before .before .before .before .before .before .before .before .pre .1 in one-child (a .table .now) (a .done .now) (a .evens .now) (a .odds .now) (p .0) (a .i) (c .before .before .before .before .before .before .before .before .visit .last .1 .0) (c .before .before .before .before .before .before .before .before .visit .last .1 .1 .0) (c .before .before .before .before .before .before .before .before .visit .last .1 .1 .1 .0) (c .before .before .before .before .before .before .before .before .before .before .before .before .left-child .result) (c .before .before .before .before .before .before .before .before .visit .ensures) (omega (arith, p .1, c .before .before .before .before .before .before .before .before .before .before .before .before .left-child .ensures)) (c .before .before .before .before .before .before .before .before .before .before .before .before .left-child .ensures .0) (λ h l. omega (arith, c .before .before .before .before .before .before .before .before .before .before .before .before .before .before .before .kind .ensures, c .if4 .taken))
+descend-returns-4 t c =
+    let a = c .before .before .before .before .before .before .before .before .before .before .before .before .before .before .before
+    .before .before .before .before .before .args in
+    let p = c .before .before .before .before .before .before .before .before .before .before .before .before .before .before .before
+    .before .before .before .before .before .pre .1 in
+    one-child (a .table .now) (a .done .now) (a .evens .now) (a .odds .now) (p .0) (a .i)
+    (c .before .before .before .before .before .before .before .before .visit .last .1 .0)
+    (c .before .before .before .before .before .before .before .before .visit .last .1 .1 .0)
+    (c .before .before .before .before .before .before .before .before .visit .last .1 .1 .1 .0)
+    (c .before .before .before .before .before .before .before .before .before .before .before .before .left-child .result)
+    (c .before .before .before .before .before .before .before .before .visit .ensures)
+    (omega (arith, p .1, c .before .before .before .before .before .before .before .before .before .before .before .before .left-child .ensures))
+    (c .before .before .before .before .before .before .before .before .before .before .before .before .left-child .ensures .0)
+    (λ h l. omega (arith, c .before .before .before .before .before .before .before .before .before .before .before .before .before .before .before .kind .ensures, c .if4 .taken))
 
 descend-right-child-requires : (t : ℕ) → descend-lts.Need-right-child-requires (descend-calls t) (descend-at t) descend.Post
-descend-right-child-requires t c κs = let a = c .before .before .before .before .before .before .before .before .before .before .before .before .before .before .before .before .before .before .before .before .args in let p = c .before .before .before .before .before .before .before .before .before .before .before .before .before .before .before .before .before .before .before .before .pre .1 in (p .0 .fit .fits, (p .1, omega (arith, c .before .before .before .before .before .before .before .before .before .before .before .before .before .before .before .kind .ensures, c .before .if3 .left, c .if4 .left)))
+descend-right-child-requires t c κs =
+    let a = c .before .before .before .before .before .before .before .before .before .before .before .before .before .before .before
+    .before .before .before .before .before .args in
+    let p = c .before .before .before .before .before .before .before .before .before .before .before .before .before .before .before
+    .before .before .before .before .before .pre .1 in
+    (p .0 .fit .fits, (p .1, omega (arith, c .before .before .before .before .before .before .before .before .before .before .before .before .before .before .before .kind .ensures, c .before .if3 .left, c .if4 .left)))
 
 descend-visit-requires-2 : (t : ℕ) → descend-lts.Need-visit-requires-2 (descend-calls t) (descend-at t) descend.Post
-descend-visit-requires-2 t c κs = let a = c .before .before .before .before .before .before .before .before .before .before .before .before .before .before .before .before .before .before .before .before .before .before .before .before .args in let p = c .before .before .before .before .before .before .before .before .before .before .before .before .before .before .before .before .before .before .before .before .before .before .before .before .pre .1 in (omega (arith, c .before .before .before .before .before .before .before .before .before .before .before .before .before .before .before .before .before .before .before .before .before .before .before .before .pre .0, c .before .before .before .right-child .ensures), (again (a .table .now) (a .done .now) (a .evens .now) (a .odds .now) (p .0) (a .i) (c .before .before .before .before .before .before .before .before .before .before .before .before .visit .last .1 .0) (c .before .before .before .before .before .before .before .before .before .before .before .before .visit .last .1 .1 .0) (c .before .before .before .before .before .before .before .before .before .before .before .before .visit .last .1 .1 .1 .0) (c .before .before .before .before .before .before .before .before .before .before .before .before .before .before .before .before .left-child .result) (c .before .before .before .before .before .before .before .before .before .before .before .before .visit .ensures) (c .before .before .before .before .before .before .before .before .before .before .before .before .visit .kept .1 .0) (c .before .before .before .before .before .before .before .before .before .before .before .before .visit .kept .1 .1 .0) (c .before .before .before .before .before .before .before .before .before .before .before .before .visit .kept .1 .1 .1 .0), omega (arith, p .1, c .before .before .before .right-child .ensures)))
+descend-visit-requires-2 t c κs =
+    let a = c .before .before .before .before .before .before .before .before .before .before .before .before .before .before .before
+    .before .before .before .before .before .before .before .before .before .args in
+    let p = c .before .before .before .before .before .before .before .before .before .before .before .before .before .before .before
+    .before .before .before .before .before .before .before .before .before .pre .1 in
+    (omega (arith, c .before .before .before .before .before .before .before .before .before .before .before .before .before .before .before .before .before .before .before .before .before .before .before .before .pre .0, c .before .before .before .right-child .ensures), (again (a .table .now) (a .done .now) (a .evens .now) (a .odds .now) (p .0) (a .i) (c .before .before .before .before .before .before .before .before .before .before .before .before .visit .last .1 .0) (c .before .before .before .before .before .before .before .before .before .before .before .before .visit .last .1 .1 .0) (c .before .before .before .before .before .before .before .before .before .before .before .before .visit .last .1 .1 .1 .0) (c .before .before .before .before .before .before .before .before .before .before .before .before .before .before .before .before .left-child .result) (c .before .before .before .before .before .before .before .before .before .before .before .before .visit .ensures) (c .before .before .before .before .before .before .before .before .before .before .before .before .visit .kept .1 .0) (c .before .before .before .before .before .before .before .before .before .before .before .before .visit .kept .1 .1 .0) (c .before .before .before .before .before .before .before .before .before .before .before .before .visit .kept .1 .1 .1 .0), omega (arith, p .1, c .before .before .before .right-child .ensures)))
 
 descend-same-length-7 : (t : ℕ) → descend-lts.Need-same-length-7 (descend-calls t) (descend-at t) descend.Post
 descend-same-length-7 t c = omega (arith, c .before .before .before .before .before .before .before .before .before .before .before .before .before .before .before .before .before .before .before .visit .kept, c .before .before .before .before .before .before .visit2 .kept)
@@ -95,7 +143,28 @@ descend-same-length-9 : (t : ℕ) → descend-lts.Need-same-length-9 (descend-ca
 descend-same-length-9 t c = omega (arith, c .before .before .before .before .before .before .before .before .before .before .before .before .before .before .before .before .before .before .before .visit .kept, c .before .before .before .before .before .before .visit2 .kept)
 
 descend-returns-5 : (t : ℕ) → descend-lts.Need-returns-5 (descend-calls t) (descend-at t) descend.Post
-descend-returns-5 t c = let a = c .before .before .before .before .before .before .before .before .before .before .before .before .before .before .before .before .before .before .before .before .before .before .before .before .before .before .before .before .before .before .before .args in let p = c .before .before .before .before .before .before .before .before .before .before .before .before .before .before .before .before .before .before .before .before .before .before .before .before .before .before .before .before .before .before .before .pre .1 in two-children (a .table .now) (a .done .now) (a .evens .now) (a .odds .now) (p .0) (a .i) (c .before .before .before .before .before .before .before .before .before .before .before .before .before .before .before .before .before .before .before .visit .last .1 .0) (c .before .before .before .before .before .before .before .before .before .before .before .before .before .before .before .before .before .before .before .visit .last .1 .1 .0) (c .before .before .before .before .before .before .before .before .before .before .before .before .before .before .before .before .before .before .before .visit .last .1 .1 .1 .0) (c .before .before .before .before .before .before .before .before .before .before .before .before .before .before .before .before .before .before .before .before .before .before .before .left-child .result) (c .before .before .before .before .before .before .before .before .before .before .before .before .before .before .before .before .before .before .before .visit .ensures) (omega (arith, p .1, c .before .before .before .before .before .before .before .before .before .before .before .before .before .before .before .before .before .before .before .before .before .before .before .left-child .ensures)) (c .before .before .before .before .before .before .before .before .before .before .before .before .before .before .before .before .before .before .before .before .before .before .before .left-child .ensures .0) (c .before .before .before .before .before .before .visit2 .last .1 .0) (c .before .before .before .before .before .before .visit2 .last .1 .1 .0) (c .before .before .before .before .before .before .visit2 .last .1 .1 .1 .0) (c .before .before .before .before .before .before .before .before .before .before .right-child .result) (c .before .before .before .before .before .before .visit2 .ensures) (omega (arith, p .1, c .before .before .before .before .before .before .before .before .before .before .right-child .ensures)) (c .before .before .before .before .before .before .before .before .before .before .right-child .ensures .0)
+descend-returns-5 t c =
+    let a = c .before .before .before .before .before .before .before .before .before .before .before .before .before .before .before
+    .before .before .before .before .before .before .before .before .before .before .before .before .before .before .before .before
+    .args in
+    let p = c .before .before .before .before .before .before .before .before .before .before .before .before .before .before .before
+    .before .before .before .before .before .before .before .before .before .before .before .before .before .before .before .before .pre
+    .1 in
+    two-children (a .table .now) (a .done .now) (a .evens .now) (a .odds .now) (p .0) (a .i)
+    (c .before .before .before .before .before .before .before .before .before .before .before .before .before .before .before .before .before .before .before .visit .last .1 .0)
+    (c .before .before .before .before .before .before .before .before .before .before .before .before .before .before .before .before .before .before .before .visit .last .1 .1 .0)
+    (c .before .before .before .before .before .before .before .before .before .before .before .before .before .before .before .before .before .before .before .visit .last .1 .1 .1 .0)
+    (c .before .before .before .before .before .before .before .before .before .before .before .before .before .before .before .before .before .before .before .before .before .before .before .left-child .result)
+    (c .before .before .before .before .before .before .before .before .before .before .before .before .before .before .before .before .before .before .before .visit .ensures)
+    (omega (arith, p .1, c .before .before .before .before .before .before .before .before .before .before .before .before .before .before .before .before .before .before .before .before .before .before .before .left-child .ensures))
+    (c .before .before .before .before .before .before .before .before .before .before .before .before .before .before .before .before .before .before .before .before .before .before .before .left-child .ensures .0)
+    (c .before .before .before .before .before .before .visit2 .last .1 .0)
+    (c .before .before .before .before .before .before .visit2 .last .1 .1 .0)
+    (c .before .before .before .before .before .before .visit2 .last .1 .1 .1 .0)
+    (c .before .before .before .before .before .before .before .before .before .before .right-child .result)
+    (c .before .before .before .before .before .before .visit2 .ensures)
+    (omega (arith, p .1, c .before .before .before .before .before .before .before .before .before .before .right-child .ensures))
+    (c .before .before .before .before .before .before .before .before .before .before .right-child .ensures .0)
 
 abbrev visit-calls : ℕ → visit-lts.Claims
 visit-calls t = (descend-below t, descend.Post, mask-reads.Asked, mask-reads.Learnt)
@@ -104,16 +173,32 @@ visit-slice-read-if1 : (t : ℕ) → visit-lts.Need-slice-read-if1 (visit-calls 
 visit-slice-read-if1 t c = omega arith
 
 visit-returns : (t : ℕ) → visit-lts.Need-returns (visit-calls t) (visit-at t) visit.Post
-visit-returns t c = let a = c .before .before .before .before .before .before .args in let p = c .before .before .before .before .before .before .pre .1 in was-done (a .table .now) (a .done .now) (a .evens .now) (a .odds .now) (p .0) (a .i) (c .if1 .taken)
+visit-returns t c =
+    let a = c .before .before .before .before .before .before .args in
+    let p = c .before .before .before .before .before .before .pre .1 in
+    was-done (a .table .now) (a .done .now) (a .evens .now) (a .odds .now) (p .0) (a .i) (c .if1 .taken)
 
 visit-descend-requires : (t : ℕ) → visit-lts.Need-descend-requires (visit-calls t) (visit-at t) visit.Post
-visit-descend-requires t c κs = let a = c .before .before .before .before .before .before .before .before .before .args in let p = c .before .before .before .before .before .before .before .before .before .pre .1 in (omega arith, p)
+visit-descend-requires t c κs =
+    let a = c .before .before .before .before .before .before .before .before .before .args in
+    let p = c .before .before .before .before .before .before .before .before .before .pre .1 in
+    (omega arith, p)
 
 visit-mask-requires : (t : ℕ) → visit-lts.Need-mask-requires (visit-calls t) (visit-at t) visit.Post
-visit-mask-requires t c κs = let a = c .before .before .before .before .before .before .before .before .before .before .before .before .before .before .before .before .before .before .args in let p = c .before .before .before .before .before .before .before .before .before .before .before .before .before .before .before .before .before .before .pre .1 in (p .0 .fit, (p .1, (omega (arith, c .before .before .before .before .before .before .before .before .before .before .before .before .before .before .before .before .before .before .pre, c .before .before .before .before .before .before .before .before .descend .kept), c .before .before .before .before .before .before .before .before .descend .ensures .children)))
+visit-mask-requires t c κs =
+    let a = c .before .before .before .before .before .before .before .before .before .before .before .before .before .before .before
+    .before .before .before .args in
+    let p = c .before .before .before .before .before .before .before .before .before .before .before .before .before .before .before
+    .before .before .before .pre .1 in
+    (p .0 .fit, (p .1, (omega (arith, c .before .before .before .before .before .before .before .before .before .before .before .before .before .before .before .before .before .before .pre, c .before .before .before .before .before .before .before .before .descend .kept), c .before .before .before .before .before .before .before .before .descend .ensures .children)))
 
 visit-mask-requires-2 : (t : ℕ) → visit-lts.Need-mask-requires-2 (visit-calls t) (visit-at t) visit.Post
-visit-mask-requires-2 t c κs = let a = c .before .before .before .before .before .before .before .before .before .before .before .before .before .before .before .before .before .before .before .before .before .args in let p = c .before .before .before .before .before .before .before .before .before .before .before .before .before .before .before .before .before .before .before .before .before .pre .1 in (p .0 .fit, (p .1, (omega (arith, c .before .before .before .before .before .before .before .before .before .before .before .before .before .before .before .before .before .before .before .before .before .pre, c .before .before .before .before .before .before .before .before .before .before .before .descend .kept), children-swap (a .table .now) (c .before .before .before .before .before .before .before .before .before .before .before .descend .last .1 .1 .0) (c .before .before .before .before .before .before .before .before .before .before .before .descend .last .1 .1 .1 .0) (a .i) (c .before .before .before .before .before .before .before .before .before .before .before .descend .ensures .children))))
+visit-mask-requires-2 t c κs =
+    let a = c .before .before .before .before .before .before .before .before .before .before .before .before .before .before .before
+    .before .before .before .before .before .before .args in
+    let p = c .before .before .before .before .before .before .before .before .before .before .before .before .before .before .before
+    .before .before .before .before .before .before .pre .1 in
+    (p .0 .fit, (p .1, (omega (arith, c .before .before .before .before .before .before .before .before .before .before .before .before .before .before .before .before .before .before .before .before .before .pre, c .before .before .before .before .before .before .before .before .before .before .before .descend .kept), children-swap (a .table .now) (c .before .before .before .before .before .before .before .before .before .before .before .descend .last .1 .1 .0) (c .before .before .before .before .before .before .before .before .before .before .before .descend .last .1 .1 .1 .0) (a .i) (c .before .before .before .before .before .before .before .before .before .before .before .descend .ensures .children))))
 
 visit-mul-evens : (t : ℕ) → visit-lts.Need-mul-evens (visit-calls t) (visit-at t) visit.Post
 visit-mul-evens t c = omega (arith, c .before .before .before .before .before .before .before .before .before .before .before .before .before .before .before .before .before .before .before .before .before .before .pre, c .before .before .before .before .before .before .before .before .before .before .before .before .descend .kept)
@@ -140,7 +225,20 @@ visit-same-length-3 : (t : ℕ) → visit-lts.Need-same-length-3 (visit-calls t)
 visit-same-length-3 t c = simp length-set (omega (arith, c .before .before .before .before .before .before .before .before .before .before .before .before .descend .kept))
 
 visit-returns-2 : (t : ℕ) → visit-lts.Need-returns-2 (visit-calls t) (visit-at t) visit.Post
-visit-returns-2 t c = let a = c .before .before .before .before .before .before .before .before .before .before .before .before .before .before .before .before .before .before .before .before .before .before .args in let p = c .before .before .before .before .before .before .before .before .before .before .before .before .before .before .before .before .before .before .before .before .before .before .pre .1 in finish (a .table .now) (a .done .now) (c .before .before .before .before .before .before .before .before .before .before .before .before .descend .last .1 .0) (c .before .before .before .before .before .before .before .before .before .before .before .before .descend .last .1 .1 .0) (c .before .before .before .before .before .before .before .before .before .before .before .before .descend .last .1 .1 .1 .0) (a .i) (c .before .before .before .before .before .before .before .before .before .before .before .before .descend .ensures) (c .before .before .before .mask .result) (c .mask2 .result) (c .before .before .before .mask .ensures) (c .mask2 .ensures) (omega (arith, c .before .before .before .before .before .before .before .before .before .before .before .before .before .before .before .before .before .before .before .before .before .before .pre, c .before .before .before .before .before .before .before .before .before .before .before .before .descend .kept)) (omega (arith, c .before .before .before .before .before .before .before .before .before .before .before .before .before .before .before .before .before .before .before .before .before .before .pre, c .before .before .before .before .before .before .before .before .before .before .before .before .descend .kept)) (omega (arith, c .before .before .before .before .before .before .before .before .before .before .before .before .before .before .before .before .before .before .before .before .before .before .pre, c .before .before .before .before .before .before .before .before .before .before .before .before .descend .kept))
+visit-returns-2 t c =
+    let a = c .before .before .before .before .before .before .before .before .before .before .before .before .before .before .before
+    .before .before .before .before .before .before .before .args in
+    let p = c .before .before .before .before .before .before .before .before .before .before .before .before .before .before .before
+    .before .before .before .before .before .before .before .pre .1 in
+    finish (a .table .now) (a .done .now)
+    (c .before .before .before .before .before .before .before .before .before .before .before .before .descend .last .1 .0)
+    (c .before .before .before .before .before .before .before .before .before .before .before .before .descend .last .1 .1 .0)
+    (c .before .before .before .before .before .before .before .before .before .before .before .before .descend .last .1 .1 .1 .0)
+    (a .i) (c .before .before .before .before .before .before .before .before .before .before .before .before .descend .ensures)
+    (c .before .before .before .mask .result) (c .mask2 .result) (c .before .before .before .mask .ensures) (c .mask2 .ensures)
+    (omega (arith, c .before .before .before .before .before .before .before .before .before .before .before .before .before .before .before .before .before .before .before .before .before .before .pre, c .before .before .before .before .before .before .before .before .before .before .before .before .descend .kept))
+    (omega (arith, c .before .before .before .before .before .before .before .before .before .before .before .before .before .before .before .before .before .before .before .before .before .before .pre, c .before .before .before .before .before .before .before .before .before .before .before .before .descend .kept))
+    (omega (arith, c .before .before .before .before .before .before .before .before .before .before .before .before .before .before .before .before .before .before .before .before .before .before .pre, c .before .before .before .before .before .before .before .before .before .before .before .before .descend .kept))
 
 pub +descend+visit-spec : {M : Type 1} → statement M
 +descend+visit-spec = close μ-descend μ-visit (λ t. descend-lts.spec (descend-calls t)

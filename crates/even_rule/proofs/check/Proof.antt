@@ -20,22 +20,41 @@ same-length : tie.Need-same-length
 same-length c = search needs
 
 returns : tie.Need-returns
-returns c = let a = c .before .before .before .before .before .before .before .before .args in let p = c .before .before .before .before .before .before .before .before .pre in answer-7 (a .table .now) (c .before .before .before .before .zero .last .0) (c .before .before .before .before .zero .ensures ∙ ap (λ (n : ℕ). replicate n 0) p) (sym (c .before .size-fits .ensures) ∙ not-true _ (c .if1 .taken))
+returns c =
+    let a = c .before .before .before .before .before .before .before .before .args in
+    let p = c .before .before .before .before .before .before .before .before .pre in
+    answer-7 (a .table .now) (c .before .before .before .before .zero .last .0)
+    (c .before .before .before .before .zero .ensures ∙ ap (λ (n : ℕ). replicate n 0) p)
+    (sym (c .before .size-fits .ensures) ∙ not-true _ (c .if1 .taken))
 
 first-unfit-requires : tie.Need-first-unfit-requires
 first-unfit-requires c κs = search needs
 
 cast-t11 : tie.Need-cast-t11
-cast-t11 c = let a = c .before .before .before .before .before .before .before .before .before .before .args in let p = c .before .before .before .before .before .before .before .before .before .before .pre in let s = size-out (length (a .table .now)) (sym (c .before .before .before .size-fits .ensures) ∙ not-false _ (c .before .before .if1 .left)) in omega (arith, s)
+cast-t11 c =
+    let a = c .before .before .before .before .before .before .before .before .before .before .args in
+    let p = c .before .before .before .before .before .before .before .before .before .before .pre in
+    let s = size-out (length (a .table .now))
+    (sym (c .before .before .before .size-fits .ensures) ∙ not-false _ (c .before .before .if1 .left)) in
+    omega (arith, s)
 
 same-length-2 : tie.Need-same-length-2
 same-length-2 c = search needs
 
 returns-2 : tie.Need-returns-2
-returns-2 c = let a = c .before .before .before .before .before .before .before .before .before .before .args in let p = c .before .before .before .before .before .before .before .before .before .before .pre in answer-8 (a .table .now) (c .before .before .before .before .before .before .zero .last .0) (c .before .before .before .before .before .before .zero .ensures ∙ ap (λ (n : ℕ). replicate n 0) p) (sym (c .before .before .before .size-fits .ensures) ∙ not-false _ (c .before .before .if1 .left)) (c .before .first-unfit .result) (c .before .first-unfit .ensures) (c .if2 .taken)
+returns-2 c =
+    let a = c .before .before .before .before .before .before .before .before .before .before .args in
+    let p = c .before .before .before .before .before .before .before .before .before .before .pre in
+    answer-8 (a .table .now) (c .before .before .before .before .before .before .zero .last .0)
+    (c .before .before .before .before .before .before .zero .ensures ∙ ap (λ (n : ℕ). replicate n 0) p)
+    (sym (c .before .before .before .size-fits .ensures) ∙ not-false _ (c .before .before .if1 .left)) (c .before .first-unfit .result)
+    (c .before .first-unfit .ensures) (c .if2 .taken)
 
 check-rules-requires : tie.Need-check-rules-requires
-check-rules-requires c κs = let a = c .before .before .before .before .before .before .before .before .before .before .before .args in let p = c .before .before .before .before .before .before .before .before .before .before .before .pre in (sym (c .before .before .before .before .size-fits .ensures) ∙ not-false _ (c .before .before .before .if1 .left), (all-fit (a .table .now) (c .before .before .first-unfit .result) (c .before .before .first-unfit .ensures) (c .before .if2 .left), (c .before .before .before .before .before .before .before .zero .ensures ∙ ap (λ (n : ℕ). replicate n 0) p)))
+check-rules-requires c κs =
+    let a = c .before .before .before .before .before .before .before .before .before .before .before .args in
+    let p = c .before .before .before .before .before .before .before .before .before .before .before .pre in
+    (sym (c .before .before .before .before .size-fits .ensures) ∙ not-false _ (c .before .before .before .if1 .left), (all-fit (a .table .now) (c .before .before .first-unfit .result) (c .before .before .first-unfit .ensures) (c .before .if2 .left), (c .before .before .before .before .before .before .before .zero .ensures ∙ ap (λ (n : ℕ). replicate n 0) p)))
 
 same-length-3 : tie.Need-same-length-3
 same-length-3 c = search needs

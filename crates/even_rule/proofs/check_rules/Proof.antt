@@ -29,43 +29,97 @@ slice-aggregate-visit-all-3 : tie.Need-slice-aggregate-visit-all-3
 slice-aggregate-visit-all-3 c = search needs
 
 visit-all-requires : tie.Need-visit-all-requires
-visit-all-requires c κs = let a = c .before .before .before .before .before .before .before .before .args in let p = c .before .before .before .before .before .before .before .before .pre in rw (c .before .before .before .before .before .no-flags .ensures, c .before .before .before .before .no-masks .ensures, c .before .before .before .no-masks2 .ensures) (none-done (a .table .now) (fit (a .table .now) (p .0) (p .1 .0)))
+visit-all-requires c κs =
+    let a = c .before .before .before .before .before .before .before .before .args in
+    let p = c .before .before .before .before .before .before .before .before .pre in
+    rw
+    (c .before .before .before .before .before .no-flags .ensures, c .before .before .before .before .no-masks .ensures, c .before .before .before .no-masks2 .ensures)
+    (none-done (a .table .now) (fit (a .table .now) (p .0) (p .1 .0)))
 
 slice-aggregate-first-uneven : tie.Need-slice-aggregate-first-uneven
 slice-aggregate-first-uneven c = search needs
 
 first-uneven-requires : tie.Need-first-uneven-requires
-first-uneven-requires c κs = let a = c .before .before .before .before .before .before .before .before .before .before .before .before .before .args in let p = c .before .before .before .before .before .before .before .before .before .before .before .before .before .pre in (fit (a .table .now) (p .0) (p .1 .0), (c .before .before .before .before .visit-all .kept .1 .1 .1 .0 ∙ ap length (c .before .before .before .before .before .before .before .before .no-masks2 .ensures) ∙ length-replicate {A = ℕ} 2048 0, rows-odds (a .table .now) (c .before .before .before .before .visit-all .last .1 .1 .0) (c .before .before .before .before .visit-all .last .1 .1 .1 .0) (c .before .before .before .before .visit-all .ensures)))
+first-uneven-requires c κs =
+    let a = c .before .before .before .before .before .before .before .before .before .before .before .before .before .args in
+    let p = c .before .before .before .before .before .before .before .before .before .before .before .before .before .pre in
+    (fit (a .table .now) (p .0) (p .1 .0), (c .before .before .before .before .visit-all .kept .1 .1 .1 .0 ∙ ap length (c .before .before .before .before .before .before .before .before .no-masks2 .ensures) ∙ length-replicate {A = ℕ} 2048 0, rows-odds (a .table .now) (c .before .before .before .before .visit-all .last .1 .1 .0) (c .before .before .before .before .visit-all .last .1 .1 .1 .0) (c .before .before .before .before .visit-all .ensures)))
 
 cast-t22 : tie.Need-cast-t22
-cast-t22 c = let a = c .before .before .before .before .before .before .before .before .before .before .before .before .before .before .before .args in let p = c .before .before .before .before .before .before .before .before .before .before .before .before .before .before .before .pre in let s = size-out (length (a .table .now)) (p .0) in omega (arith, s)
+cast-t22 c =
+    let a = c .before .before .before .before .before .before .before .before .before .before .before .before .before .before .before
+    .args in
+    let p = c .before .before .before .before .before .before .before .before .before .before .before .before .before .before .before
+    .pre in
+    let s = size-out (length (a .table .now)) (p .0) in
+    omega (arith, s)
 
 returns : tie.Need-returns
-returns c = let a = c .before .before .before .before .before .before .before .before .before .before .before .before .before .before .before .args in let p = c .before .before .before .before .before .before .before .before .before .before .before .before .before .before .before .pre in answer-9 (a .table .now) (a .free .now) (p .1 .1) (p .0) (p .1 .0) (c .before .first-uneven .result) (c .before .first-uneven .ensures) (c .if1 .taken)
+returns c =
+    let a = c .before .before .before .before .before .before .before .before .before .before .before .before .before .before .before
+    .args in
+    let p = c .before .before .before .before .before .before .before .before .before .before .before .before .before .before .before
+    .pre in
+    answer-9 (a .table .now) (a .free .now) (p .1 .1) (p .0) (p .1 .0) (c .before .first-uneven .result)
+    (c .before .first-uneven .ensures) (c .if1 .taken)
 
 sub-last : tie.Need-sub-last
-sub-last c = let a = c .before .before .before .before .before .before .before .before .before .before .before .before .before .before .before .args in let p = c .before .before .before .before .before .before .before .before .before .before .before .before .before .before .before .pre in let s = size-out (length (a .table .now)) (p .0) in omega (arith, s)
+sub-last c =
+    let a = c .before .before .before .before .before .before .before .before .before .before .before .before .before .before .before
+    .args in
+    let p = c .before .before .before .before .before .before .before .before .before .before .before .before .before .before .before
+    .pre in
+    let s = size-out (length (a .table .now)) (p .0) in
+    omega (arith, s)
 
 mul-no-free : tie.Need-mul-no-free
 mul-no-free c = search needs
 
 array-read-no-free : tie.Need-array-read-no-free
-array-read-no-free c = let a = c .before .before .before .before .before .before .before .before .before .before .before .before .before .before .before .args in let p = c .before .before .before .before .before .before .before .before .before .before .before .before .before .before .before .pre in let s = size-out (length (a .table .now)) (p .0) in omega (arith, s)
+array-read-no-free c =
+    let a = c .before .before .before .before .before .before .before .before .before .before .before .before .before .before .before
+    .args in
+    let p = c .before .before .before .before .before .before .before .before .before .before .before .before .before .before .before
+    .pre in
+    let s = size-out (length (a .table .now)) (p .0) in
+    omega (arith, s)
 
 mul-no-free-2 : tie.Need-mul-no-free-2
 mul-no-free-2 c = search needs
 
 array-read-no-free-2 : tie.Need-array-read-no-free-2
-array-read-no-free-2 c = let a = c .before .before .before .before .before .before .before .before .before .before .before .before .before .before .before .args in let p = c .before .before .before .before .before .before .before .before .before .before .before .before .before .before .before .pre in let s = size-out (length (a .table .now)) (p .0) in omega (arith, s)
+array-read-no-free-2 c =
+    let a = c .before .before .before .before .before .before .before .before .before .before .before .before .before .before .before
+    .args in
+    let p = c .before .before .before .before .before .before .before .before .before .before .before .before .before .before .before
+    .pre in
+    let s = size-out (length (a .table .now)) (p .0) in
+    omega (arith, s)
 
 no-free-requires : tie.Need-no-free-requires
 no-free-requires c κs = search needs
 
 cast-t31 : tie.Need-cast-t31
-cast-t31 c = let a = c .before .before .before .before .before .before .before .before .before .before .before .before .before .before .before .before .before .args in let p = c .before .before .before .before .before .before .before .before .before .before .before .before .before .before .before .before .before .pre in let s = size-out (length (a .table .now)) (p .0) in omega (arith, s)
+cast-t31 c =
+    let a = c .before .before .before .before .before .before .before .before .before .before .before .before .before .before .before
+    .before .before .args in
+    let p = c .before .before .before .before .before .before .before .before .before .before .before .before .before .before .before
+    .before .before .pre in
+    let s = size-out (length (a .table .now)) (p .0) in
+    omega (arith, s)
 
 returns-2 : tie.Need-returns-2
-returns-2 c = let a = c .before .before .before .before .before .before .before .before .before .before .before .before .before .before .before .before .before .args in let p = c .before .before .before .before .before .before .before .before .before .before .before .before .before .before .before .before .before .pre in answer-10 (a .table .now) (a .free .now) (p .1 .1) (p .0) (p .1 .0) (c .before .before .before .first-uneven .result) (c .before .before .before .first-uneven .ensures) (c .before .before .if1 .left) (c .before .before .before .before .before .before .before .before .visit-all .last .1 .1 .0) (c .before .before .before .before .before .before .before .before .visit-all .last .1 .1 .1 .0) (c .before .before .before .before .before .before .before .before .visit-all .ensures) (c .before .no-free .result) (c .before .no-free .ensures) (c .if2 .taken)
+returns-2 c =
+    let a = c .before .before .before .before .before .before .before .before .before .before .before .before .before .before .before
+    .before .before .args in
+    let p = c .before .before .before .before .before .before .before .before .before .before .before .before .before .before .before
+    .before .before .pre in
+    answer-10 (a .table .now) (a .free .now) (p .1 .1) (p .0) (p .1 .0) (c .before .before .before .first-uneven .result)
+    (c .before .before .before .first-uneven .ensures) (c .before .before .if1 .left)
+    (c .before .before .before .before .before .before .before .before .visit-all .last .1 .1 .0)
+    (c .before .before .before .before .before .before .before .before .visit-all .last .1 .1 .1 .0)
+    (c .before .before .before .before .before .before .before .before .visit-all .ensures) (c .before .no-free .result)
+    (c .before .no-free .ensures) (c .if2 .taken)
 
 slice-aggregate-unite : tie.Need-slice-aggregate-unite
 slice-aggregate-unite c = search needs
@@ -74,13 +128,34 @@ slice-aggregate-unite-2 : tie.Need-slice-aggregate-unite-2
 slice-aggregate-unite-2 c = search needs
 
 unite-requires : tie.Need-unite-requires
-unite-requires c κs = let a = c .before .before .before .before .before .before .before .before .before .before .before .before .before .before .before .before .before .before .before .before .args in let p = c .before .before .before .before .before .before .before .before .before .before .before .before .before .before .before .before .before .before .before .before .pre in let s = size-out (length (a .table .now)) (p .0) in (omega (arith, s), c .before .before .before .before .before .before .before .before .before .before .before .visit-all .kept .1 .1 .0 ∙ ap length (c .before .before .before .before .before .before .before .before .before .before .before .before .before .before .before .before .no-masks .ensures) ∙ length-replicate {A = ℕ} 2048 0, c .before .before .before .before .before .before .before .before .before .before .before .visit-all .kept .1 .1 .1 .0 ∙ ap length (c .before .before .before .before .before .before .before .before .before .before .before .before .before .before .before .no-masks2 .ensures) ∙ length-replicate {A = ℕ} 2048 0, ap length (p .1 .1) ∙ length-replicate {A = ℕ} 2048 0)
+unite-requires c κs =
+    let a = c .before .before .before .before .before .before .before .before .before .before .before .before .before .before .before
+    .before .before .before .before .before .args in
+    let p = c .before .before .before .before .before .before .before .before .before .before .before .before .before .before .before
+    .before .before .before .before .before .pre in
+    let s = size-out (length (a .table .now)) (p .0) in
+    (omega (arith, s), c .before .before .before .before .before .before .before .before .before .before .before .visit-all .kept .1 .1 .0 ∙ ap length (c .before .before .before .before .before .before .before .before .before .before .before .before .before .before .before .before .no-masks .ensures) ∙ length-replicate {A = ℕ} 2048 0, c .before .before .before .before .before .before .before .before .before .before .before .visit-all .kept .1 .1 .1 .0 ∙ ap length (c .before .before .before .before .before .before .before .before .before .before .before .before .before .before .before .no-masks2 .ensures) ∙ length-replicate {A = ℕ} 2048 0, ap length (p .1 .1) ∙ length-replicate {A = ℕ} 2048 0)
 
 same-length : tie.Need-same-length
 same-length c = search needs
 
 returns-3 : tie.Need-returns-3
-returns-3 c = let a = c .before .before .before .before .before .before .before .before .before .before .before .before .before .before .before .before .before .before .before .before .before .before .before .args in let p = c .before .before .before .before .before .before .before .before .before .before .before .before .before .before .before .before .before .before .before .before .before .before .before .pre in answer-none (a .table .now) (a .free .now) (p .1 .1) (p .0) (p .1 .0) (c .before .before .before .before .before .before .before .before .before .first-uneven .result) (c .before .before .before .before .before .before .before .before .before .first-uneven .ensures) (c .before .before .before .before .before .before .before .before .if1 .left) (c .before .before .before .before .before .before .before .before .before .before .before .before .before .before .visit-all .last .1 .1 .0) (c .before .before .before .before .before .before .before .before .before .before .before .before .before .before .visit-all .last .1 .1 .1 .0) (c .before .before .before .before .before .before .before .before .before .before .before .before .before .before .visit-all .ensures) (c .before .before .before .before .before .before .before .no-free .result) (c .before .before .before .before .before .before .before .no-free .ensures) (c .before .before .before .before .before .before .if2 .left) (c .before .before .unite .last .1 .1 .0) (c .before .before .unite .ensures)
+returns-3 c =
+    let a = c .before .before .before .before .before .before .before .before .before .before .before .before .before .before .before
+    .before .before .before .before .before .before .before .before .args in
+    let p = c .before .before .before .before .before .before .before .before .before .before .before .before .before .before .before
+    .before .before .before .before .before .before .before .before .pre in
+    answer-none (a .table .now) (a .free .now) (p .1 .1) (p .0) (p .1 .0)
+    (c .before .before .before .before .before .before .before .before .before .first-uneven .result)
+    (c .before .before .before .before .before .before .before .before .before .first-uneven .ensures)
+    (c .before .before .before .before .before .before .before .before .if1 .left)
+    (c .before .before .before .before .before .before .before .before .before .before .before .before .before .before .visit-all .last .1 .1 .0)
+    (c .before .before .before .before .before .before .before .before .before .before .before .before .before .before .visit-all .last .1 .1 .1 .0)
+    (c .before .before .before .before .before .before .before .before .before .before .before .before .before .before .visit-all .ensures)
+    (c .before .before .before .before .before .before .before .no-free .result)
+    (c .before .before .before .before .before .before .before .no-free .ensures)
+    (c .before .before .before .before .before .before .if2 .left) (c .before .before .unite .last .1 .1 .0)
+    (c .before .before .unite .ensures)
 
 pub check-rules-spec : {M : Type 1} → statement M
 check-rules-spec =

@@ -24,11 +24,16 @@ loop-holds : tie.Need-loop-holds Inv-loop μ-loop
 loop-holds c = (omega arith, sym (length-table (c .before .before .args .table .now)), none-start _)
 
 uneven-requires : tie.Need-uneven-requires Inv-loop μ-loop
-uneven-requires c κs = let a = c .before .before .before .before .args in let p = c .before .before .before .before .pre in (p .0, (omega (arith, length-table (a .table .now)), (p .1 .0, p .1 .1)))
+uneven-requires c κs =
+    let a = c .before .before .before .before .args in
+    let p = c .before .before .before .before .pre in
+    (p .0, (omega (arith, length-table (a .table .now)), (p .1 .0, p .1 .1)))
 
 returns : tie.Need-returns Inv-loop μ-loop
 unfolding firstUneven
-returns c = let l = c .before .before .before .loop in sym (first-is _ _ (l .i) (omega arith) (l .inv .2) (sym (c .before .uneven .ensures) ∙ c .if1 .taken))
+returns c =
+    let l = c .before .before .before .loop in
+    sym (first-is _ _ (l .i) (omega arith) (l .inv .2) (sym (c .before .uneven .ensures) ∙ c .if1 .taken))
 
 add-i : tie.Need-add-i Inv-loop μ-loop
 add-i c = omega arith
@@ -37,7 +42,9 @@ loop-less : tie.Need-loop-less Inv-loop μ-loop
 loop-less c = omega arith
 
 loop-again : tie.Need-loop-again Inv-loop μ-loop
-loop-again c = let l = c .before .before .before .loop in (omega arith, l .inv .1, none-more _ (l .i) (l .inv .2) (sym (c .before .uneven .ensures) ∙ c .if1 .left))
+loop-again c =
+    let l = c .before .before .before .loop in
+    (omega arith, l .inv .1, none-more _ (l .i) (l .inv .2) (sym (c .before .uneven .ensures) ∙ c .if1 .left))
 
 returns-2 : tie.Need-returns-2 Inv-loop μ-loop
 unfolding firstUneven

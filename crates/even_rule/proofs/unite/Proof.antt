@@ -42,7 +42,10 @@ loop-less : tie.Need-loop-less Inv-loop μ-loop
 loop-less c = omega arith
 
 loop-again : tie.Need-loop-again Inv-loop μ-loop
-loop-again c = let a = c .before .before .before .before .args in let l = c .before .before .before .loop in (omega arith, simp length-set (l .inv .1), united-more (a .evens .now) (a .odds .now) (a .free .now) (l .free) (l .i) (omega arith) (l .inv .2))
+loop-again c =
+    let a = c .before .before .before .before .args in
+    let l = c .before .before .before .loop in
+    (omega arith, simp length-set (l .inv .1), united-more (a .evens .now) (a .odds .now) (a .free .now) (l .free) (l .i) (omega arith) (l .inv .2))
 
 same-length : tie.Need-same-length Inv-loop μ-loop
 same-length c = omega arith

@@ -29,12 +29,16 @@ loop-less : tie.Need-loop-less Inv-loop μ-loop
 loop-less c = omega arith
 
 loop-again : tie.Need-loop-again Inv-loop μ-loop
-loop-again c = let a = c .before .before .before .before .before .before .before .before .before .before .before .before .before .before .before .before .args in let l = c .before .before .before .before .before .before .before .before .before .before .before .loop in let s = c .before .before .before .before .before .before .visit .last in (
-  omega arith,
-  l .inv .1,
-  again (a .table .now) (l .done) (l .evens) (l .odds) (l .inv .2) (l .i) (s .1 .0) (s .1 .1 .0) (s .1 .1 .1 .0) (l .i) (c .before .before .before .before .before .before .visit .ensures) (c .before .before .before .before .before .before .visit .kept .1 .0) (c .before .before .before .before .before .before .visit .kept .1 .1 .0) (c .before .before .before .before .before .before .visit .kept .1 .1 .1 .0),
-  more-done (l .done) (s .1 .0) (l .i) (c .before .before .before .before .before .before .visit .ensures .kept) (l .inv .3) (c .before .before .before .before .before .before .visit .ensures .here),
-)
+loop-again c =
+    let a = c .before .before .before .before .before .before .before .before .before .before .before .before .before .before .before
+    .before .args in
+    let l = c .before .before .before .before .before .before .before .before .before .before .before .loop in
+    let s = c .before .before .before .before .before .before .visit .last in (
+      omega arith,
+      l .inv .1,
+      again (a .table .now) (l .done) (l .evens) (l .odds) (l .inv .2) (l .i) (s .1 .0) (s .1 .1 .0) (s .1 .1 .1 .0) (l .i) (c .before .before .before .before .before .before .visit .ensures) (c .before .before .before .before .before .before .visit .kept .1 .0) (c .before .before .before .before .before .before .visit .kept .1 .1 .0) (c .before .before .before .before .before .before .visit .kept .1 .1 .1 .0),
+      more-done (l .done) (s .1 .0) (l .i) (c .before .before .before .before .before .before .visit .ensures .kept) (l .inv .3) (c .before .before .before .before .before .before .visit .ensures .here),
+    )
 
 same-length : tie.Need-same-length Inv-loop μ-loop
 same-length c = omega (arith, c .before .before .before .before .before .before .pre, c .before .loop .inv .2)
@@ -46,7 +50,10 @@ same-length-3 : tie.Need-same-length-3 Inv-loop μ-loop
 same-length-3 c = omega (arith, c .before .before .before .before .before .before .pre, c .before .loop .inv .2)
 
 returns : tie.Need-returns Inv-loop μ-loop
-returns c = let a = c .before .before .before .before .before .before .args in let l = c .before .loop in all-done (a .table .now) (l .done) (l .evens) (l .odds) (l .i) (omega arith) (l .inv .2 .good) (l .inv .3)
+returns c =
+    let a = c .before .before .before .before .before .before .args in
+    let l = c .before .loop in
+    all-done (a .table .now) (l .done) (l .evens) (l .odds) (l .i) (omega arith) (l .inv .2 .good) (l .inv .3)
 
 pub visit-all-spec : {M : Type 1} → statement M
 visit-all-spec =

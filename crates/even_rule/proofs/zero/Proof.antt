@@ -31,13 +31,19 @@ loop-less : tie.Need-loop-less Inv-loop μ-loop
 loop-less c = omega arith
 
 loop-again : tie.Need-loop-again Inv-loop μ-loop
-loop-again c = let a = c .before .before .args in let l = c .before .loop in (omega arith, simp length-set (l .inv .1), rw (l .inv .2) (fill-more (l .k) 0 (a .rows .now) (omega arith)))
+loop-again c =
+    let a = c .before .before .args in
+    let l = c .before .loop in
+    (omega arith, simp length-set (l .inv .1), rw (l .inv .2) (fill-more (l .k) 0 (a .rows .now) (omega arith)))
 
 same-length : tie.Need-same-length Inv-loop μ-loop
 same-length c = omega arith
 
 returns : tie.Need-returns Inv-loop μ-loop
-returns c = let a = c .before .before .args in let l = c .before .loop in l .inv .2 ∙ filled (a .rows .now) (l .k) (omega arith) (omega arith)
+returns c =
+    let a = c .before .before .args in
+    let l = c .before .loop in
+    l .inv .2 ∙ filled (a .rows .now) (l .k) (omega arith) (omega arith)
 
 pub zero-spec : {M : Type 1} → statement M
 zero-spec =
