@@ -12,8 +12,8 @@ returns : tie.Need-returns
 returns c =
     let a = c .before .before .before .before .before .args in
     let p = c .before .before .before .before .before .pre in
-    mask-none (a .table .now) (a .own .now) (a .other .now) (a .i) (c .before .kind .result) (a .parity) (p .0) (p .1 .0) (c .before .kind .ensures)
-    (p .1 .1 .1) (omega arith)
+    let k = c .before .kind in
+    mask-none (a .table .now) (a .own .now) (a .other .now) (a .i) (k .result) (a .parity) (p .0) (p .1 .0) (k .ensures) (p .1 .1 .1) (omega arith)
 
 number-requires : tie.Need-number-requires
 number-requires c κs = let p = c .before .before .before .before .before .before .pre in (p .0 .fits, (p .1 .0, limit-name _ (omega arith) (omega arith)))
@@ -25,15 +25,16 @@ returns-2 : tie.Need-returns-2
 returns-2 c =
     let a = c .before .before .before .before .before .before .before .before .args in
     let p = c .before .before .before .before .before .before .before .before .pre in
-    mask-var (a .table .now) (a .own .now) (a .other .now) (a .i) (c .before .before .before .before .kind .result) (a .parity) (p .0) (p .1 .0) (c .before .before .before .before .kind .ensures)
-    (p .1 .1 .1) (omega arith) (omega arith) (c .before .number .result) _ (c .before .number .ensures .0) (c .variable .ensures)
+    let k = c .before .before .before .before .kind in
+    mask-var (a .table .now) (a .own .now) (a .other .now) (a .i) (k .result) (a .parity) (p .0) (p .1 .0) (k .ensures) (p .1 .1 .1) (omega arith) (omega arith)
+    (c .before .number .result) _ (c .before .number .ensures .0) (c .variable .ensures)
 
 returns-3 : tie.Need-returns-3
 returns-3 c =
     let a = c .before .before .before .before .before .before .before .args in
     let p = c .before .before .before .before .before .before .before .pre in
-    mask-slot (a .table .now) (a .own .now) (a .other .now) (a .i) (c .before .before .before .kind .result) (a .parity) (p .0) (p .1 .0) (c .before .before .before .kind .ensures)
-    (p .1 .1 .1) (omega arith)
+    let k = c .before .before .before .kind in
+    mask-slot (a .table .now) (a .own .now) (a .other .now) (a .i) (k .result) (a .parity) (p .0) (p .1 .0) (k .ensures) (p .1 .1 .1) (omega arith)
 
 left-child-requires : tie.Need-left-child-requires
 left-child-requires c κs = let p = c .before .before .before .before .before .before .before .pre in (p .0 .fits, (p .1 .0, omega arith))
@@ -48,8 +49,9 @@ returns-4 : tie.Need-returns-4
 returns-4 c =
     let a = c .before .before .before .before .before .before .before .before .before .before .args in
     let p = c .before .before .before .before .before .before .before .before .before .before .pre in
-    mask-not (a .table .now) (a .own .now) (a .other .now) (a .i) (c .before .before .before .before .before .before .kind .result) (a .parity) (p .0) (p .1 .0) (c .before .before .before .before .before .before .kind .ensures)
-    (p .1 .1 .1) (c .before .before .left-child .result) (c .before .before .left-child .ensures .0) (omega arith) (omega arith)
+    let k = c .before .before .before .before .before .before .kind in
+    let l = c .before .before .left-child in
+    mask-not (a .table .now) (a .own .now) (a .other .now) (a .i) (k .result) (a .parity) (p .0) (p .1 .0) (k .ensures) (p .1 .1 .1) (l .result) (l .ensures .0) (omega arith) (omega arith)
 
 mul-m : tie.Need-mul-m
 mul-m c = omega arith
@@ -70,15 +72,18 @@ returns-5 : tie.Need-returns-5
 returns-5 c =
     let a = c .before .before .before .before .before .before .before .before .before .before .before .before .before .args in
     let p = c .before .before .before .before .before .before .before .before .before .before .before .before .before .pre in
-    mask-two (a .table .now) (a .own .now) (a .other .now) (a .i) (c .before .before .before .before .before .before .before .before .before .kind .result) (a .parity) (p .0) (p .1 .0) (c .before .before .before .before .before .before .before .before .before .kind .ensures)
-    (p .1 .1 .1) (c .before .before .before .before .before .left-child .result) (c .before .before .before .before .before .left-child .ensures .0) (omega arith) (omega arith) (c .before .right-child .result) (c .before .right-child .ensures .0)
+    let k = c .before .before .before .before .before .before .before .before .before .kind in
+    let l = c .before .before .before .before .before .left-child in
+    let r = c .before .right-child in
+    mask-two (a .table .now) (a .own .now) (a .other .now) (a .i) (k .result) (a .parity) (p .0) (p .1 .0) (k .ensures) (p .1 .1 .1) (l .result) (l .ensures .0) (omega arith) (omega arith) (r .result) (r .ensures .0)
 
 returns-6 : tie.Need-returns-6
 returns-6 c =
     let a = c .before .before .before .before .before .before .before .before .before .before .before .before .args in
     let p = c .before .before .before .before .before .before .before .before .before .before .before .before .pre in
-    mask-step (a .table .now) (a .own .now) (a .other .now) (a .i) (c .before .before .before .before .before .before .before .before .kind .result) (a .parity) (p .0) (p .1 .0) (c .before .before .before .before .before .before .before .before .kind .ensures)
-    (p .1 .1 .1) (c .before .before .before .before .left-child .result) (c .before .before .before .before .left-child .ensures .0) (omega arith) (omega arith)
+    let k = c .before .before .before .before .before .before .before .before .kind in
+    let l = c .before .before .before .before .left-child in
+    mask-step (a .table .now) (a .own .now) (a .other .now) (a .i) (k .result) (a .parity) (p .0) (p .1 .0) (k .ensures) (p .1 .1 .1) (l .result) (l .ensures .0) (omega arith) (omega arith)
 
 number-requires-2 : tie.Need-number-requires-2
 number-requires-2 c κs = let p = c .before .before .before .before .before .before .before .before .before .before .before .before .pre in (p .0 .fits, (p .1 .0, limit-loop _ (omega arith) (omega arith)))
@@ -90,8 +95,11 @@ returns-7 : tie.Need-returns-7
 returns-7 c =
     let a = c .before .before .before .before .before .before .before .before .before .before .before .before .before .before .args in
     let p = c .before .before .before .before .before .before .before .before .before .before .before .before .before .before .pre in
-    mask-loop (a .table .now) (a .own .now) (a .other .now) (a .i) (c .before .before .before .before .before .before .before .before .before .before .kind .result) (a .parity) (p .0) (p .1 .0) (c .before .before .before .before .before .before .before .before .before .before .kind .ensures)
-    (p .1 .1 .1) (c .before .before .before .before .before .before .left-child .result) (c .before .before .before .before .before .before .left-child .ensures .0) (omega arith) (omega arith) (c .before .number2 .result) _ (c .before .number2 .ensures .0) (c .before .number2 .ensures .1) (c .without .ensures)
+    let k = c .before .before .before .before .before .before .before .before .before .before .kind in
+    let l = c .before .before .before .before .before .before .left-child in
+    let n = c .before .number2 in
+    mask-loop (a .table .now) (a .own .now) (a .other .now) (a .i) (k .result) (a .parity) (p .0) (p .1 .0) (k .ensures) (p .1 .1 .1) (l .result) (l .ensures .0) (omega arith) (omega arith)
+    (n .result) _ (n .ensures .0) (n .ensures .1) (c .without .ensures)
 
 pub mask-spec : {M : Type 1} → statement M
 mask-spec =
