@@ -51,22 +51,21 @@ fn mask(table: &[u8], own: &[u16], other: &[u16], parity: bool, i: usize) -> u16
     if k < 5 {
         return variable(condition::number(table, i), parity);
     }
-    if k < 6 {
-        return other[condition::left_child(table, i)];
+    if 11 < k {
+        return 0;
     }
+    let l = condition::left_child(table, i);
+    if k < 6 {
+        return other[l];
+    }
+    let m = own[l];
     if k < 8 {
-        return own[condition::left_child(table, i)] | own[condition::right_child(table, i)];
+        return m | own[condition::right_child(table, i)];
     }
     if k < 10 {
-        return own[condition::left_child(table, i)];
+        return m;
     }
-    if k < 12 {
-        return without(
-            own[condition::left_child(table, i)],
-            condition::number(table, i),
-        );
-    }
-    0
+    without(m, condition::number(table, i))
 }
 
 // A variable stands under no not, so the odd mask is empty.

@@ -28,8 +28,10 @@ wide-requires c κs = search needs
 returns-2 : tie.Need-returns-2
 returns-2 c =
     let a = c .before .before .before .before .before .before .before .args in
+    let x = nodeAt (a .table .now) (a .i) in
     let p = c .before .wide .ensures .0 ∙ c .before .before .param .ensures in
-    sym (unfit-param (a .i) _ (nodeAt (a .table .now) (a .i)) (c .before .before .before .before .before .kind .ensures) (c .before .before .before .before .if1 .left) _ _ p (c .before .before .before .param-limit .ensures) (c .if2 .taken))
+    let m = c .before .before .before .param-limit .ensures in
+    sym (unfit-param (a .i) _ x (c .before .before .before .before .before .kind .ensures) (c .before .before .before .before .if1 .left) _ _ p m (c .if2 .taken))
 
 child-limit-requires : tie.Need-child-limit-requires
 child-limit-requires c κs = search needs
@@ -40,10 +42,11 @@ left-requires c κs = search needs
 returns-3 : tie.Need-returns-3
 returns-3 c =
     let a = c .before .before .before .before .before .before .before .before .before .before .args in
+    let x = nodeAt (a .table .now) (a .i) in
     let p = c .before .before .before .before .wide .ensures .0 ∙ c .before .before .before .before .before .param .ensures in
+    let m = c .before .before .before .before .before .before .param-limit .ensures in
     let g : c .before .before .child-limit .result ≤ c .before .left .result = omega arith in
-    sym (unfit-left (a .i) _ (nodeAt (a .table .now) (a .i)) (c .before .before .before .before .before .before .before .before .kind .ensures) (c .before .before .before .before .before .before .before .if1 .left) _ _ p (c .before .before .before .before .before .before .param-limit .ensures) (c .before .before .before .if2 .left)
-    _ _ (c .before .left .ensures .0) (c .before .before .child-limit .ensures) g)
+    sym (unfit-left (a .i) _ x (c .before .before .before .before .before .before .before .before .kind .ensures) (c .before .before .before .before .before .before .before .if1 .left) _ _ p m (c .before .before .before .if2 .left) _ _ (c .before .left .ensures .0) (c .before .before .child-limit .ensures) g)
 
 right-requires : tie.Need-right-requires
 right-requires c κs = search needs
@@ -54,10 +57,12 @@ child-limit-requires-2 c κs = search needs
 returns-4 : tie.Need-returns-4
 returns-4 c =
     let a = c .before .before .before .before .before .before .before .before .before .before .before .before .args in
+    let x = nodeAt (a .table .now) (a .i) in
     let p = c .before .before .before .before .before .before .wide .ensures .0 ∙ c .before .before .before .before .before .before .before .param .ensures in
+    let m = c .before .before .before .before .before .before .before .before .param-limit .ensures in
     let g : c .before .before .before .left .result < c .before .before .before .before .child-limit .result = omega arith in
-    fits-right (a .i) _ (nodeAt (a .table .now) (a .i)) (c .before .before .before .before .before .before .before .before .before .before .kind .ensures) (c .before .before .before .before .before .before .before .before .before .if1 .left) _ _ p (c .before .before .before .before .before .before .before .before .param-limit .ensures) (c .before .before .before .before .before .if2 .left)
-    _ _ (c .before .before .before .left .ensures .0) (c .before .before .before .before .child-limit .ensures) _ _ (c .before .right .ensures .0) (c .child-limit2 .ensures) g
+    let r = fits-right (a .i) _ x (c .before .before .before .before .before .before .before .before .before .before .kind .ensures) (c .before .before .before .before .before .before .before .before .before .if1 .left) _ _ p m (c .before .before .before .before .before .if2 .left) _ _ (c .before .before .before .left .ensures .0) (c .before .before .before .before .child-limit .ensures) in
+    r _ _ (c .before .right .ensures .0) (c .child-limit2 .ensures) g
 
 pub node-fits-spec : {M : Type 1} → statement M
 node-fits-spec =

@@ -33,8 +33,14 @@ at-drop S i j e = getD-drop 6 S i 0 ∙ ap (λ (k : ℕ). getD S k 0) e
 pub node-drop : (S : List ℕ) (n : ℕ) → nodeAt (drop 6 S) n ≡ nodeAt S (suc n)
 unfolding nodeAt
 node-drop S n =
-    rw (at-drop S (6 * n) (6 * suc n) (omega arith), at-drop S (6 * n + 1) (6 * suc n + 1) (omega arith), at-drop S (6 * n + 2) (6 * suc n + 2) (omega arith), at-drop S (6 * n + 2 + 1) (6 * suc n + 2 + 1) (omega arith), at-drop S (6 * n + 4) (6 * suc n + 4) (omega arith), at-drop S (6 * n + 4 + 1) (6 * suc n + 4 + 1) (omega arith))
-    refl
+    rw (
+      at-drop S (6 * n) (6 * suc n) (omega arith),
+      at-drop S (6 * n + 1) (6 * suc n + 1) (omega arith),
+      at-drop S (6 * n + 2) (6 * suc n + 2) (omega arith),
+      at-drop S (6 * n + 2 + 1) (6 * suc n + 2 + 1) (omega arith),
+      at-drop S (6 * n + 4) (6 * suc n + 4) (omega arith),
+      at-drop S (6 * n + 4 + 1) (6 * suc n + 4 + 1) (omega arith),
+    ) refl
 
 -- one node more
 pub nodes-more : (S : List ℕ) (n : ℕ) → nodes S (suc n) ≡ nodes S n ++ (nodeAt S n ∷ [])

@@ -66,7 +66,8 @@ node-limits i x = ap (λ (b : Bool). below (x .kind) 13 && b) (kind-limits i x (
 -- ---- the bounds by the kind's number
 
 -- by the kinds 0 to 11, and 12 with what is read as it
-pub each-kind : (P : ℕ → Type 0) → P 0 → P 1 → P 2 → P 3 → P 4 → P 5 → P 6 → P 7 → P 8 → P 9 → P 10 → P 11 → ((k : ℕ) → 12 ≤ k → P k) → (k : ℕ) → P k
+pub each-kind : (P : ℕ → Type 0) → P 0 → P 1 → P 2 → P 3 → P 4 → P 5 → P 6 → P 7 → P 8 → P 9 → P 10 → P 11
+    → ((k : ℕ) → 12 ≤ k → P k) → (k : ℕ) → P k
 each-kind P a0 a1 a2 a3 a4 a5 a6 a7 a8 a9 a10 a11 r zero = a0
 each-kind P a0 a1 a2 a3 a4 a5 a6 a7 a8 a9 a10 a11 r (suc zero) = a1
 each-kind P a0 a1 a2 a3 a4 a5 a6 a7 a8 a9 a10 a11 r (suc (suc zero)) = a2
@@ -83,9 +84,12 @@ each-kind P a0 a1 a2 a3 a4 a5 a6 a7 a8 a9 a10 a11 r (suc (suc (suc (suc (suc (su
 
 pub kind-past : (k : ℕ) → 12 ≤ k → kindOf k ≡ leaf kSlot
 unfolding kindOf
-kind-past k h = let e : suc (suc (suc (suc (suc (suc (suc (suc (suc (suc (suc (suc (k - 12)))))))))))) ≡ k = omega arith in subst (λ (j : ℕ). kindOf j ≡ leaf kSlot) e refl
+kind-past k h =
+    let e : suc (suc (suc (suc (suc (suc (suc (suc (suc (suc (suc (suc (k - 12)))))))))))) ≡ k = omega arith in
+    subst (λ (j : ℕ). kindOf j ≡ leaf kSlot) e refl
 
-pub number-limit : (k : ℕ) → paramLimit (kindOf k) ≡ cond (ltb k 2) 1 (cond (ltb k 5) 16 (cond (ltb k 8) 1 (cond (ltb k 10) 17 (cond (ltb k 12) 16 256))))
+pub number-limit : (k : ℕ) → paramLimit (kindOf k)
+    ≡ cond (ltb k 2) 1 (cond (ltb k 5) 16 (cond (ltb k 8) 1 (cond (ltb k 10) 17 (cond (ltb k 12) 16 256))))
 unfolding kindOf paramLimit
 number-limit =
     each-kind _ refl refl refl refl refl refl refl refl refl refl refl refl
@@ -103,11 +107,15 @@ limit-loop k h l =
 
 pub left-limit : (i k : ℕ) → leftLimit (kindOf k) i ≡ childLimit 5 12 k i
 unfolding kindOf leftLimit
-left-limit i = each-kind _ refl refl refl refl refl refl refl refl refl refl refl refl (λ k h. rw (kind-past k h, le-ltb k 5 (omega arith), le-ltb k 12 h) refl)
+left-limit i =
+    each-kind _ refl refl refl refl refl refl refl refl refl refl refl refl
+    (λ k h. rw (kind-past k h, le-ltb k 5 (omega arith), le-ltb k 12 h) refl)
 
 pub right-limit : (i k : ℕ) → rightLimit (kindOf k) i ≡ childLimit 6 8 k i
 unfolding kindOf rightLimit
-right-limit i = each-kind _ refl refl refl refl refl refl refl refl refl refl refl refl (λ k h. rw (kind-past k h, le-ltb k 6 (omega arith), le-ltb k 8 (omega arith)) refl)
+right-limit i =
+    each-kind _ refl refl refl refl refl refl refl refl refl refl refl refl
+    (λ k h. rw (kind-past k h, le-ltb k 6 (omega arith), le-ltb k 8 (omega arith)) refl)
 
 -- ---- what a node that fits has: children that are lower, and a parameter below its kind's bound
 

@@ -1,3 +1,5 @@
+use mathlib.Core.Path.{_∙_}
+use lib.ListN.{length, length-set}
 -- `even_rule::descend` and `even_rule::visit`, a cycle of calls, meet their contracts. The measure: twice the node's number, and 1 more for `visit`.
 use Rattle.even_rule.specs.Laws.Pass.{children-swap, was-done, no-child, again, one-child, two-children, finish}
 use lib.ListN.{length-set}
@@ -45,27 +47,26 @@ descend-kind-requires t c κs = c .before .before .before .before .pre .1 .1
 
 descend-returns : (t : ℕ) → descend-lts.Need-returns (descend-calls t) (descend-at t) descend.Post
 descend-returns t c =
-    let a = c .before .before .before .before .before .before .args in
-    let p = c .before .before .before .before .before .before .pre .1 in
+    let s = c .before .before .before .before .before .before in
+    let a = s .args in
+    let p = s .pre .1 in
     no-child (a .table .now) (a .done .now) (a .evens .now) (a .odds .now) (p .0) (a .i) (λ h l. omega arith)
 
 descend-returns-2 : (t : ℕ) → descend-lts.Need-returns-2 (descend-calls t) (descend-at t) descend.Post
 descend-returns-2 t c =
-    let a = c .before .before .before .before .before .before .before .args in
-    let p = c .before .before .before .before .before .before .before .pre .1 in
+    let s = c .before .before .before .before .before .before .before in
+    let a = s .args in
+    let p = s .pre .1 in
     no-child (a .table .now) (a .done .now) (a .evens .now) (a .odds .now) (p .0) (a .i) (λ h l. omega arith)
 
 descend-left-child-requires : (t : ℕ) → descend-lts.Need-left-child-requires (descend-calls t) (descend-at t) descend.Post
-descend-left-child-requires t c κs =
-    let a = c .before .before .before .before .before .before .before .args in
-    let p = c .before .before .before .before .before .before .before .pre .1 in
-    (p .0 .fit .fits, (p .1, omega arith))
+descend-left-child-requires t c κs = let p = c .before .before .before .before .before .before .before .pre .1 in (p .0 .fit .fits, (p .1, omega arith))
 
 descend-visit-requires : (t : ℕ) → descend-lts.Need-visit-requires (descend-calls t) (descend-at t) descend.Post
 descend-visit-requires t c κs =
-    let a = c .before .before .before .before .before .before .before .before .before .before .before .args in
-    let p = c .before .before .before .before .before .before .before .before .before .before .before .pre .1 in
-    (omega (arith, c .before .before .before .before .before .before .before .before .before .before .before .pre .0, c .before .before .before .left-child .ensures), (p .0, omega (arith, p .1, c .before .before .before .left-child .ensures)))
+    let p = c .before .before .before .before .before .before .before .before .before .before .before .pre in
+    let l = c .before .before .before .left-child .ensures in
+    (omega (arith, p .0, l), (p .1 .0, omega (arith, p .1 .1, l)))
 
 descend-same-length : (t : ℕ) → descend-lts.Need-same-length (descend-calls t) (descend-at t) descend.Post
 descend-same-length t c = c .before .before .before .before .before .before .before .visit .kept .1 .0
@@ -78,19 +79,13 @@ descend-same-length-3 t c = c .before .before .before .before .before .before .b
 
 descend-returns-3 : (t : ℕ) → descend-lts.Need-returns-3 (descend-calls t) (descend-at t) descend.Post
 descend-returns-3 t c =
-    let a = c .before .before .before .before .before .before .before .before .before .before .before .before .before .before .before
-    .before .before .before .before .args in
-    let p = c .before .before .before .before .before .before .before .before .before .before .before .before .before .before .before
-    .before .before .before .before .pre .1 in
-    one-child (a .table .now) (a .done .now) (a .evens .now) (a .odds .now) (p .0) (a .i)
-    (c .before .before .before .before .before .before .before .visit .last .1 .0)
-    (c .before .before .before .before .before .before .before .visit .last .1 .1 .0)
-    (c .before .before .before .before .before .before .before .visit .last .1 .1 .1 .0)
-    (c .before .before .before .before .before .before .before .before .before .before .before .left-child .result)
-    (c .before .before .before .before .before .before .before .visit .ensures)
-    (omega (arith, p .1, c .before .before .before .before .before .before .before .before .before .before .before .left-child .ensures))
-    (c .before .before .before .before .before .before .before .before .before .before .before .left-child .ensures .0)
-    (λ h l. omega (arith, c .before .before .before .before .before .before .before .before .before .before .before .before .before .before .kind .ensures, c .if3 .taken))
+    let s = c .before .before .before .before .before .before .before .before .before .before .before .before .before .before .before .before .before .before .before in
+    let a = s .args in
+    let p = s .pre .1 in
+    let v = c .before .before .before .before .before .before .before .visit in
+    let l = c .before .before .before .before .before .before .before .before .before .before .before .left-child in
+    one-child (a .table .now) (a .done .now) (a .evens .now) (a .odds .now) (p .0) (a .i) (v .last .1 .0) (v .last .1 .1 .0) (v .last .1 .1 .1 .0) (l .result) (v .ensures)
+    (omega (arith, p .1, l .ensures)) (l .ensures .0) (λ h l. omega (arith, c .before .before .before .before .before .before .before .before .before .before .before .before .before .before .kind .ensures, c .if3 .taken))
 
 descend-same-length-4 : (t : ℕ) → descend-lts.Need-same-length-4 (descend-calls t) (descend-at t) descend.Post
 descend-same-length-4 t c = c .before .before .before .before .before .before .before .before .visit .kept .1 .0
@@ -103,68 +98,50 @@ descend-same-length-6 t c = c .before .before .before .before .before .before .b
 
 descend-returns-4 : (t : ℕ) → descend-lts.Need-returns-4 (descend-calls t) (descend-at t) descend.Post
 descend-returns-4 t c =
-    let a = c .before .before .before .before .before .before .before .before .before .before .before .before .before .before .before
-    .before .before .before .before .before .args in
-    let p = c .before .before .before .before .before .before .before .before .before .before .before .before .before .before .before
-    .before .before .before .before .before .pre .1 in
-    one-child (a .table .now) (a .done .now) (a .evens .now) (a .odds .now) (p .0) (a .i)
-    (c .before .before .before .before .before .before .before .before .visit .last .1 .0)
-    (c .before .before .before .before .before .before .before .before .visit .last .1 .1 .0)
-    (c .before .before .before .before .before .before .before .before .visit .last .1 .1 .1 .0)
-    (c .before .before .before .before .before .before .before .before .before .before .before .before .left-child .result)
-    (c .before .before .before .before .before .before .before .before .visit .ensures)
-    (omega (arith, p .1, c .before .before .before .before .before .before .before .before .before .before .before .before .left-child .ensures))
-    (c .before .before .before .before .before .before .before .before .before .before .before .before .left-child .ensures .0)
-    (λ h l. omega (arith, c .before .before .before .before .before .before .before .before .before .before .before .before .before .before .before .kind .ensures, c .if4 .taken))
+    let s = c .before .before .before .before .before .before .before .before .before .before .before .before .before .before .before .before .before .before .before .before in
+    let a = s .args in
+    let p = s .pre .1 in
+    let v = c .before .before .before .before .before .before .before .before .visit in
+    let l = c .before .before .before .before .before .before .before .before .before .before .before .before .left-child in
+    one-child (a .table .now) (a .done .now) (a .evens .now) (a .odds .now) (p .0) (a .i) (v .last .1 .0) (v .last .1 .1 .0) (v .last .1 .1 .1 .0) (l .result) (v .ensures)
+    (omega (arith, p .1, l .ensures)) (l .ensures .0) (λ h l. omega (arith, c .before .before .before .before .before .before .before .before .before .before .before .before .before .before .before .kind .ensures, c .if4 .taken))
 
 descend-right-child-requires : (t : ℕ) → descend-lts.Need-right-child-requires (descend-calls t) (descend-at t) descend.Post
 descend-right-child-requires t c κs =
-    let a = c .before .before .before .before .before .before .before .before .before .before .before .before .before .before .before
-    .before .before .before .before .before .args in
-    let p = c .before .before .before .before .before .before .before .before .before .before .before .before .before .before .before
-    .before .before .before .before .before .pre .1 in
+    let p = c .before .before .before .before .before .before .before .before .before .before .before .before .before .before .before .before .before .before .before .before .pre .1 in
     (p .0 .fit .fits, (p .1, omega (arith, c .before .before .before .before .before .before .before .before .before .before .before .before .before .before .before .kind .ensures, c .before .if3 .left, c .if4 .left)))
 
 descend-visit-requires-2 : (t : ℕ) → descend-lts.Need-visit-requires-2 (descend-calls t) (descend-at t) descend.Post
 descend-visit-requires-2 t c κs =
-    let a = c .before .before .before .before .before .before .before .before .before .before .before .before .before .before .before
-    .before .before .before .before .before .before .before .before .before .args in
-    let p = c .before .before .before .before .before .before .before .before .before .before .before .before .before .before .before
-    .before .before .before .before .before .before .before .before .before .pre .1 in
-    (omega (arith, c .before .before .before .before .before .before .before .before .before .before .before .before .before .before .before .before .before .before .before .before .before .before .before .before .pre .0, c .before .before .before .right-child .ensures), (again (a .table .now) (a .done .now) (a .evens .now) (a .odds .now) (p .0) (a .i) (c .before .before .before .before .before .before .before .before .before .before .before .before .visit .last .1 .0) (c .before .before .before .before .before .before .before .before .before .before .before .before .visit .last .1 .1 .0) (c .before .before .before .before .before .before .before .before .before .before .before .before .visit .last .1 .1 .1 .0) (c .before .before .before .before .before .before .before .before .before .before .before .before .before .before .before .before .left-child .result) (c .before .before .before .before .before .before .before .before .before .before .before .before .visit .ensures) (c .before .before .before .before .before .before .before .before .before .before .before .before .visit .kept .1 .0) (c .before .before .before .before .before .before .before .before .before .before .before .before .visit .kept .1 .1 .0) (c .before .before .before .before .before .before .before .before .before .before .before .before .visit .kept .1 .1 .1 .0), omega (arith, p .1, c .before .before .before .right-child .ensures)))
+    let s = c .before .before .before .before .before .before .before .before .before .before .before .before .before .before .before .before .before .before .before .before .before .before .before .before in
+    let a = s .args in
+    let p = s .pre .1 in
+    let v = c .before .before .before .before .before .before .before .before .before .before .before .before .visit in
+    let l = c .before .before .before .before .before .before .before .before .before .before .before .before .before .before .before .before .left-child in
+    let r = c .before .before .before .right-child .ensures in
+    let ready = again (a .table .now) (a .done .now) (a .evens .now) (a .odds .now) (p .0) (a .i) (v .last .1 .0) (v .last .1 .1 .0) (v .last .1 .1 .1 .0) (l .result) (v .ensures) (v .kept .1 .0) (v .kept .1 .1 .0) (v .kept .1 .1 .1 .0) in
+    (omega (arith, s .pre .0, r), (ready, omega (arith, p .1, r)))
 
 descend-same-length-7 : (t : ℕ) → descend-lts.Need-same-length-7 (descend-calls t) (descend-at t) descend.Post
-descend-same-length-7 t c = omega (arith, c .before .before .before .before .before .before .before .before .before .before .before .before .before .before .before .before .before .before .before .visit .kept, c .before .before .before .before .before .before .visit2 .kept)
+descend-same-length-7 t c = c .before .before .before .before .before .before .visit2 .kept .1 .0 ∙ c .before .before .before .before .before .before .before .before .before .before .before .before .before .before .before .before .before .before .before .visit .kept .1 .0
 
 descend-same-length-8 : (t : ℕ) → descend-lts.Need-same-length-8 (descend-calls t) (descend-at t) descend.Post
-descend-same-length-8 t c = omega (arith, c .before .before .before .before .before .before .before .before .before .before .before .before .before .before .before .before .before .before .before .visit .kept, c .before .before .before .before .before .before .visit2 .kept)
+descend-same-length-8 t c = c .before .before .before .before .before .before .visit2 .kept .1 .1 .0 ∙ c .before .before .before .before .before .before .before .before .before .before .before .before .before .before .before .before .before .before .before .visit .kept .1 .1 .0
 
 descend-same-length-9 : (t : ℕ) → descend-lts.Need-same-length-9 (descend-calls t) (descend-at t) descend.Post
-descend-same-length-9 t c = omega (arith, c .before .before .before .before .before .before .before .before .before .before .before .before .before .before .before .before .before .before .before .visit .kept, c .before .before .before .before .before .before .visit2 .kept)
+descend-same-length-9 t c = c .before .before .before .before .before .before .visit2 .kept .1 .1 .1 .0 ∙ c .before .before .before .before .before .before .before .before .before .before .before .before .before .before .before .before .before .before .before .visit .kept .1 .1 .1 .0
 
 descend-returns-5 : (t : ℕ) → descend-lts.Need-returns-5 (descend-calls t) (descend-at t) descend.Post
 descend-returns-5 t c =
-    let a = c .before .before .before .before .before .before .before .before .before .before .before .before .before .before .before
-    .before .before .before .before .before .before .before .before .before .before .before .before .before .before .before .before
-    .args in
-    let p = c .before .before .before .before .before .before .before .before .before .before .before .before .before .before .before
-    .before .before .before .before .before .before .before .before .before .before .before .before .before .before .before .before .pre
-    .1 in
-    two-children (a .table .now) (a .done .now) (a .evens .now) (a .odds .now) (p .0) (a .i)
-    (c .before .before .before .before .before .before .before .before .before .before .before .before .before .before .before .before .before .before .before .visit .last .1 .0)
-    (c .before .before .before .before .before .before .before .before .before .before .before .before .before .before .before .before .before .before .before .visit .last .1 .1 .0)
-    (c .before .before .before .before .before .before .before .before .before .before .before .before .before .before .before .before .before .before .before .visit .last .1 .1 .1 .0)
-    (c .before .before .before .before .before .before .before .before .before .before .before .before .before .before .before .before .before .before .before .before .before .before .before .left-child .result)
-    (c .before .before .before .before .before .before .before .before .before .before .before .before .before .before .before .before .before .before .before .visit .ensures)
-    (omega (arith, p .1, c .before .before .before .before .before .before .before .before .before .before .before .before .before .before .before .before .before .before .before .before .before .before .before .left-child .ensures))
-    (c .before .before .before .before .before .before .before .before .before .before .before .before .before .before .before .before .before .before .before .before .before .before .before .left-child .ensures .0)
-    (c .before .before .before .before .before .before .visit2 .last .1 .0)
-    (c .before .before .before .before .before .before .visit2 .last .1 .1 .0)
-    (c .before .before .before .before .before .before .visit2 .last .1 .1 .1 .0)
-    (c .before .before .before .before .before .before .before .before .before .before .right-child .result)
-    (c .before .before .before .before .before .before .visit2 .ensures)
-    (omega (arith, p .1, c .before .before .before .before .before .before .before .before .before .before .right-child .ensures))
-    (c .before .before .before .before .before .before .before .before .before .before .right-child .ensures .0)
+    let s = c .before .before .before .before .before .before .before .before .before .before .before .before .before .before .before .before .before .before .before .before .before .before .before .before .before .before .before .before .before .before .before in
+    let a = s .args in
+    let p = s .pre .1 in
+    let v = c .before .before .before .before .before .before .before .before .before .before .before .before .before .before .before .before .before .before .before .visit in
+    let l = c .before .before .before .before .before .before .before .before .before .before .before .before .before .before .before .before .before .before .before .before .before .before .before .left-child in
+    let w = c .before .before .before .before .before .before .visit2 in
+    let r = c .before .before .before .before .before .before .before .before .before .before .right-child in
+    two-children (a .table .now) (a .done .now) (a .evens .now) (a .odds .now) (p .0) (a .i) (v .last .1 .0) (v .last .1 .1 .0) (v .last .1 .1 .1 .0) (l .result) (v .ensures) (omega (arith, p .1, l .ensures)) (l .ensures .0)
+    (w .last .1 .0) (w .last .1 .1 .0) (w .last .1 .1 .1 .0) (r .result) (w .ensures) (omega (arith, p .1, r .ensures)) (r .ensures .0)
 
 abbrev visit-calls : ℕ → visit-lts.Claims
 visit-calls t = (descend-below t, descend.Post, mask-reads.Asked, mask-reads.Learnt)
@@ -174,46 +151,44 @@ visit-slice-read-if1 t c = omega arith
 
 visit-returns : (t : ℕ) → visit-lts.Need-returns (visit-calls t) (visit-at t) visit.Post
 visit-returns t c =
-    let a = c .before .before .before .before .before .before .args in
-    let p = c .before .before .before .before .before .before .pre .1 in
+    let s = c .before .before .before .before .before .before in
+    let a = s .args in
+    let p = s .pre .1 in
     was-done (a .table .now) (a .done .now) (a .evens .now) (a .odds .now) (p .0) (a .i) (c .if1 .taken)
 
 visit-descend-requires : (t : ℕ) → visit-lts.Need-descend-requires (visit-calls t) (visit-at t) visit.Post
-visit-descend-requires t c κs =
-    let a = c .before .before .before .before .before .before .before .before .before .args in
-    let p = c .before .before .before .before .before .before .before .before .before .pre .1 in
-    (omega arith, p)
+visit-descend-requires t c κs = (omega arith, c .before .before .before .before .before .before .before .before .before .pre .1)
 
 visit-mask-requires : (t : ℕ) → visit-lts.Need-mask-requires (visit-calls t) (visit-at t) visit.Post
 visit-mask-requires t c κs =
-    let a = c .before .before .before .before .before .before .before .before .before .before .before .before .before .before .before
-    .before .before .before .args in
-    let p = c .before .before .before .before .before .before .before .before .before .before .before .before .before .before .before
-    .before .before .before .pre .1 in
-    (p .0 .fit, (p .1, (omega (arith, c .before .before .before .before .before .before .before .before .before .before .before .before .before .before .before .before .before .before .pre, c .before .before .before .before .before .before .before .before .descend .kept), c .before .before .before .before .before .before .before .before .descend .ensures .children)))
+    let s = c .before .before .before .before .before .before .before .before .before .before .before .before .before .before .before .before .before .before in
+    let a = s .args in
+    let p = s .pre .1 in
+    let d = c .before .before .before .before .before .before .before .before .descend in
+    (p .0 .fit, (p .1, (omega (arith, p .0, d .kept), d .ensures .children)))
 
 visit-mask-requires-2 : (t : ℕ) → visit-lts.Need-mask-requires-2 (visit-calls t) (visit-at t) visit.Post
 visit-mask-requires-2 t c κs =
-    let a = c .before .before .before .before .before .before .before .before .before .before .before .before .before .before .before
-    .before .before .before .before .before .before .args in
-    let p = c .before .before .before .before .before .before .before .before .before .before .before .before .before .before .before
-    .before .before .before .before .before .before .pre .1 in
-    (p .0 .fit, (p .1, (omega (arith, c .before .before .before .before .before .before .before .before .before .before .before .before .before .before .before .before .before .before .before .before .before .pre, c .before .before .before .before .before .before .before .before .before .before .before .descend .kept), children-swap (a .table .now) (c .before .before .before .before .before .before .before .before .before .before .before .descend .last .1 .1 .0) (c .before .before .before .before .before .before .before .before .before .before .before .descend .last .1 .1 .1 .0) (a .i) (c .before .before .before .before .before .before .before .before .before .before .before .descend .ensures .children))))
+    let s = c .before .before .before .before .before .before .before .before .before .before .before .before .before .before .before .before .before .before .before .before .before in
+    let a = s .args in
+    let p = s .pre .1 in
+    let d = c .before .before .before .before .before .before .before .before .before .before .before .descend in
+    (p .0 .fit, (p .1, (omega (arith, p .0, d .kept), children-swap (a .table .now) (d .last .1 .1 .0) (d .last .1 .1 .1 .0) (a .i) (d .ensures .children))))
 
 visit-mul-evens : (t : ℕ) → visit-lts.Need-mul-evens (visit-calls t) (visit-at t) visit.Post
-visit-mul-evens t c = omega (arith, c .before .before .before .before .before .before .before .before .before .before .before .before .before .before .before .before .before .before .before .before .before .before .pre, c .before .before .before .before .before .before .before .before .before .before .before .before .descend .kept)
+visit-mul-evens t c = omega (arith, c .before .before .before .before .before .before .before .before .before .before .before .before .before .before .before .before .before .before .before .before .before .before .pre .1, c .before .before .before .before .before .before .before .before .before .before .before .before .descend .kept)
 
 visit-slice-write-evens : (t : ℕ) → visit-lts.Need-slice-write-evens (visit-calls t) (visit-at t) visit.Post
-visit-slice-write-evens t c = omega (arith, c .before .before .before .before .before .before .before .before .before .before .before .before .before .before .before .before .before .before .before .before .before .before .pre, c .before .before .before .before .before .before .before .before .before .before .before .before .descend .kept)
+visit-slice-write-evens t c = omega (arith, c .before .before .before .before .before .before .before .before .before .before .before .before .before .before .before .before .before .before .before .before .before .before .pre .1, c .before .before .before .before .before .before .before .before .before .before .before .before .descend .kept)
 
 visit-mul-odds : (t : ℕ) → visit-lts.Need-mul-odds (visit-calls t) (visit-at t) visit.Post
-visit-mul-odds t c = omega (arith, c .before .before .before .before .before .before .before .before .before .before .before .before .before .before .before .before .before .before .before .before .before .before .pre, c .before .before .before .before .before .before .before .before .before .before .before .before .descend .kept)
+visit-mul-odds t c = omega (arith, c .before .before .before .before .before .before .before .before .before .before .before .before .before .before .before .before .before .before .before .before .before .before .pre .1, c .before .before .before .before .before .before .before .before .before .before .before .before .descend .kept)
 
 visit-slice-write-odds : (t : ℕ) → visit-lts.Need-slice-write-odds (visit-calls t) (visit-at t) visit.Post
-visit-slice-write-odds t c = omega (arith, c .before .before .before .before .before .before .before .before .before .before .before .before .before .before .before .before .before .before .before .before .before .before .pre, c .before .before .before .before .before .before .before .before .before .before .before .before .descend .kept)
+visit-slice-write-odds t c = omega (arith, c .before .before .before .before .before .before .before .before .before .before .before .before .before .before .before .before .before .before .before .before .before .before .pre .1, c .before .before .before .before .before .before .before .before .before .before .before .before .descend .kept)
 
 visit-slice-write-done : (t : ℕ) → visit-lts.Need-slice-write-done (visit-calls t) (visit-at t) visit.Post
-visit-slice-write-done t c = omega (arith, c .before .before .before .before .before .before .before .before .before .before .before .before .before .before .before .before .before .before .before .before .before .before .pre, c .before .before .before .before .before .before .before .before .before .before .before .before .descend .kept)
+visit-slice-write-done t c = omega (arith, c .before .before .before .before .before .before .before .before .before .before .before .before .before .before .before .before .before .before .before .before .before .before .pre .1, c .before .before .before .before .before .before .before .before .before .before .before .before .descend .kept)
 
 visit-same-length : (t : ℕ) → visit-lts.Need-same-length (visit-calls t) (visit-at t) visit.Post
 visit-same-length t c = simp length-set (omega (arith, c .before .before .before .before .before .before .before .before .before .before .before .before .descend .kept))
@@ -226,19 +201,13 @@ visit-same-length-3 t c = simp length-set (omega (arith, c .before .before .befo
 
 visit-returns-2 : (t : ℕ) → visit-lts.Need-returns-2 (visit-calls t) (visit-at t) visit.Post
 visit-returns-2 t c =
-    let a = c .before .before .before .before .before .before .before .before .before .before .before .before .before .before .before
-    .before .before .before .before .before .before .before .args in
-    let p = c .before .before .before .before .before .before .before .before .before .before .before .before .before .before .before
-    .before .before .before .before .before .before .before .pre .1 in
-    finish (a .table .now) (a .done .now)
-    (c .before .before .before .before .before .before .before .before .before .before .before .before .descend .last .1 .0)
-    (c .before .before .before .before .before .before .before .before .before .before .before .before .descend .last .1 .1 .0)
-    (c .before .before .before .before .before .before .before .before .before .before .before .before .descend .last .1 .1 .1 .0)
-    (a .i) (c .before .before .before .before .before .before .before .before .before .before .before .before .descend .ensures)
-    (c .before .before .before .mask .result) (c .mask2 .result) (c .before .before .before .mask .ensures) (c .mask2 .ensures)
-    (omega (arith, c .before .before .before .before .before .before .before .before .before .before .before .before .before .before .before .before .before .before .before .before .before .before .pre, c .before .before .before .before .before .before .before .before .before .before .before .before .descend .kept))
-    (omega (arith, c .before .before .before .before .before .before .before .before .before .before .before .before .before .before .before .before .before .before .before .before .before .before .pre, c .before .before .before .before .before .before .before .before .before .before .before .before .descend .kept))
-    (omega (arith, c .before .before .before .before .before .before .before .before .before .before .before .before .before .before .before .before .before .before .before .before .before .before .pre, c .before .before .before .before .before .before .before .before .before .before .before .before .descend .kept))
+    let s = c .before .before .before .before .before .before .before .before .before .before .before .before .before .before .before .before .before .before .before .before .before .before in
+    let a = s .args in
+    let p = s .pre .1 in
+    let d = c .before .before .before .before .before .before .before .before .before .before .before .before .descend in
+    let long : (a .i < length (d .last .1 .0)) × (a .i < length (d .last .1 .1 .0)) × (a .i < length (d .last .1 .1 .1 .0)) = omega (arith, p, d .kept) in
+    finish (a .table .now) (a .done .now) (d .last .1 .0) (d .last .1 .1 .0) (d .last .1 .1 .1 .0) (a .i) (d .ensures) (c .before .before .before .mask .result)
+    (c .mask2 .result) (c .before .before .before .mask .ensures) (c .mask2 .ensures) (long .0) (long .1) (long .2)
 
 pub +descend+visit-spec : {M : Type 1} → statement M
 +descend+visit-spec = close μ-descend μ-visit (λ t. descend-lts.spec (descend-calls t)

@@ -45,16 +45,17 @@ returns-2 : tie.Need-returns-2
 returns-2 c =
     let a = c .before .before .before .before .before .before .before .before .before .before .args in
     let p = c .before .before .before .before .before .before .before .before .before .before .pre in
-    answer-8 (a .table .now) (c .before .before .before .before .before .before .zero .last .0)
-    (c .before .before .before .before .before .before .zero .ensures ∙ ap (λ (n : ℕ). replicate n 0) p)
-    (sym (c .before .before .before .size-fits .ensures) ∙ not-false _ (c .before .before .if1 .left)) (c .before .first-unfit .result)
-    (c .before .first-unfit .ensures) (c .if2 .taken)
+    let zeros = c .before .before .before .before .before .before .zero .ensures ∙ ap (λ (n : ℕ). replicate n 0) p in
+    let size = sym (c .before .before .before .size-fits .ensures) ∙ not-false _ (c .before .before .if1 .left) in
+    answer-8 (a .table .now) (c .before .before .before .before .before .before .zero .last .0) zeros size (c .before .first-unfit .result) (c .before .first-unfit .ensures) (c .if2 .taken)
 
 check-rules-requires : tie.Need-check-rules-requires
 check-rules-requires c κs =
     let a = c .before .before .before .before .before .before .before .before .before .before .before .args in
     let p = c .before .before .before .before .before .before .before .before .before .before .before .pre in
-    (sym (c .before .before .before .before .size-fits .ensures) ∙ not-false _ (c .before .before .before .if1 .left), (all-fit (a .table .now) (c .before .before .first-unfit .result) (c .before .before .first-unfit .ensures) (c .before .if2 .left), (c .before .before .before .before .before .before .before .zero .ensures ∙ ap (λ (n : ℕ). replicate n 0) p)))
+    let zeros = c .before .before .before .before .before .before .before .zero .ensures ∙ ap (λ (n : ℕ). replicate n 0) p in
+    let size = sym (c .before .before .before .before .size-fits .ensures) ∙ not-false _ (c .before .before .before .if1 .left) in
+    (size, (all-fit (a .table .now) (c .before .before .first-unfit .result) (c .before .before .first-unfit .ensures) (c .before .if2 .left), zeros))
 
 same-length-3 : tie.Need-same-length-3
 same-length-3 c = search needs

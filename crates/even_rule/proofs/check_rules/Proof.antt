@@ -32,8 +32,7 @@ visit-all-requires : tie.Need-visit-all-requires
 visit-all-requires c κs =
     let a = c .before .before .before .before .before .before .before .before .args in
     let p = c .before .before .before .before .before .before .before .before .pre in
-    rw
-    (c .before .before .before .before .before .no-flags .ensures, c .before .before .before .before .no-masks .ensures, c .before .before .before .no-masks2 .ensures)
+    rw (c .before .before .before .before .before .no-flags .ensures, c .before .before .before .before .no-masks .ensures, c .before .before .before .no-masks2 .ensures)
     (none-done (a .table .now) (fit (a .table .now) (p .0) (p .1 .0)))
 
 slice-aggregate-first-uneven : tie.Need-slice-aggregate-first-uneven
@@ -43,7 +42,9 @@ first-uneven-requires : tie.Need-first-uneven-requires
 first-uneven-requires c κs =
     let a = c .before .before .before .before .before .before .before .before .before .before .before .before .before .args in
     let p = c .before .before .before .before .before .before .before .before .before .before .before .before .before .pre in
-    (fit (a .table .now) (p .0) (p .1 .0), (c .before .before .before .before .visit-all .kept .1 .1 .1 .0 ∙ ap length (c .before .before .before .before .before .before .before .before .no-masks2 .ensures) ∙ length-replicate {A = ℕ} 2048 0, rows-odds (a .table .now) (c .before .before .before .before .visit-all .last .1 .1 .0) (c .before .before .before .before .visit-all .last .1 .1 .1 .0) (c .before .before .before .before .visit-all .ensures)))
+    let v = c .before .before .before .before .visit-all in
+    let long = v .kept .1 .1 .1 .0 ∙ ap length (c .before .before .before .before .before .before .before .before .no-masks2 .ensures) ∙ length-replicate {A = ℕ} 2048 0 in
+    (fit (a .table .now) (p .0) (p .1 .0), (long, rows-odds (a .table .now) (v .last .1 .1 .0) (v .last .1 .1 .1 .0) (v .ensures)))
 
 cast-t22 : tie.Need-cast-t22
 cast-t22 c =
@@ -110,16 +111,11 @@ cast-t31 c =
 
 returns-2 : tie.Need-returns-2
 returns-2 c =
-    let a = c .before .before .before .before .before .before .before .before .before .before .before .before .before .before .before
-    .before .before .args in
-    let p = c .before .before .before .before .before .before .before .before .before .before .before .before .before .before .before
-    .before .before .pre in
-    answer-10 (a .table .now) (a .free .now) (p .1 .1) (p .0) (p .1 .0) (c .before .before .before .first-uneven .result)
-    (c .before .before .before .first-uneven .ensures) (c .before .before .if1 .left)
-    (c .before .before .before .before .before .before .before .before .visit-all .last .1 .1 .0)
-    (c .before .before .before .before .before .before .before .before .visit-all .last .1 .1 .1 .0)
-    (c .before .before .before .before .before .before .before .before .visit-all .ensures) (c .before .no-free .result)
-    (c .before .no-free .ensures) (c .if2 .taken)
+    let a = c .before .before .before .before .before .before .before .before .before .before .before .before .before .before .before .before .before .args in
+    let p = c .before .before .before .before .before .before .before .before .before .before .before .before .before .before .before .before .before .pre in
+    let v = c .before .before .before .before .before .before .before .before .visit-all in
+    answer-10 (a .table .now) (a .free .now) (p .1 .1) (p .0) (p .1 .0) (c .before .before .before .first-uneven .result) (c .before .before .before .first-uneven .ensures)
+    (c .before .before .if1 .left) (v .last .1 .1 .0) (v .last .1 .1 .1 .0) (v .ensures) (c .before .no-free .result) (c .before .no-free .ensures) (c .if2 .taken)
 
 slice-aggregate-unite : tie.Need-slice-aggregate-unite
 slice-aggregate-unite c = search needs
@@ -129,33 +125,25 @@ slice-aggregate-unite-2 c = search needs
 
 unite-requires : tie.Need-unite-requires
 unite-requires c κs =
-    let a = c .before .before .before .before .before .before .before .before .before .before .before .before .before .before .before
-    .before .before .before .before .before .args in
-    let p = c .before .before .before .before .before .before .before .before .before .before .before .before .before .before .before
-    .before .before .before .before .before .pre in
+    let a = c .before .before .before .before .before .before .before .before .before .before .before .before .before .before .before .before .before .before .before .before .args in
+    let p = c .before .before .before .before .before .before .before .before .before .before .before .before .before .before .before .before .before .before .before .before .pre in
     let s = size-out (length (a .table .now)) (p .0) in
-    (omega (arith, s), c .before .before .before .before .before .before .before .before .before .before .before .visit-all .kept .1 .1 .0 ∙ ap length (c .before .before .before .before .before .before .before .before .before .before .before .before .before .before .before .before .no-masks .ensures) ∙ length-replicate {A = ℕ} 2048 0, c .before .before .before .before .before .before .before .before .before .before .before .visit-all .kept .1 .1 .1 .0 ∙ ap length (c .before .before .before .before .before .before .before .before .before .before .before .before .before .before .before .no-masks2 .ensures) ∙ length-replicate {A = ℕ} 2048 0, ap length (p .1 .1) ∙ length-replicate {A = ℕ} 2048 0)
+    let v = c .before .before .before .before .before .before .before .before .before .before .before .visit-all in
+    let evens-long = v .kept .1 .1 .0 ∙ ap length (c .before .before .before .before .before .before .before .before .before .before .before .before .before .before .before .before .no-masks .ensures) ∙ length-replicate {A = ℕ} 2048 0 in
+    let odds-long = v .kept .1 .1 .1 .0 ∙ ap length (c .before .before .before .before .before .before .before .before .before .before .before .before .before .before .before .no-masks2 .ensures) ∙ length-replicate {A = ℕ} 2048 0 in
+    (omega (arith, s), evens-long, odds-long, ap length (p .1 .1) ∙ length-replicate {A = ℕ} 2048 0)
 
 same-length : tie.Need-same-length
 same-length c = search needs
 
 returns-3 : tie.Need-returns-3
 returns-3 c =
-    let a = c .before .before .before .before .before .before .before .before .before .before .before .before .before .before .before
-    .before .before .before .before .before .before .before .before .args in
-    let p = c .before .before .before .before .before .before .before .before .before .before .before .before .before .before .before
-    .before .before .before .before .before .before .before .before .pre in
-    answer-none (a .table .now) (a .free .now) (p .1 .1) (p .0) (p .1 .0)
-    (c .before .before .before .before .before .before .before .before .before .first-uneven .result)
-    (c .before .before .before .before .before .before .before .before .before .first-uneven .ensures)
-    (c .before .before .before .before .before .before .before .before .if1 .left)
-    (c .before .before .before .before .before .before .before .before .before .before .before .before .before .before .visit-all .last .1 .1 .0)
-    (c .before .before .before .before .before .before .before .before .before .before .before .before .before .before .visit-all .last .1 .1 .1 .0)
-    (c .before .before .before .before .before .before .before .before .before .before .before .before .before .before .visit-all .ensures)
-    (c .before .before .before .before .before .before .before .no-free .result)
-    (c .before .before .before .before .before .before .before .no-free .ensures)
-    (c .before .before .before .before .before .before .if2 .left) (c .before .before .unite .last .1 .1 .0)
-    (c .before .before .unite .ensures)
+    let a = c .before .before .before .before .before .before .before .before .before .before .before .before .before .before .before .before .before .before .before .before .before .before .before .args in
+    let p = c .before .before .before .before .before .before .before .before .before .before .before .before .before .before .before .before .before .before .before .before .before .before .before .pre in
+    let v = c .before .before .before .before .before .before .before .before .before .before .before .before .before .before .visit-all in
+    answer-none (a .table .now) (a .free .now) (p .1 .1) (p .0) (p .1 .0) (c .before .before .before .before .before .before .before .before .before .first-uneven .result) (c .before .before .before .before .before .before .before .before .before .first-uneven .ensures)
+    (c .before .before .before .before .before .before .before .before .if1 .left) (v .last .1 .1 .0) (v .last .1 .1 .1 .0) (v .ensures) (c .before .before .before .before .before .before .before .no-free .result) (c .before .before .before .before .before .before .before .no-free .ensures)
+    (c .before .before .before .before .before .before .if2 .left) (c .before .before .unite .last .1 .1 .0) (c .before .before .unite .ensures)
 
 pub check-rules-spec : {M : Type 1} → statement M
 check-rules-spec =

@@ -1,137 +1,105 @@
--- `even_rule::mask` meets its contract.
+-- `even_rule::mask` meets its contract: each return has the law of its kind.
 use Rattle.even_rule.specs.Laws.Shows.{mask-none, mask-slot, mask-var, mask-not, mask-two, mask-step, mask-loop}
 use Rattle.condition.specs.Laws.Limits.{limit-name, limit-loop}
 use native.Mathlib.Omega.{arith}
-use borrow.Author.Needs.{needs}
 use Rattle.even_rule.proofs.mask.Statement.{statement}
 use Rattle.even_rule.proofs.mask.Tie as tie
 
 kind-requires : tie.Need-kind-requires
-kind-requires c κs = search needs
+kind-requires c κs = c .before .before .before .pre .1 .0
 
 returns : tie.Need-returns
 returns c =
     let a = c .before .before .before .before .before .args in
     let p = c .before .before .before .before .before .pre in
-    mask-none (a .table .now) (a .own .now) (a .other .now) (a .i) (c .before .kind .result) (a .parity) (p .0) (p .1 .0)
-    (c .before .kind .ensures) (p .1 .1 .1) (omega arith)
+    let k = c .before .kind in
+    mask-none (a .table .now) (a .own .now) (a .other .now) (a .i) (k .result) (a .parity) (p .0) (p .1 .0) (k .ensures) (p .1 .1 .1) (omega arith)
 
 number-requires : tie.Need-number-requires
-number-requires c κs =
-    let a = c .before .before .before .before .before .before .args in
-    let p = c .before .before .before .before .before .before .pre in
-    (p .0 .fits, (p .1 .0, limit-name _ (omega arith) (omega arith)))
+number-requires c κs = let p = c .before .before .before .before .before .before .pre in (p .0 .fits, (p .1 .0, limit-name _ (omega arith) (omega arith)))
 
 variable-requires : tie.Need-variable-requires
-variable-requires c κs = search needs
+variable-requires c κs = c .number .ensures .1
 
 returns-2 : tie.Need-returns-2
 returns-2 c =
     let a = c .before .before .before .before .before .before .before .before .args in
     let p = c .before .before .before .before .before .before .before .before .pre in
-    mask-var (a .table .now) (a .own .now) (a .other .now) (a .i) (c .before .before .before .before .kind .result) (a .parity) (p .0)
-    (p .1 .0) (c .before .before .before .before .kind .ensures) (p .1 .1 .1) (omega arith)
-    (omega arith) (c .before .number .result) _ (c .before .number .ensures .0) (c .variable .ensures)
-
-left-child-requires : tie.Need-left-child-requires
-left-child-requires c κs = search needs
-
-mul-result : tie.Need-mul-result
-mul-result c = search needs
-
-shared-slice-read-result : tie.Need-shared-slice-read-result
-shared-slice-read-result c = search needs
+    let k = c .before .before .before .before .kind in
+    mask-var (a .table .now) (a .own .now) (a .other .now) (a .i) (k .result) (a .parity) (p .0) (p .1 .0) (k .ensures) (p .1 .1 .1) (omega arith) (omega arith)
+    (c .before .number .result) _ (c .before .number .ensures .0) (c .variable .ensures)
 
 returns-3 : tie.Need-returns-3
 returns-3 c =
-    let a = c .before .before .before .before .before .before .before .before .before .args in
-    let p = c .before .before .before .before .before .before .before .before .before .pre in
-    mask-not (a .table .now) (a .own .now) (a .other .now) (a .i) (c .before .before .before .before .before .kind .result) (a .parity)
-    (p .0) (p .1 .0) (c .before .before .before .before .before .kind .ensures) (p .1 .1 .1) (c .before .left-child .result)
-    (c .before .left-child .ensures .0) (omega arith) (omega arith)
+    let a = c .before .before .before .before .before .before .before .args in
+    let p = c .before .before .before .before .before .before .before .pre in
+    let k = c .before .before .before .kind in
+    mask-slot (a .table .now) (a .own .now) (a .other .now) (a .i) (k .result) (a .parity) (p .0) (p .1 .0) (k .ensures) (p .1 .1 .1) (omega arith)
 
-left-child-requires-2 : tie.Need-left-child-requires-2
-left-child-requires-2 c κs = search needs
+left-child-requires : tie.Need-left-child-requires
+left-child-requires c κs = let p = c .before .before .before .before .before .before .before .pre in (p .0 .fits, (p .1 .0, omega arith))
 
-mul-result-2 : tie.Need-mul-result-2
-mul-result-2 c = search needs
+mul-result : tie.Need-mul-result
+mul-result c = omega arith
 
-shared-slice-read-result-2 : tie.Need-shared-slice-read-result-2
-shared-slice-read-result-2 c = search needs
-
-right-child-requires : tie.Need-right-child-requires
-right-child-requires c κs = search needs
-
-mul-result-3 : tie.Need-mul-result-3
-mul-result-3 c = search needs
-
-shared-slice-read-result-3 : tie.Need-shared-slice-read-result-3
-shared-slice-read-result-3 c = search needs
+shared-slice-read-result : tie.Need-shared-slice-read-result
+shared-slice-read-result c = omega arith
 
 returns-4 : tie.Need-returns-4
 returns-4 c =
-    let a = c .before .before .before .before .before .before .before .before .before .before .before .before .args in
-    let p = c .before .before .before .before .before .before .before .before .before .before .before .before .pre in
-    mask-two (a .table .now) (a .own .now) (a .other .now) (a .i)
-    (c .before .before .before .before .before .before .before .before .kind .result) (a .parity) (p .0) (p .1 .0)
-    (c .before .before .before .before .before .before .before .before .kind .ensures) (p .1 .1 .1)
-    (c .before .before .before .left-child2 .result) (c .before .before .before .left-child2 .ensures .0)
-    (omega arith) (omega arith)
-    (c .before .right-child .result) (c .before .right-child .ensures .0)
+    let a = c .before .before .before .before .before .before .before .before .before .before .args in
+    let p = c .before .before .before .before .before .before .before .before .before .before .pre in
+    let k = c .before .before .before .before .before .before .kind in
+    let l = c .before .before .left-child in
+    mask-not (a .table .now) (a .own .now) (a .other .now) (a .i) (k .result) (a .parity) (p .0) (p .1 .0) (k .ensures) (p .1 .1 .1) (l .result) (l .ensures .0) (omega arith) (omega arith)
 
-left-child-requires-3 : tie.Need-left-child-requires-3
-left-child-requires-3 c κs = search needs
+mul-m : tie.Need-mul-m
+mul-m c = omega arith
 
-mul-result-4 : tie.Need-mul-result-4
-mul-result-4 c = search needs
+shared-slice-read-m : tie.Need-shared-slice-read-m
+shared-slice-read-m c = omega arith
 
-shared-slice-read-result-4 : tie.Need-shared-slice-read-result-4
-shared-slice-read-result-4 c = search needs
+right-child-requires : tie.Need-right-child-requires
+right-child-requires c κs = let p = c .before .before .before .before .before .before .before .before .before .before .before .pre in (p .0 .fits, (p .1 .0, omega arith))
+
+mul-result-2 : tie.Need-mul-result-2
+mul-result-2 c = omega arith
+
+shared-slice-read-result-2 : tie.Need-shared-slice-read-result-2
+shared-slice-read-result-2 c = omega arith
 
 returns-5 : tie.Need-returns-5
 returns-5 c =
-    let a = c .before .before .before .before .before .before .before .before .before .before .before .args in
-    let p = c .before .before .before .before .before .before .before .before .before .before .before .pre in
-    mask-step (a .table .now) (a .own .now) (a .other .now) (a .i)
-    (c .before .before .before .before .before .before .before .kind .result) (a .parity) (p .0) (p .1 .0)
-    (c .before .before .before .before .before .before .before .kind .ensures) (p .1 .1 .1) (c .before .left-child3 .result)
-    (c .before .left-child3 .ensures .0) (omega arith) (omega arith)
-
-left-child-requires-4 : tie.Need-left-child-requires-4
-left-child-requires-4 c κs = search needs
-
-mul-without : tie.Need-mul-without
-mul-without c = search needs
-
-shared-slice-read-without : tie.Need-shared-slice-read-without
-shared-slice-read-without c = search needs
-
-number-requires-2 : tie.Need-number-requires-2
-number-requires-2 c κs =
-    let a = c .before .before .before .before .before .before .before .before .before .before .before .before .args in
-    let p = c .before .before .before .before .before .before .before .before .before .before .before .before .pre in
-    (p .0 .fits, (p .1 .0, limit-loop _ (omega arith) (omega arith)))
-
-without-requires : tie.Need-without-requires
-without-requires c κs = search needs
+    let a = c .before .before .before .before .before .before .before .before .before .before .before .before .before .args in
+    let p = c .before .before .before .before .before .before .before .before .before .before .before .before .before .pre in
+    let k = c .before .before .before .before .before .before .before .before .before .kind in
+    let l = c .before .before .before .before .before .left-child in
+    let r = c .before .right-child in
+    mask-two (a .table .now) (a .own .now) (a .other .now) (a .i) (k .result) (a .parity) (p .0) (p .1 .0) (k .ensures) (p .1 .1 .1) (l .result) (l .ensures .0) (omega arith) (omega arith) (r .result) (r .ensures .0)
 
 returns-6 : tie.Need-returns-6
 returns-6 c =
-    let a = c .before .before .before .before .before .before .before .before .before .before .before .before .before .before .args in
-    let p = c .before .before .before .before .before .before .before .before .before .before .before .before .before .before .pre in
-    mask-loop (a .table .now) (a .own .now) (a .other .now) (a .i)
-    (c .before .before .before .before .before .before .before .before .before .before .kind .result) (a .parity) (p .0) (p .1 .0)
-    (c .before .before .before .before .before .before .before .before .before .before .kind .ensures) (p .1 .1 .1)
-    (c .before .before .before .left-child4 .result) (c .before .before .before .left-child4 .ensures .0)
-    (omega arith) (omega arith) (c .before .number2 .result)
-    _ (c .before .number2 .ensures .0) (c .before .number2 .ensures .1) (c .without .ensures)
+    let a = c .before .before .before .before .before .before .before .before .before .before .before .before .args in
+    let p = c .before .before .before .before .before .before .before .before .before .before .before .before .pre in
+    let k = c .before .before .before .before .before .before .before .before .kind in
+    let l = c .before .before .before .before .left-child in
+    mask-step (a .table .now) (a .own .now) (a .other .now) (a .i) (k .result) (a .parity) (p .0) (p .1 .0) (k .ensures) (p .1 .1 .1) (l .result) (l .ensures .0) (omega arith) (omega arith)
+
+number-requires-2 : tie.Need-number-requires-2
+number-requires-2 c κs = let p = c .before .before .before .before .before .before .before .before .before .before .before .before .pre in (p .0 .fits, (p .1 .0, limit-loop _ (omega arith) (omega arith)))
+
+without-requires : tie.Need-without-requires
+without-requires c κs = c .number2 .ensures .1
 
 returns-7 : tie.Need-returns-7
 returns-7 c =
-    let a = c .before .before .before .before .before .before .before .before .before .before .args in
-    let p = c .before .before .before .before .before .before .before .before .before .before .pre in
-    mask-slot (a .table .now) (a .own .now) (a .other .now) (a .i) (c .before .before .before .before .before .before .kind .result)
-    (a .parity) (p .0) (p .1 .0) (c .before .before .before .before .before .before .kind .ensures) (p .1 .1 .1) (omega arith)
+    let a = c .before .before .before .before .before .before .before .before .before .before .before .before .before .before .args in
+    let p = c .before .before .before .before .before .before .before .before .before .before .before .before .before .before .pre in
+    let k = c .before .before .before .before .before .before .before .before .before .before .kind in
+    let l = c .before .before .before .before .before .before .left-child in
+    let n = c .before .number2 in
+    mask-loop (a .table .now) (a .own .now) (a .other .now) (a .i) (k .result) (a .parity) (p .0) (p .1 .0) (k .ensures) (p .1 .1 .1) (l .result) (l .ensures .0) (omega arith) (omega arith)
+    (n .result) _ (n .ensures .0) (n .ensures .1) (c .without .ensures)
 
 pub mask-spec : {M : Type 1} → statement M
 mask-spec =
@@ -142,25 +110,18 @@ mask-spec =
     number-requires
     variable-requires
     returns-2
+    returns-3
     left-child-requires
     mul-result
     shared-slice-read-result
-    returns-3
-    left-child-requires-2
+    returns-4
+    mul-m
+    shared-slice-read-m
+    right-child-requires
     mul-result-2
     shared-slice-read-result-2
-    right-child-requires
-    mul-result-3
-    shared-slice-read-result-3
-    returns-4
-    left-child-requires-3
-    mul-result-4
-    shared-slice-read-result-4
     returns-5
-    left-child-requires-4
-    mul-without
-    shared-slice-read-without
+    returns-6
     number-requires-2
     without-requires
-    returns-6
     returns-7)

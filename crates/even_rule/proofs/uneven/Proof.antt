@@ -43,12 +43,11 @@ returns-3 : tie.Need-returns-3
 returns-3 c =
     let a = c .before .before .before .before .before .before .before .before .before .args in
     let p = c .before .before .before .before .before .before .before .before .before .pre in
-    breaks (a .table .now) (a .i) (c .before .before .before .before .before .before .kind .result) (p .0) (p .1 .0)
-    (c .before .before .before .before .before .before .kind .ensures) (c .before .before .before .before .before .if1 .left)
-    (c .before .before .before .before .if2 .left) (a .odds .now) (p .1 .1 .1) (c .before .before .before .left-child .result)
-    (c .before .number .result) _ (c .before .before .before .left-child .ensures .0)
-    (c .before .before .before .left-child .ensures .1) (c .before .number .ensures .0) (c .before .number .ensures .1)
-    (c .has .ensures)
+    let k = c .before .before .before .before .before .before .kind in
+    let l = c .before .before .before .left-child in
+    let n = c .before .number in
+    breaks (a .table .now) (a .i) (k .result) (p .0) (p .1 .0) (k .ensures) (c .before .before .before .before .before .if1 .left) (c .before .before .before .before .if2 .left) (a .odds .now) (p .1 .1 .1)
+    (l .result) (n .result) _ (l .ensures .0) (l .ensures .1) (n .ensures .0) (n .ensures .1) (c .has .ensures)
 
 pub uneven-spec : {M : Type 1} → statement M
 uneven-spec =

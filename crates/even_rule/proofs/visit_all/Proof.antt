@@ -11,7 +11,8 @@ use Rattle.even_rule.proofs.visit_all.Statement.{statement}
 use Rattle.even_rule.proofs.visit_all.Tie as tie
 
 abbrev Inv-loop : tie.InvT-loop
-Inv-loop table done₀ evens₀ odds₀ n i₀ done evens odds i = (i ≤ n) × (n ≡ length table / 6) × Ready table done evens odds × ((j : ℕ) → j < i → getD done j 0 ≡ 1)
+Inv-loop table done₀ evens₀ odds₀ n i₀ done evens odds i =
+    (i ≤ n) × (n ≡ length table / 6) × Ready table done evens odds × ((j : ℕ) → j < i → getD done j 0 ≡ 1)
 
 abbrev μ-loop : tie.MeasureT-loop
 μ-loop table done₀ evens₀ odds₀ n i₀ done evens odds i = n - i
@@ -30,15 +31,12 @@ loop-less c = omega arith
 
 loop-again : tie.Need-loop-again Inv-loop μ-loop
 loop-again c =
-    let a = c .before .before .before .before .before .before .before .before .before .before .before .before .before .before .before
-    .before .args in
+    let a = c .before .before .before .before .before .before .before .before .before .before .before .before .before .before .before .before .args in
     let l = c .before .before .before .before .before .before .before .before .before .before .before .loop in
-    let s = c .before .before .before .before .before .before .visit .last in (
-      omega arith,
-      l .inv .1,
-      again (a .table .now) (l .done) (l .evens) (l .odds) (l .inv .2) (l .i) (s .1 .0) (s .1 .1 .0) (s .1 .1 .1 .0) (l .i) (c .before .before .before .before .before .before .visit .ensures) (c .before .before .before .before .before .before .visit .kept .1 .0) (c .before .before .before .before .before .before .visit .kept .1 .1 .0) (c .before .before .before .before .before .before .visit .kept .1 .1 .1 .0),
-      more-done (l .done) (s .1 .0) (l .i) (c .before .before .before .before .before .before .visit .ensures .kept) (l .inv .3) (c .before .before .before .before .before .before .visit .ensures .here),
-    )
+    let v = c .before .before .before .before .before .before .visit in
+    let ready = again (a .table .now) (l .done) (l .evens) (l .odds) (l .inv .2) (l .i) (v .last .1 .0) (v .last .1 .1 .0) (v .last .1 .1 .1 .0) (l .i)
+    (v .ensures) (v .kept .1 .0) (v .kept .1 .1 .0) (v .kept .1 .1 .1 .0) in
+    (omega arith, l .inv .1, ready, more-done (l .done) (v .last .1 .0) (l .i) (v .ensures .kept) (l .inv .3) (v .ensures .here))
 
 same-length : tie.Need-same-length Inv-loop μ-loop
 same-length c = omega (arith, c .before .before .before .before .before .before .pre, c .before .loop .inv .2)
