@@ -108,9 +108,11 @@ module _ (e : Edit) (l : Legal e) (ts : List Form) (p i : ℕ) (t : below i (len
     unfolding ChangeFits blockDia makes blockFits unaryFits leafFits fill atom one two occ evenBlock even
     dia-shape keep f s = good refl (λ _. refl) (kid .occurs) s (and-in h t)
     dia-shape (added a n) f s =
-        good refl (λ _. refl) (λ b v. or-self _ ∙ kid .occurs b v) s (and-in (and-in h t) (and-in (f .0) (and-in E-fits (and-in (f .1) t))))
+        good refl (λ _. refl) (λ b v. or-self _ ∙ kid .occurs b v) s
+        (and-in (and-in h t) (and-in (f .0) (and-in E-fits (and-in (f .1) t))))
     dia-shape (cut a n) f s =
-        good refl (λ _. refl) (λ b v. or-self _ ∙ kid .occurs b v) s (and-in (and-in (no-fits (f .0)) (and-in h t)) (and-in h (and-in (no-fits (f .1)) t)))
+        good refl (λ _. refl) (λ b v. or-self _ ∙ kid .occurs b v) s
+        (and-in (and-in (no-fits (f .0)) (and-in h t)) (and-in h (and-in (no-fits (f .1)) t)))
     dia-shape (cutFrom n) f s = good refl (λ _. refl) (kid .occurs) s (and-in (no-fits f) (and-in h t))
     dia-shape (cutTo n) f s = good refl (λ _. refl) (kid .occurs) s (and-in h (and-in (no-fits f) t))
     dia-shape (cutOff n) f s = good refl (λ _. refl) (kid .occurs) s (and-in (no-fits f) (and-in h (and-in (no-fits f) t)))
@@ -120,9 +122,11 @@ module _ (e : Edit) (l : Legal e) (ts : List Form) (p i : ℕ) (t : below i (len
     unfolding ChangeFits blockBox makes blockFits unaryFits leafFits fill atom one two occ evenBlock even
     box-shape keep f s = good refl (λ _. refl) (kid .occurs) s (and-in h t)
     box-shape (added a n) f s =
-        good refl (λ _. refl) (λ b v. or-self _ ∙ kid .occurs b v) s (and-in (and-in h t) (and-in (no-fits (f .0)) (and-in E-fits (and-in (no-fits (f .1)) t))))
+        good refl (λ _. refl) (λ b v. or-self _ ∙ kid .occurs b v) s
+        (and-in (and-in h t) (and-in (no-fits (f .0)) (and-in E-fits (and-in (no-fits (f .1)) t))))
     box-shape (cut a n) f s =
-        good refl (λ _. refl) (λ b v. or-self _ ∙ kid .occurs b v) s (and-in (and-in (f .0) (and-in h t)) (and-in h (and-in (f .1) t)))
+        good refl (λ _. refl) (λ b v. or-self _ ∙ kid .occurs b v) s
+        (and-in (and-in (f .0) (and-in h t)) (and-in h (and-in (f .1) t)))
     box-shape (cutFrom n) f s = good refl (λ _. refl) (kid .occurs) s (and-in f (and-in h t))
     box-shape (cutTo n) f s = good refl (λ _. refl) (kid .occurs) s (and-in h (and-in f t))
     box-shape (cutOff n) f s = good refl (λ _. refl) (kid .occurs) s (and-in f (and-in h (and-in f t)))
@@ -131,40 +135,46 @@ module _ (e : Edit) (l : Legal e) (ts : List Form) (p i : ℕ) (t : below i (len
     unfolding Holds
     dia-good = dia-shape (change e (wayOf p)) (change-fits e l (wayOf p)) (λ M v g ρ s k.
         let block = dia-says ts p i M ρ s (change e (wayOf p)) in
-        let below = kid .says M v g ρ in (
-          λ q. block .1 (q .0, q .1, step-iff M s (q .0) e (wayOf p) .0 (q .2), below (q .0) (q .1) .0 (q .3)),
-          λ q. let r = block .0 q in (r .0, r .1, step-iff M s (r .0) e (wayOf p) .1 (r .2), below (r .0) (r .1) .1 (r .3)),
+        let child = kid .says M v g ρ in (
+          λ q. block .1 (q .0, q .1, step-iff M s (q .0) e (wayOf p) .0 (q .2), child (q .0) (q .1) .0 (q .3)),
+          λ q. let r = block .0 q in (r .0, r .1, step-iff M s (r .0) e (wayOf p) .1 (r .2), child (r .0) (r .1) .1 (r .3)),
         ))
 
     box-good : Good e ts (blockBox (change e (wayOf p)) p (old i)) (box (wayOf p) φ)
     unfolding Holds
     box-good = box-shape (change e (wayOf p)) (change-fits e l (wayOf p)) (λ M v g ρ s k.
         let block = box-says ts p i M ρ s (change e (wayOf p)) in
-        let below = kid .says M v g ρ in (
-          λ q. block .1 (λ x j r. below x j .0 (q x j (step-iff M s x e (wayOf p) .1 r))),
-          λ q x j r. below x j .1 (block .0 q x j (step-iff M s x e (wayOf p) .0 r)),
+        let child = kid .says M v g ρ in (
+          λ q. block .1 (λ x j r. child x j .0 (q x j (step-iff M s x e (wayOf p) .1 r))),
+          λ q x j r. child x j .1 (block .0 q x j (step-iff M s x e (wayOf p) .0 r)),
         ))
 
   not-good : Good e ts (on kNot 0 (old i)) (neg φ)
   unfolding Holds occ fill one makes blockFits unaryFits evenBlock even
   not-good =
-      good refl (λ _. refl) (λ b v. kid .occurs (not b) v) (λ M v g ρ s k. let a = kid .says M v g ρ s k in (λ q r. q (a .1 r), λ q r. q (a .0 r))) (and-in (same-refl 0) t)
+      good refl (λ _. refl) (λ b v. kid .occurs (not b) v)
+      (λ M v g ρ s k. let a = kid .says M v g ρ s k in (λ q r. q (a .1 r), λ q r. q (a .0 r)))
+      (and-in (same-refl 0) t)
 
   mu-good : below p variables ≡ true → Good e ts (on kMu p (old i)) (mu p φ)
   unfolding Holds occ fill one makes blockFits unaryFits evenBlock
   mu-good h =
-      good refl (λ r. and-in (even-mu p φ _ (kid .occurs false p) ∙ r) refl) (λ b v. ap (λ x. not (same p v) && x) (kid .occurs b v)) (λ M v g ρ s k. (
+      good refl (λ r. and-in (even-mu p φ _ (kid .occurs false p) ∙ r) refl) (λ b v. ap (λ x. not (same p v) && x) (kid .occurs b v))
+      (λ M v g ρ s k. (
         λ q T c. q T (λ x j r. c x j (kid .says M v g _ x j .0 r)),
         λ q T c. q T (λ x j r. c x j (kid .says M v g _ x j .1 r)),
-      )) (and-in h t)
+      ))
+      (and-in h t)
 
   nu-good : below p variables ≡ true → Good e ts (on kNu p (old i)) (nu p φ)
   unfolding Holds occ fill one makes blockFits unaryFits evenBlock
   nu-good h =
-      good refl (λ r. and-in (even-nu p φ _ (kid .occurs false p) ∙ r) refl) (λ b v. ap (λ x. not (same p v) && x) (kid .occurs b v)) (λ M v g ρ s k. (
+      good refl (λ r. and-in (even-nu p φ _ (kid .occurs false p) ∙ r) refl) (λ b v. ap (λ x. not (same p v) && x) (kid .occurs b v))
+      (λ M v g ρ s k. (
         λ q. (q .0, λ x j r. kid .says M v g _ x j .0 (q .1 x j r), q .2),
         λ q. (q .0, λ x j r. kid .says M v g _ x j .1 (q .1 x j r), q .2),
-      )) (and-in h t)
+      ))
+      (and-in h t)
 
 -- and of a node with two
 module _ (e : Edit) (ts : List Form) (i j : ℕ) (ti : below i (length ts) ≡ true) (tj : below j (length ts) ≡ true) (φ ψ : Form)
@@ -172,18 +182,22 @@ module _ (e : Edit) (ts : List Form) (i j : ℕ) (ti : below i (length ts) ≡ t
   or-good : Good e ts (join kOr (old i) (old j)) (or φ ψ)
   unfolding Holds occ fill two makes blockFits evenBlock even
   or-good =
-      good refl (λ _. refl) (λ b v. ap₂ _||_ (kid .occurs b v) (kid′ .occurs b v)) (λ M v g ρ s k.
+      good refl (λ _. refl) (λ b v. ap₂ _||_ (kid .occurs b v) (kid′ .occurs b v))
+      (λ M v g ρ s k.
       let a = kid .says M v g ρ s k in
       let c = kid′ .says M v g ρ s k in
-      (λ p. either p (λ q. inl (a .0 q)) (λ q. inr (c .0 q)), λ p. either p (λ q. inl (a .1 q)) (λ q. inr (c .1 q)))) (and-in ti tj)
+      (λ p. either p (λ q. inl (a .0 q)) (λ q. inr (c .0 q)), λ p. either p (λ q. inl (a .1 q)) (λ q. inr (c .1 q))))
+      (and-in ti tj)
 
   and-good : Good e ts (join kAnd (old i) (old j)) (and φ ψ)
   unfolding Holds occ fill two makes blockFits evenBlock even
   and-good =
-      good refl (λ _. refl) (λ b v. ap₂ _||_ (kid .occurs b v) (kid′ .occurs b v)) (λ M v g ρ s k.
+      good refl (λ _. refl) (λ b v. ap₂ _||_ (kid .occurs b v) (kid′ .occurs b v))
+      (λ M v g ρ s k.
       let a = kid .says M v g ρ s k in
       let c = kid′ .says M v g ρ s k in
-      (λ p. (a .0 (p .0), c .0 (p .1)), λ p. (a .1 (p .0), c .1 (p .1)))) (and-in ti tj)
+      (λ p. (a .0 (p .0), c .0 (p .1)), λ p. (a .1 (p .0), c .1 (p .1))))
+      (and-in ti tj)
 
 -- a node with no child: copied where the edit leaves what it says
 copied : {e : Edit} {ts : List Form} (k : Leaf) (p : ℕ) → leafFits k p ≡ true → Says e (atom k p) (atom k p) → Good e ts (end k p) (atom k p)
@@ -274,8 +288,12 @@ leaf-good (CN1 n1 n2) l ts kName y f =
     (λ c. rw c (copied kName y f (λ M v g ρ s j. rw c Iff·rfl)))
 leaf-good (CN2 n1 n2 h) l ts kName y f =
     let small = functional-small h (l .2) in
+    let forward = below-in h 17 (omega arith) in
+    let reverse = below-in (h + 8) 17 (omega arith) in
     either (look (same y n1))
-    (λ c. rw c (good refl (λ _. refl) (λ b v. refl) (λ M v g ρ s j. rw (c, way-against h small, way-along h small) (target-says M v ρ s j n2 h (l .2))) (and-in (and-in (below-in _ 17 (omega arith)) (l .1)) (and-in nil-fits (no-fits (and-in E-fits (and-in (l .1) (and-in (below-in _ 17 (omega arith)) (same-refl 0)))))))))
+    (λ c. rw c (good refl (λ _. refl) (λ b v. refl)
+    (λ M v g ρ s j. rw (c, way-against h small, way-along h small) (target-says M v ρ s j n2 h (l .2)))
+    (and-in (and-in reverse (l .1)) (and-in nil-fits (no-fits (and-in E-fits (and-in (l .1) (and-in forward (same-refl 0)))))))))
     (λ c. rw c (copied kName y f (λ M v g ρ s j. rw c Iff·rfl)))
 leaf-good (AP n q) l ts kName y f = copied kName y f (λ M v g ρ s j. Iff·rfl)
 leaf-good (DP n q) l ts kName y f = copied kName y f (λ M v g ρ s j. Iff·rfl)
@@ -292,7 +310,8 @@ leaf-good (DS n) l ts kName y f =
     let nil : M .place y ≡ 0 = ap (M .place) (same-eq c) ∙ v .nil-named in
     let off : same (M .place y) (M .place n) ≡ false = ne-same (λ q. g (sym q ∙ nil)) in
     rw off Iff·rfl)))
-    (λ c. rw c (good refl (λ _. refl) (λ b v. refl) (λ M v g ρ s j. name-says M v ρ s j n y) (and-in (and-in f (no-fits l)) (and-in nil-fits (and-in E-fits (and-in l f))))))
+    (λ c. rw c (good refl (λ _. refl) (λ b v. refl) (λ M v g ρ s j. name-says M v ρ s j n y)
+    (and-in (and-in f (no-fits l)) (and-in nil-fits (and-in E-fits (and-in l f))))))
 leaf-good e l ts kVar p f = copied kVar p f (λ M v g ρ s j. Iff·rfl)
 leaf-good e l ts kSlot p f = copied kSlot p f (λ M v g ρ s j. Iff·rfl)
 
