@@ -6,3 +6,4 @@ pub mod Count
 pub mod First
 pub mod Dual
 pub mod Reflect
+pub mod Loops

@@ -1,0 +1,64 @@
+-- The links below m fit.
+use mathlib.Core.Path.{_≡_, sym, _∙_}
+use mathlib.Core.Bool.{true, not}
+use Prim.Native.Nat.{_-_, _≤_}
+use native.Mathlib.Omega.{arith}
+use borrow.Author.Needs.{needs}
+use borrow.Author.Tests.{not-true, not-false}
+use Rattle.finite.specs.Tests.{all}
+use Rattle.finite.specs.Laws.Loops.{all-none, all-more, all-done, all-not}
+use Rattle.semantics.specs.Form.{links}
+use Rattle.site.specs.Site.{siteOf}
+use Rattle.site.specs.Refusal.{touches}
+use Rattle.site.specs.Laws.Fits.{links-all}
+use Rattle.site.proofs.links_fit.Statement.{statement}
+use Rattle.site.proofs.links_fit.Tie as tie
+
+abbrev Inv-loop : tie.InvT-loop
+Inv-loop site ends m₀ m = (m ≤ links) × (all m (λ k. not (touches (siteOf site) k)) ≡ true)
+
+abbrev μ-loop : tie.MeasureT-loop
+μ-loop site ends m₀ m = links - m
+
+link-ends-requires : tie.Need-link-ends-requires Inv-loop μ-loop
+link-ends-requires c κs = omega arith
+
+loop-holds : tie.Need-loop-holds Inv-loop μ-loop
+loop-holds c = (omega arith, all-none _)
+
+slice-aggregate-link-fits : tie.Need-slice-aggregate-link-fits Inv-loop μ-loop
+slice-aggregate-link-fits c = search needs
+
+link-fits-requires : tie.Need-link-fits-requires Inv-loop μ-loop
+link-fits-requires c κs = (c .before .before .before .before .before .pre, (c .before .loop-test .taken, (search needs, c .before .before .before .link-ends .ensures)))
+
+returns : tie.Need-returns Inv-loop μ-loop
+returns c = sym (links-all _ ∙ all-not links _ (c .before .before .before .before .loop .m) (c .before .before .before .loop-test .taken) (sym (c .before .link-fits .ensures) ∙ not-true _ (c .if1 .taken)))
+
+add-m : tie.Need-add-m Inv-loop μ-loop
+add-m c = omega arith
+
+loop-less : tie.Need-loop-less Inv-loop μ-loop
+loop-less c = omega arith
+
+loop-again : tie.Need-loop-again Inv-loop μ-loop
+loop-again c = (omega arith, all-more _ _ (c .before .before .before .before .loop .inv .1) (sym (c .before .link-fits .ensures) ∙ not-false _ (c .if1 .left)))
+
+returns-2 : tie.Need-returns-2 Inv-loop μ-loop
+returns-2 c = sym (links-all _ ∙ all-done links _ _ (c .before .loop .inv .1) (omega arith) (omega arith))
+
+pub links-fit-spec : {M : Type 1} → statement M
+links-fit-spec =
+    tie.close
+    (tie.spec
+    Inv-loop
+    μ-loop
+    link-ends-requires
+    loop-holds
+    slice-aggregate-link-fits
+    link-fits-requires
+    returns
+    add-m
+    loop-less
+    loop-again
+    returns-2)

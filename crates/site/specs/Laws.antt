@@ -1,0 +1,4 @@
+-- Laws of the site's bytes, by topic.
+pub mod Read
+pub mod Target
+pub mod Fits

@@ -1,0 +1,244 @@
+// The site's bytes: accessors by offset, and the tests of a valid site (items 3 to 6).
+ghost use mathlib.Core.Path.{_≡_};
+ghost use mathlib.Core.Bool.{not};
+ghost use Prim.Native.Nat.{_+_, _≤_, _<_};
+ghost use lib.ListN.{length, getD};
+ghost use Rattle.finite.specs.Tests.{all};
+ghost use Rattle.bitset.specs.Set.{setBytes, setSlots, Is};
+ghost use Rattle.semantics.specs.Form.{labels, names, links};
+ghost use Rattle.semantics.specs.Edit as edits;
+ghost use Rattle.site.specs.Layout.{siteBytes, generalLinks, targetAt, rowAt};
+ghost use Rattle.site.specs.Site.{siteOf};
+ghost use Rattle.site.specs.Refusal.{item4, item5, item6, barred, touches, siteVerdict};
+ghost use Rattle.site.specs.Inside.{inside, rowInside, targetInside};
+use bitset::SET_BYTES;
+use bitset::SET_SLOTS;
+use verdict::Verdict;
+
+pub const LABELS: usize = 16;
+
+pub const NAMES: usize = 16;
+
+pub const LINKS: usize = 8;
+
+// Links 0 to 3 are general, 4 to 7 functional.
+pub const GENERAL_LINKS: usize = 4;
+
+pub const FUNCTIONAL_LINKS: usize = 4;
+
+// Where the parts of a site start, and its length.
+pub const LABELS_AT: usize = SET_BYTES;
+
+pub const NAMES_AT: usize = LABELS_AT + SET_BYTES * LABELS;
+
+pub const TARGETS_AT: usize = NAMES_AT + NAMES;
+
+pub const ROWS_AT: usize = TARGETS_AT + SET_SLOTS * FUNCTIONAL_LINKS;
+
+pub const ROWS_BYTES: usize = SET_BYTES * SET_SLOTS;
+
+pub const SITE_BYTES: usize = ROWS_AT + ROWS_BYTES * GENERAL_LINKS;
+
+// Is slot s present?
+pub fn present(site: &[u8], s: usize) -> bool
+    requires { ⌜ (length (now site) ≡ siteBytes) × (s < setSlots) ⌝ }
+    ensures { λ r. ⌜ r ≡ siteOf (now (site .entry)) .present s ⌝ }
+{
+    bitset::member(site, s)
+}
+
+// Is label p on slot s?
+pub fn has_label(site: &[u8], p: usize, s: usize) -> bool
+    requires { ⌜ (length (now site) ≡ siteBytes) × ((p < labels) × (s < setSlots)) ⌝ }
+    ensures { λ r. ⌜ r ≡ siteOf (now (site .entry)) .marked p s ⌝ }
+{
+    bitset::member(site, (LABELS_AT + SET_BYTES * p) * 8 + s)
+}
+
+// The slot of name n.
+pub fn place(site: &[u8], n: usize) -> usize
+    requires { ⌜ (length (now site) ≡ siteBytes) × (n < names) ⌝ }
+    ensures { λ r. ⌜ (r ≡ siteOf (now (site .entry)) .place n) × (r < setSlots) ⌝ }
+{
+    site[NAMES_AT + n] as usize
+}
+
+// The target of slot s by the functional link f, 0 for none.
+pub fn target(site: &[u8], f: usize, s: usize) -> usize
+    requires { ⌜ (length (now site) ≡ siteBytes) × ((generalLinks ≤ f) × ((f < links) × (s < setSlots))) ⌝ }
+    ensures { λ r. ⌜ (r ≡ edits.target (siteOf (now (site .entry))) f s) × ((r ≡ getD (now (site .entry)) (targetAt f s) 0) × (r < setSlots)) ⌝ }
+{
+    site[TARGETS_AT + SET_SLOTS * (f - GENERAL_LINKS) + s] as usize
+}
+
+// Does link m lead from slot s to slot t?
+pub fn linked(site: &[u8], m: usize, s: usize, t: usize) -> bool
+    requires { ⌜ (length (now site) ≡ siteBytes) × ((m < links) × ((s < setSlots) × (t < setSlots))) ⌝ }
+    ensures { λ r. ⌜ r ≡ siteOf (now (site .entry)) .link m s t ⌝ }
+{
+    if m < GENERAL_LINKS {
+        bitset::member(site, (ROWS_AT + ROWS_BYTES * m + SET_BYTES * s) * 8 + t)
+    } else {
+        target(site, m, s) == t && t != 0
+    }
+}
+
+// Is every name at a present slot?
+fn names_present(site: &[u8]) -> bool
+    requires { ⌜ length (now site) ≡ siteBytes ⌝ }
+    ensures { λ r. ⌜ r ≡ all names (λ n. siteOf (now (site .entry)) .present (siteOf (now (site .entry)) .place n)) ⌝ }
+{
+    for n in 0..NAMES {
+        let s = place(site, n);
+        if !present(site, s) {
+            return false;
+        }
+    }
+    true
+}
+
+// The site does not meet item 4.
+pub fn names_fit(site: &[u8]) -> bool
+    requires { ⌜ length (now site) ≡ siteBytes ⌝ }
+    ensures { λ r. ⌜ r ≡ not (item4 (siteOf (now (site .entry)))) ⌝ }
+{
+    if !present(site, 0) {
+        return false;
+    }
+    if place(site, 0) != 0 {
+        return false;
+    }
+    names_present(site)
+}
+
+// Does the set at byte b lie inside `set`?
+fn part_inside(site: &[u8], b: usize, set: &[u8]) -> bool
+    requires { ⌜ (b + setBytes ≤ length (now site)) × (length (now set) ≡ setBytes) ⌝ }
+    ensures { λ r. ⌜ r ≡ inside (now (site .entry)) b (now (set .entry)) ⌝ }
+{
+    let e = b + SET_BYTES;
+    bitset::subset(&site[b..e], set)
+}
+
+// The site does not meet item 5: each label's set lies inside the present slots.
+pub fn labels_fit(site: &[u8]) -> bool
+    requires { ⌜ length (now site) ≡ siteBytes ⌝ }
+    ensures { λ r. ⌜ r ≡ not (item5 (siteOf (now (site .entry)))) ⌝ }
+{
+    let here = &site[0..SET_BYTES];
+    for p in 0..LABELS {
+        if !part_inside(site, LABELS_AT + SET_BYTES * p, here) {
+            return false;
+        }
+    }
+    true
+}
+
+// The slots that a link may touch: those present, but for slot 0.
+fn link_ends(site: &[u8]) -> [u8; SET_BYTES]
+    requires { ⌜ length (now site) ≡ siteBytes ⌝ }
+    ensures { λ r. ⌜ Is r (λ s. not (barred (siteOf (now (site .entry))) s)) ⌝ }
+{
+    let mut ends = [0u8; SET_BYTES];
+    bitset::union_with(&mut ends, &site[0..SET_BYTES]);
+    bitset::remove(&mut ends, 0);
+    ends
+}
+
+// The set at byte b, the targets of slot s, lies inside `ends`, and is empty where s is not in `ends`.
+fn row_fits(site: &[u8], b: usize, s: usize, ends: &[u8]) -> bool
+    requires { ⌜ (b + setBytes ≤ length (now site)) × ((s < setSlots) × (length (now ends) ≡ setBytes)) ⌝ }
+    ensures { λ r. ⌜ r ≡ rowInside (now (site .entry)) b (now (ends .entry)) s ⌝ }
+{
+    if bitset::member(ends, s) {
+        return part_inside(site, b, ends);
+    }
+    let none = [0u8; SET_BYTES];
+    part_inside(site, b, &none)
+}
+
+// The rows of the general link m fit.
+fn rows_fit(site: &[u8], m: usize, ends: &[u8]) -> bool
+    requires { ⌜ (length (now site) ≡ siteBytes) × ((m < generalLinks) × (length (now ends) ≡ setBytes)) ⌝ }
+    ensures { λ r. ⌜ r ≡ all setSlots (λ s. rowInside (now (site .entry)) (rowAt m s) (now (ends .entry)) s) ⌝ }
+{
+    for s in 0..SET_SLOTS {
+        if !row_fits(site, ROWS_AT + ROWS_BYTES * m + SET_BYTES * s, s, ends) {
+            return false;
+        }
+    }
+    true
+}
+
+// The target t of slot s is none, or both are in `ends`.
+fn target_fits(s: usize, t: usize, ends: &[u8]) -> bool
+    requires { ⌜ (s < setSlots) × ((t < setSlots) × (length (now ends) ≡ setBytes)) ⌝ }
+    ensures { λ r. ⌜ r ≡ targetInside (now (ends .entry)) s t ⌝ }
+{
+    if t == 0 {
+        return true;
+    }
+    if !bitset::member(ends, s) {
+        return false;
+    }
+    bitset::member(ends, t)
+}
+
+// The targets of the functional link f fit.
+fn targets_fit(site: &[u8], f: usize, ends: &[u8]) -> bool
+    requires { ⌜ (length (now site) ≡ siteBytes) × ((generalLinks ≤ f) × ((f < links) × (length (now ends) ≡ setBytes))) ⌝ }
+    ensures { λ r. ⌜ r ≡ all setSlots (λ s. targetInside (now (ends .entry)) s (getD (now (site .entry)) (targetAt f s) 0)) ⌝ }
+{
+    for s in 0..SET_SLOTS {
+        let t = target(site, f, s);
+        if !target_fits(s, t, ends) {
+            return false;
+        }
+    }
+    true
+}
+
+// Link m touches the slots of `ends` alone.
+fn link_fits(site: &[u8], m: usize, ends: &[u8]) -> bool
+    requires { ⌜ (length (now site) ≡ siteBytes) × ((m < links) × ((length (now ends) ≡ setBytes) × Is (now ends) (λ s. not (barred (siteOf (now site)) s)))) ⌝ }
+    ensures { λ r. ⌜ r ≡ not (touches (siteOf (now (site .entry))) m) ⌝ }
+{
+    if m < GENERAL_LINKS {
+        rows_fit(site, m, ends)
+    } else {
+        targets_fit(site, m, ends)
+    }
+}
+
+// The site does not meet item 6.
+pub fn links_fit(site: &[u8]) -> bool
+    requires { ⌜ length (now site) ≡ siteBytes ⌝ }
+    ensures { λ r. ⌜ r ≡ not (item6 (siteOf (now (site .entry)))) ⌝ }
+{
+    let ends = link_ends(site);
+    for m in 0..LINKS {
+        if !link_fits(site, m, &ends) {
+            return false;
+        }
+    }
+    true
+}
+
+// The first of items 3 to 6 that the bytes meet.
+pub fn check(site: &[u8]) -> Verdict
+    ensures { λ r. ⌜ r ≡ siteVerdict (now (site .entry)) ⌝ }
+{
+    if site.len() != SITE_BYTES {
+        return Verdict::Refused(3, 0);
+    }
+    if !names_fit(site) {
+        return Verdict::Refused(4, 0);
+    }
+    if !labels_fit(site) {
+        return Verdict::Refused(5, 0);
+    }
+    if !links_fit(site) {
+        return Verdict::Refused(6, 0);
+    }
+    Verdict::Accepted
+}
