@@ -2,3 +2,5 @@
 pub mod Read
 pub mod Target
 pub mod Fits
+pub mod Valid
+pub mod Same

@@ -30,7 +30,7 @@ slice-aggregate-link-fits : tie.Need-slice-aggregate-link-fits Inv-loop μ-loop
 slice-aggregate-link-fits c = search needs
 
 link-fits-requires : tie.Need-link-fits-requires Inv-loop μ-loop
-link-fits-requires c κs = (c .before .before .before .before .before .pre, (c .before .loop-test .taken, (search needs, c .before .before .before .link-ends .ensures)))
+link-fits-requires c κs = (c .before .before .before .before .before .pre, (omega arith, (search needs, c .before .before .before .link-ends .ensures)))
 
 returns : tie.Need-returns Inv-loop μ-loop
 returns c = sym (links-all _ ∙ all-not links _ (c .before .before .before .before .loop .m) (c .before .before .before .loop-test .taken) (sym (c .before .link-fits .ensures) ∙ not-true _ (c .if1 .taken)))

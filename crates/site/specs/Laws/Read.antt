@@ -2,7 +2,7 @@
 use mathlib.Core.Path.{_≡_, _∙_, ap}
 use mathlib.Core.Bool.{Bool, true, false, not, _&&_}
 use mathlib.Core.List.{List}
-use Prim.Native.Nat.{ℕ, _+_, _*_, _≤_, _<_}
+use Prim.Native.Nat.{ℕ, _+_, _*_, _^_, _≤_, _<_}
 use native.Mathlib.Omega.{arith}
 use lib.ListN.{getD}
 use Rattle.finite.specs.Tests.{same, below}
@@ -13,6 +13,10 @@ use Rattle.semantics.specs.Form.{slots, labels, names, links}
 use Rattle.semantics.specs.Edit.{functional}
 use Rattle.site.specs.Layout.{generalLinks, labelAt, nameAt, targetAt, rowAt}
 use Rattle.site.specs.Site.{linked, siteOf}
+
+-- a byte fits a usize
+pub byte-fits : (x : ℕ) → x < 256 → x < 2 ^ 64
+byte-fits x h = omega arith
 
 pub functional-in : (f : ℕ) → generalLinks ≤ f → f < links → functional f ≡ true
 unfolding functional
