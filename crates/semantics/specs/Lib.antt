@@ -1,4 +1,4 @@
--- What sites, conditions, sheets and classes mean. A reader has to believe these seven files.
+-- What sites, conditions, sheets and classes mean. A reader has to believe these six files and the tests of crate `finite`.
 pub mod Form
 pub mod Holds
 pub mod Table

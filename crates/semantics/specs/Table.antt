@@ -5,7 +5,7 @@ use mathlib.Core.Bool.{Bool, true, not, _&&_, cond}
 use Prim.Native.Nat.{ℕ, suc, _+_, _-_, _<_}
 use lib.ListN.{length, getD}
 use Rattle.finite.specs.Tests.{same, below, all}
-use Rattle.semantics.specs.Form.{slots, labels, names, links, variables, Way, along, against, every, Form, top, here, label, name, var, neg, or, and, dia, box, mu, nu, slot, even, closed}
+use Rattle.semantics.specs.Form.{slots, labels, names, variables, Way, along, against, every, Form, top, here, label, name, var, neg, or, and, dia, box, mu, nu, slot, even, closed}
 
 -- the kinds of node: with no child, one (left) and two
 pub data Leaf : Type 0 where

@@ -4,7 +4,7 @@ use mathlib.Core.Bool.{not, _&&_}
 use Prim.Native.Nat.{_-_}
 use native.Mathlib.Omega.{arith}
 use lib.Bits.{and-lt}
-use Rattle.finite.specs.Laws.Loops.{any-all}
+use Rattle.finite.specs.Laws.Dual.{any-all}
 use Rattle.bitset.specs.Set.{setBytes, setSlots, has}
 use Rattle.bitset.specs.Laws.Test.{Tested, test-none, test-more, test-fails, test-done, meet-byte}
 use Rattle.bitset.proofs.meets.Statement.{statement}

@@ -9,7 +9,7 @@ use lib.ListN.{getD}
 use Rattle.finite.specs.Tests.{bit, count}
 use Rattle.finite.specs.Laws.Bits.{all-below}
 use Rattle.finite.specs.Laws.Below.{count-cong}
-use Rattle.finite.specs.Laws.Loops.{count-add, count-le}
+use Rattle.finite.specs.Laws.Count.{count-add, count-le}
 use Rattle.bitset.specs.Set.{setBytes, has}
 use Rattle.bitset.specs.Laws.Bytes.{has-byte}
 

@@ -11,7 +11,8 @@ use borrow.Author.Tests.{ne-eqb}
 use Rattle.finite.specs.Tests.{bit, all}
 use Rattle.finite.specs.Laws.Bits.{beq-eq, all-below, bit-and, bit-not}
 use Rattle.finite.specs.Laws.Below.{all-cong}
-use Rattle.finite.specs.Laws.Loops.{all-add, imp-and}
+use Rattle.finite.specs.Laws.Loops.{all-add}
+use Rattle.finite.specs.Laws.Bools.{imp-and}
 use Rattle.bitset.specs.Set.{setBytes, setSlots, has}
 use Rattle.bitset.specs.Laws.Bytes.{has-byte}
 

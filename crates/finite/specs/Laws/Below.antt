@@ -1,12 +1,12 @@
 -- Laws of the tests of numbers: equality, order, and tests of every number below a bound.
-use mathlib.Core.Path.{_≡_, refl, sym, _∙_, ap, ap₂, subst, subst⁻¹}
+use mathlib.Core.Path.{_≡_, refl, sym, ap₂, subst, subst⁻¹}
 use mathlib.Core.Logic.{_⊎_, inl, inr, _≢_}
 use mathlib.Core.Bool.{Bool, true, false, not, _&&_, _||_, cond}
 use Prim.Native.Nat.{ℕ, zero, suc, _+_, _≤_, _<_}
 use native.Mathlib.Omega.{arith}
 use lib.Dec.{T, eqb, eqb→eq, eqb-refl, ltb, ltb→lt, lt→ltb}
-use Rattle.finite.specs.Tests.{same, below, any, all, count, first}
-use Rattle.finite.specs.Laws.Bools.{either, look, clash, no-true, and-in, and-l, and-r, or-l, or-r, or-out, not-in, not-out, imp-fails}
+use Rattle.finite.specs.Tests.{same, below, any, all, count}
+use Rattle.finite.specs.Laws.Bools.{either, look, clash, no-true, and-in, and-l, and-r, or-l, or-r, or-out, not-in}
 
 -- equality of numbers, as a test
 pass : (b : Bool) → T b → b ≡ true
@@ -119,20 +119,3 @@ unfolding count
 count-cong zero f g h = refl
 count-cong (suc n) f g h =
     ap₂ (λ (b : Bool) (k : ℕ). cond b 1 0 + k) (h n (omega arith)) (count-cong n f g (λ t k. h t (omega arith)))
-
--- the lowest that passes: none below it does, and it does itself
-pub first-is : (n : ℕ) (f : ℕ → Bool) (i : ℕ) → i < n → any i f ≡ false → f i ≡ true → first n f ≡ i
-unfolding first any
-first-is zero f i h e p = absurd (omega arith)
-first-is (suc n) f i h e p =
-    either
-    (equal? i n)
-    (λ q. rw (subst (λ k. any k f ≡ false) q e, subst (λ k. f k ≡ true) q p, first) (sym q))
-    (λ q. rw (any-in n f i (omega arith) p, first) (first-is n f i (omega arith) e p))
-
-pub first-none : (n : ℕ) (f : ℕ → Bool) → any n f ≡ false → first n f ≡ n
-unfolding first any
-first-none zero f e = refl
-first-none (suc n) f e =
-    let a : any n f ≡ false = none-any n f (λ t h. any-none (suc n) f e t (omega arith)) in
-    rw (a, any-none (suc n) f e n (omega arith), first)

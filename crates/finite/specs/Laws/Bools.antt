@@ -60,3 +60,9 @@ pub both : {a b : Bool} → (a ≡ true → b ≡ true) → (b ≡ true → a �
 both {a = true} {b = b} f g = sym (f refl)
 both {a = false} {b = true} f g = g refl
 both {a = false} {b = false} f g = refl
+
+-- an implication, as a test
+pub imp-and : (a b : Bool) → (not a || b) ≡ not (a && not b)
+imp-and true true = refl
+imp-and true false = refl
+imp-and false b = refl

@@ -1,7 +1,8 @@
 -- Laws of counting: how many numbers below a bound pass a test.
 use mathlib.Core.Path.{_≡_, sym, subst}
 use mathlib.Core.Bool.{Bool, true, false}
-use Prim.Native.Nat.{ℕ, zero, suc, _≤_, _<_}
+use Prim.Native.Nat.{ℕ, zero, suc, _+_, _≤_, _<_}
+use native.Mathlib.Nat.{add-zero, add-suc}
 use native.Mathlib.Omega.{arith}
 use Rattle.finite.specs.Tests.{count}
 use Rattle.finite.specs.Laws.Bools.{either, look}
@@ -48,3 +49,9 @@ count-full (suc n) f h x k =
     let l : n ≤ count n f = omega (arith, rw (e, count) at h) in
     either (equal? x n) (λ q. subst (λ y. f y ≡ true) (sym q) e) (λ q. count-full n f l x (omega arith)))
     (λ e. absurd (omega (arith, rw (e, count) at h, count-le n f)))
+
+-- below a bound that is a sum
+pub count-add : (m n : ℕ) (f : ℕ → Bool) → count (m + n) f ≡ count m f + count n (λ k. f (m + k))
+unfolding count
+count-add m zero f = rw (add-zero m) (omega arith)
+count-add m (suc n) f = rw (add-suc, count-add m n f) (omega arith)

@@ -8,9 +8,10 @@ use native.Mathlib.Nat.{zero-add}
 use native.Mathlib.Omega.{arith}
 use lib.ListN.{length, getD, take, drop, replicate}
 use Rattle.finite.specs.Tests.{same, all}
-use Rattle.finite.specs.Laws.Bools.{either, look, or-l, or-r}
+use Rattle.finite.specs.Laws.Bools.{either, look, or-l, or-r, imp-and}
 use Rattle.finite.specs.Laws.Below.{equal?, same-refl, ne-same, all-cong, all-in}
-use Rattle.finite.specs.Laws.Loops.{all-not, none-all, imp-and}
+use Rattle.finite.specs.Laws.Loops.{all-not}
+use Rattle.finite.specs.Laws.Dual.{none-all}
 use Rattle.bitset.specs.Set.{setBytes, setSlots, has, Is, removed}
 use Rattle.bitset.specs.Laws.Bytes.{has-empty}
 use Rattle.bitset.specs.Laws.Slot.{has-removed}

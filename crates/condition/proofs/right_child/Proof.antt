@@ -1,0 +1,17 @@
+-- `condition::right_child` meets its contract.
+use Rattle.condition.specs.Laws.Limits.{right-lower}
+use Rattle.condition.specs.Laws.Fits.{node-fits}
+use Rattle.condition.specs.Bytes.{nodeAt}
+use native.Mathlib.Omega.{arith}
+use borrow.Author.Needs.{needs}
+use Rattle.condition.proofs.right_child.Statement.{statement}
+use Rattle.condition.proofs.right_child.Tie as tie
+
+right-requires : tie.Need-right-requires
+right-requires c κs = search needs
+
+returns : tie.Need-returns
+returns c = let a = c .before .before .args in let p = c .before .before .pre in let f = right-lower (a .i) (nodeAt (a .table .now) (a .i)) (node-fits (a .table .now) (p .0) (a .i) (p .1 .0)) (p .1 .1 .0) (p .1 .1 .1) in (omega arith, omega arith)
+
+pub right-child-spec : {M : Type 1} → statement M
+right-child-spec = tie.close (tie.spec right-requires returns)

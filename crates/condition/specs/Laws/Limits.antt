@@ -1,0 +1,149 @@
+-- Item 8 and the bounds on a node's fields are one.
+use mathlib.Core.Path.{_≡_, refl, sym, _∙_, ap, ap₂, subst}
+use mathlib.Core.Bool.{Bool, true, false, _&&_, cond}
+use Prim.Native.Nat.{ℕ, zero, suc, _-_, _≤_, _<_}
+use native.Mathlib.Omega.{arith}
+use lib.Dec.{ltb}
+use borrow.Author.Tests.{lt-ltb, le-ltb}
+use Rattle.finite.specs.Tests.{same, below}
+use Rattle.finite.specs.Laws.Bools.{and-l, and-r, both}
+use Rattle.finite.specs.Laws.Below.{same-eq, eq-same, below-in, below-out, below-not}
+use Rattle.semantics.specs.Form.{slots}
+use Rattle.semantics.specs.Table.{Leaf, kTrue, kHere, kLabel, kName, kVar, kSlot, Unary, kNot, kDia, kBox, kMu, kNu, Kind, leaf, unary, binary, kindOf, Node, leafFits, unaryFits, kindFits, nodeFits}
+use Rattle.condition.specs.Limits.{paramLimit, leftLimit, rightLimit}
+
+-- a field that is not used
+same-below : (n : ℕ) → same n 0 ≡ below n 1
+same-below n =
+    both
+    (λ e. let z = same-eq e in below-in n 1 (omega arith))
+    (λ e. let l = below-out n 1 e in eq-same (let z : n ≡ 0 = omega arith in z))
+
+leaf-limit : (k : Leaf) (p : ℕ) → leafFits k p ≡ below p (paramLimit (leaf k))
+unfolding leafFits paramLimit slots
+leaf-limit kTrue p = same-below p
+leaf-limit kHere p = same-below p
+leaf-limit kLabel p = refl
+leaf-limit kName p = refl
+leaf-limit kVar p = refl
+leaf-limit kSlot p = refl
+
+unary-limit : (k : Unary) (p : ℕ) → unaryFits k p ≡ below p (paramLimit (unary k))
+unfolding unaryFits paramLimit
+unary-limit kNot p = same-below p
+unary-limit kDia p = refl
+unary-limit kBox p = refl
+unary-limit kMu p = refl
+unary-limit kNu p = refl
+
+-- each field of the node x with number i, of kind k, is below its bound
+unfoldable pub within : ℕ → Node → Kind → Bool
+within i x k = below (x .param) (paramLimit k) && (below (x .left) (leftLimit k i) && below (x .right) (rightLimit k i))
+
+kind-limits : (i : ℕ) (x : Node) (k : Kind) → kindFits i x k ≡ within i x k
+unfolding kindFits within leftLimit rightLimit paramLimit
+kind-limits i x (leaf k) =
+    ap₂ _&&_ (leaf-limit k (x .param)) (ap₂ _&&_ (same-below (x .left)) (same-below (x .right)))
+kind-limits i x (unary k) =
+    ap₂ _&&_ (unary-limit k (x .param)) (ap (λ (b : Bool). below (x .left) i && b) (same-below (x .right)))
+kind-limits i x (binary k) = ap (λ (b : Bool). b && (below (x .left) i && below (x .right) i)) (same-below (x .param))
+
+pub node-limits : (i : ℕ) (x : Node) → nodeFits i x ≡ (below (x .kind) 13 && within i x (kindOf (x .kind)))
+unfolding nodeFits
+node-limits i x = ap (λ (b : Bool). below (x .kind) 13 && b) (kind-limits i x (kindOf (x .kind)))
+
+-- ---- the bounds by the kind's number
+
+-- by the kinds 0 to 11, and 12 with what is read as it
+pub each-kind : (P : ℕ → Type 0) → P 0 → P 1 → P 2 → P 3 → P 4 → P 5 → P 6 → P 7 → P 8 → P 9 → P 10 → P 11 → ((k : ℕ) → 12 ≤ k → P k) → (k : ℕ) → P k
+each-kind P a0 a1 a2 a3 a4 a5 a6 a7 a8 a9 a10 a11 r zero = a0
+each-kind P a0 a1 a2 a3 a4 a5 a6 a7 a8 a9 a10 a11 r (suc zero) = a1
+each-kind P a0 a1 a2 a3 a4 a5 a6 a7 a8 a9 a10 a11 r (suc (suc zero)) = a2
+each-kind P a0 a1 a2 a3 a4 a5 a6 a7 a8 a9 a10 a11 r (suc (suc (suc zero))) = a3
+each-kind P a0 a1 a2 a3 a4 a5 a6 a7 a8 a9 a10 a11 r (suc (suc (suc (suc zero)))) = a4
+each-kind P a0 a1 a2 a3 a4 a5 a6 a7 a8 a9 a10 a11 r (suc (suc (suc (suc (suc zero))))) = a5
+each-kind P a0 a1 a2 a3 a4 a5 a6 a7 a8 a9 a10 a11 r (suc (suc (suc (suc (suc (suc zero)))))) = a6
+each-kind P a0 a1 a2 a3 a4 a5 a6 a7 a8 a9 a10 a11 r (suc (suc (suc (suc (suc (suc (suc zero))))))) = a7
+each-kind P a0 a1 a2 a3 a4 a5 a6 a7 a8 a9 a10 a11 r (suc (suc (suc (suc (suc (suc (suc (suc zero)))))))) = a8
+each-kind P a0 a1 a2 a3 a4 a5 a6 a7 a8 a9 a10 a11 r (suc (suc (suc (suc (suc (suc (suc (suc (suc zero))))))))) = a9
+each-kind P a0 a1 a2 a3 a4 a5 a6 a7 a8 a9 a10 a11 r (suc (suc (suc (suc (suc (suc (suc (suc (suc (suc zero)))))))))) = a10
+each-kind P a0 a1 a2 a3 a4 a5 a6 a7 a8 a9 a10 a11 r (suc (suc (suc (suc (suc (suc (suc (suc (suc (suc (suc zero))))))))))) = a11
+each-kind P a0 a1 a2 a3 a4 a5 a6 a7 a8 a9 a10 a11 r (suc (suc (suc (suc (suc (suc (suc (suc (suc (suc (suc (suc k)))))))))))) = r _ (omega arith)
+
+pub kind-past : (k : ℕ) → 12 ≤ k → kindOf k ≡ leaf kSlot
+unfolding kindOf
+kind-past k h = let e : suc (suc (suc (suc (suc (suc (suc (suc (suc (suc (suc (suc (k - 12)))))))))))) ≡ k = omega arith in subst (λ (j : ℕ). kindOf j ≡ leaf kSlot) e refl
+
+pub number-limit : (k : ℕ) → paramLimit (kindOf k) ≡ cond (ltb k 2) 1 (cond (ltb k 5) 16 (cond (ltb k 8) 1 (cond (ltb k 10) 17 (cond (ltb k 12) 16 256))))
+unfolding kindOf paramLimit
+number-limit =
+    each-kind _ refl refl refl refl refl refl refl refl refl refl refl refl
+    (λ k h. rw (kind-past k h, le-ltb k 2 (omega arith), le-ltb k 5 (omega arith), le-ltb k 8 (omega arith), le-ltb k 10 (omega arith), le-ltb k 12 h) refl)
+
+pub limit-name : (k : ℕ) → 2 ≤ k → k < 5 → paramLimit (kindOf k) ≡ 16
+limit-name k h l = rw (number-limit k, le-ltb k 2 h, lt-ltb k 5 l) refl
+
+pub limit-way : (k : ℕ) → 8 ≤ k → k < 10 → paramLimit (kindOf k) ≡ 17
+limit-way k h l = rw (number-limit k, le-ltb k 2 (omega arith), le-ltb k 5 (omega arith), le-ltb k 8 h, lt-ltb k 10 l) refl
+
+pub limit-loop : (k : ℕ) → 10 ≤ k → k < 12 → paramLimit (kindOf k) ≡ 16
+limit-loop k h l =
+    rw (number-limit k, le-ltb k 2 (omega arith), le-ltb k 5 (omega arith), le-ltb k 8 (omega arith), le-ltb k 10 h, lt-ltb k 12 l) refl
+
+pub left-limit : (i k : ℕ) → leftLimit (kindOf k) i ≡ cond (ltb k 5) 1 (cond (ltb k 12) i 1)
+unfolding kindOf leftLimit
+left-limit i = each-kind _ refl refl refl refl refl refl refl refl refl refl refl refl (λ k h. rw (kind-past k h, le-ltb k 5 (omega arith), le-ltb k 12 h) refl)
+
+pub right-limit : (i k : ℕ) → rightLimit (kindOf k) i ≡ cond (ltb k 6) 1 (cond (ltb k 8) i 1)
+unfolding kindOf rightLimit
+right-limit i = each-kind _ refl refl refl refl refl refl refl refl refl refl refl refl (λ k h. rw (kind-past k h, le-ltb k 6 (omega arith), le-ltb k 8 (omega arith)) refl)
+
+-- ---- what a node that fits has: children that are lower, and a parameter below its kind's bound
+
+module _ (i : ℕ) (x : Node) (f : nodeFits i x ≡ true) where
+  inside : within i x (kindOf (x .kind)) ≡ true
+  inside = and-r (below (x .kind) 13) _ (sym (node-limits i x) ∙ f)
+
+  pub kind-small : x .kind < 13
+  kind-small = below-out _ 13 (and-l _ (within i x (kindOf (x .kind))) (sym (node-limits i x) ∙ f))
+
+  pub param-lower : x .param < paramLimit (kindOf (x .kind))
+  unfolding within
+  param-lower = below-out _ _ (and-l _ _ inside)
+
+  pub left-lower : 5 ≤ x .kind → x .kind ≤ 11 → x .left < i
+  unfolding within
+  left-lower h l =
+      let b : below (x .left) (leftLimit (kindOf (x .kind)) i) ≡ true = and-l _ _ (and-r (below (x .param) _) _ inside) in
+      below-out (x .left) i (rw (left-limit i (x .kind), le-ltb (x .kind) 5 h, lt-ltb (x .kind) 12 (omega arith)) at b)
+
+  pub right-lower : 6 ≤ x .kind → x .kind ≤ 7 → x .right < i
+  unfolding within
+  right-lower h l =
+      let b : below (x .right) (rightLimit (kindOf (x .kind)) i) ≡ true =
+      and-r (below (x .left) _) _ (and-r (below (x .param) _) _ inside) in
+      below-out (x .right) i (rw (right-limit i (x .kind), le-ltb (x .kind) 6 h, lt-ltb (x .kind) 8 (omega arith)) at b)
+
+-- ---- the test of a node, field by field
+
+module _ (i k : ℕ) (x : Node) (e : k ≡ x .kind) where
+  pub unfit-kind : 13 ≤ k → nodeFits i x ≡ false
+  unfit-kind h = rw (node-limits i x, below-not (x .kind) 13 (omega arith)) refl
+
+  module _ (h : k < 13) where
+    known : below (x .kind) 13 ≡ true
+    known = below-in (x .kind) 13 (omega arith)
+
+    module _ (p m : ℕ) (ep : p ≡ x .param) (em : m ≡ paramLimit (kindOf k)) where
+      pub unfit-param : m ≤ p → nodeFits i x ≡ false
+      unfolding within
+      unfit-param g = rw (node-limits i x, known, ← e, ← em, ← ep, below-not p m g) refl
+
+      module _ (hp : p < m) (l n : ℕ) (el : l ≡ x .left) (en : n ≡ leftLimit (kindOf k) i) where
+        pub unfit-left : n ≤ l → nodeFits i x ≡ false
+        unfolding within
+        unfit-left g = rw (node-limits i x, known, ← e, ← em, ← ep, below-in p m hp, ← en, ← el, below-not l n g) refl
+
+        pub fits-right : (r o : ℕ) → r ≡ x .right → o ≡ rightLimit (kindOf k) i → l < n → ltb r o ≡ nodeFits i x
+        unfolding within below
+        fits-right r o er eo g = rw (node-limits i x, known, ← e, ← em, ← ep, below-in p m hp, ← en, ← el, below-in l n g, ← eo, ← er) refl

@@ -1,0 +1,174 @@
+// The node table of a condition: reading a node's fields, and items 7 and 8.
+ghost use mathlib.Core.Path.{_≡_};
+ghost use mathlib.Core.Bool.{true};
+ghost use Prim.Native.Nat.{_+_, _*_, _≤_, _<_};
+ghost use lib.ListN.{length};
+ghost use Rattle.semantics.specs.Table.{kindOf, nodeFits, nodesFit};
+ghost use Rattle.condition.specs.Bytes.{wordAt, nodeAt, tableOf};
+ghost use Rattle.condition.specs.Limits.{paramLimit, leftLimit, rightLimit};
+ghost use Rattle.condition.specs.Refusal.{sizeFits, firstUnfit};
+
+// Item 7 is not met by a table of n bytes.
+pub fn size_fits(n: usize) -> bool
+    ensures { λ r. ⌜ r ≡ sizeFits n ⌝ }
+{
+    if n % 6 != 0 {
+        return false;
+    }
+    if n < 6 {
+        return false;
+    }
+    if 12288 < n {
+        return false;
+    }
+    true
+}
+
+fn wide(x: u8) -> usize
+    ensures { λ r. ⌜ (r ≡ x) × (r < 256) ⌝ }
+{
+    x as usize
+}
+
+fn word(table: &[u8], at: usize) -> usize
+    requires { ⌜ at + 2 ≤ length (now table) ⌝ }
+    ensures { λ r. ⌜ (r ≡ wordAt (now (table .entry)) at) × (r < 65536) ⌝ }
+{
+    wide(table[at]) + 256 * wide(table[at + 1])
+}
+
+// The fields of node i, of any bytes.
+pub fn kind(table: &[u8], i: usize) -> u8
+    requires { ⌜ 6 * i + 6 ≤ length (now table) ⌝ }
+    ensures { λ r. ⌜ r ≡ nodeAt (now (table .entry)) i .kind ⌝ }
+{
+    table[6 * i]
+}
+
+pub fn param(table: &[u8], i: usize) -> u8
+    requires { ⌜ 6 * i + 6 ≤ length (now table) ⌝ }
+    ensures { λ r. ⌜ r ≡ nodeAt (now (table .entry)) i .param ⌝ }
+{
+    table[6 * i + 1]
+}
+
+pub fn left(table: &[u8], i: usize) -> usize
+    requires { ⌜ 6 * i + 6 ≤ length (now table) ⌝ }
+    ensures { λ r. ⌜ (r ≡ nodeAt (now (table .entry)) i .left) × (r < 65536) ⌝ }
+{
+    word(table, 6 * i + 2)
+}
+
+pub fn right(table: &[u8], i: usize) -> usize
+    requires { ⌜ 6 * i + 6 ≤ length (now table) ⌝ }
+    ensures { λ r. ⌜ (r ≡ nodeAt (now (table .entry)) i .right) × (r < 65536) ⌝ }
+{
+    word(table, 6 * i + 4)
+}
+
+// The same of a table whose nodes fit, with what a caller relies on: a label, name or variable is below 16, a child is lower.
+pub fn number(table: &[u8], i: usize) -> usize
+    requires { ⌜ nodesFit 0 (tableOf (now table)) ≡ true ⌝ }
+    requires { ⌜ 6 * i + 6 ≤ length (now table) ⌝ }
+    requires { ⌜ paramLimit (kindOf (nodeAt (now table) i .kind)) ≡ 16 ⌝ }
+    ensures { λ r. ⌜ (r ≡ nodeAt (now (table .entry)) i .param) × (r < 16) ⌝ }
+{
+    wide(param(table, i))
+}
+
+pub fn left_child(table: &[u8], i: usize) -> usize
+    requires { ⌜ nodesFit 0 (tableOf (now table)) ≡ true ⌝ }
+    requires { ⌜ 6 * i + 6 ≤ length (now table) ⌝ }
+    requires { ⌜ (5 ≤ nodeAt (now table) i .kind) × (nodeAt (now table) i .kind ≤ 11) ⌝ }
+    ensures { λ r. ⌜ (r ≡ nodeAt (now (table .entry)) i .left) × (r < i) ⌝ }
+{
+    left(table, i)
+}
+
+pub fn right_child(table: &[u8], i: usize) -> usize
+    requires { ⌜ nodesFit 0 (tableOf (now table)) ≡ true ⌝ }
+    requires { ⌜ 6 * i + 6 ≤ length (now table) ⌝ }
+    requires { ⌜ (6 ≤ nodeAt (now table) i .kind) × (nodeAt (now table) i .kind ≤ 7) ⌝ }
+    ensures { λ r. ⌜ (r ≡ nodeAt (now (table .entry)) i .right) × (r < i) ⌝ }
+{
+    right(table, i)
+}
+
+// The bounds of item 8 by kind. A field that is not used has the one value 0.
+fn params(k: u8) -> usize
+    ensures { λ r. ⌜ r ≡ paramLimit (kindOf k) ⌝ }
+{
+    if k < 2 {
+        return 1;
+    }
+    if k < 5 {
+        return 16;
+    }
+    if k < 8 {
+        return 1;
+    }
+    if k < 10 {
+        return 17;
+    }
+    if k < 12 {
+        return 16;
+    }
+    256
+}
+
+fn lefts(k: u8, i: usize) -> usize
+    ensures { λ r. ⌜ r ≡ leftLimit (kindOf k) i ⌝ }
+{
+    if k < 5 {
+        return 1;
+    }
+    if k < 12 {
+        return i;
+    }
+    1
+}
+
+fn rights(k: u8, i: usize) -> usize
+    ensures { λ r. ⌜ r ≡ rightLimit (kindOf k) i ⌝ }
+{
+    if k < 6 {
+        return 1;
+    }
+    if k < 8 {
+        return i;
+    }
+    1
+}
+
+// Item 8 is not met by node i.
+pub fn node_fits(table: &[u8], i: usize) -> bool
+    requires { ⌜ 6 * i + 6 ≤ length (now table) ⌝ }
+    ensures { λ r. ⌜ r ≡ nodeFits i (nodeAt (now (table .entry)) i) ⌝ }
+{
+    let k = kind(table, i);
+    if 13 <= k {
+        return false;
+    }
+    if wide(param(table, i)) >= params(k) {
+        return false;
+    }
+    if left(table, i) >= lefts(k, i) {
+        return false;
+    }
+    right(table, i) < rights(k, i)
+}
+
+// The lowest node that meets item 8, and the number of nodes where none does.
+pub fn first_unfit(table: &[u8]) -> usize
+    ensures { λ r. ⌜ r ≡ firstUnfit (now (table .entry)) ⌝ }
+{
+    let n = table.len() / 6;
+    let mut i = 0;
+    while i < n {
+        if !node_fits(table, i) {
+            return i;
+        }
+        i += 1;
+    }
+    i
+}

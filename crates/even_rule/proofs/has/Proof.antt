@@ -1,0 +1,19 @@
+-- `even_rule::has` meets its contract.
+use Rattle.finite.specs.Tests.{bit}
+use mathlib.Core.Path.{refl}
+use borrow.Author.Needs.{needs}
+use Rattle.even_rule.proofs.has.Statement.{statement}
+use Rattle.even_rule.proofs.has.Tie as tie
+
+cast-result : tie.Need-cast-result
+cast-result c = search needs
+
+shr-result : tie.Need-shr-result
+shr-result c = search needs
+
+returns : tie.Need-returns
+unfolding bit
+returns c = refl
+
+pub has-spec : {M : Type 1} → statement M
+has-spec = tie.close (tie.spec cast-result shr-result returns)

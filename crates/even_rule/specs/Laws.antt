@@ -1,0 +1,5 @@
+-- Laws of the pass, by topic.
+pub mod Shows
+pub mod Pass
+pub mod Check
+pub mod Answer

@@ -1,0 +1,294 @@
+#!/usr/bin/env python3
+"""Writes crates/verdicts/stdin and stdout: pieces of jobs, and for each the refusal that document 01 gives it.
+
+The items are written here once more, from the paper alone and in another way than in the crates
+(sites as Python sets, a condition's free variables as sets of pairs), so a difference shows.
+
+A piece is a kind (1 site, 2 condition, 3 sheet), its length and how many of its bytes are not 0
+(2 bytes each, low byte first), then each such byte as its place (2 bytes) and its value.
+"""
+import os
+import random
+import sys
+
+SITE, CONDITION, SHEET = 1, 2, 3
+NAMES = {SITE: "site", CONDITION: "condition", SHEET: "sheet"}
+LABELS_AT, NAMES_AT, TARGETS_AT, ROWS_AT, SITE_BYTES = 32, 544, 560, 1584, 34352
+
+
+# ---- the items, as document 01 words them
+
+def members(data, at):
+    return {8 * i + k for i in range(32) for k in range(8) if data[at + i] >> k & 1}
+
+
+def judge_site(d):
+    if len(d) != SITE_BYTES:
+        return 3, 0
+    present = members(d, 0)
+    names = d[NAMES_AT:NAMES_AT + 16]
+    if 0 not in present or names[0] != 0 or any(n not in present for n in names):
+        return 4, 0
+    if any(not members(d, LABELS_AT + 32 * p) <= present for p in range(16)):
+        return 5, 0
+    ends = present - {0}
+    for m in range(4):
+        for s in range(256):
+            row = members(d, ROWS_AT + 8192 * m + 32 * s)
+            if row and (s not in ends or not row <= ends):
+                return 6, 0
+    for f in range(4):
+        for s in range(256):
+            t = d[TARGETS_AT + 256 * f + s]
+            if t and (s not in ends or t not in ends):
+                return 6, 0
+    return None
+
+
+UNARY, BINARY = {5, 8, 9, 10, 11}, {6, 7}
+PARAMS = {0: 1, 1: 1, 2: 16, 3: 16, 4: 16, 5: 1, 6: 1, 7: 1, 8: 17, 9: 17, 10: 16, 11: 16, 12: 256}
+
+
+def judge_condition(d):
+    if len(d) % 6 or not 6 <= len(d) <= 12288:
+        return 7, 0
+    nodes = [(d[i], d[i + 1], d[i + 2] + 256 * d[i + 3], d[i + 4] + 256 * d[i + 5]) for i in range(0, len(d), 6)]
+    for i, (kind, param, left, right) in enumerate(nodes):
+        fits = kind in PARAMS and param < PARAMS[kind]
+        fits = fits and (left < i if kind in UNARY | BINARY else left == 0)
+        fits = fits and (right < i if kind in BINARY else right == 0)
+        if not fits:
+            return 8, i
+    free = []
+    for i, (kind, param, left, right) in enumerate(nodes):
+        if kind == 4:
+            f = {(param, 0)}
+        elif kind == 5:
+            f = {(v, 1 - odd) for v, odd in free[left]}
+        elif kind in BINARY:
+            f = free[left] | free[right]
+        elif kind in (10, 11):
+            if (param, 1) in free[left]:
+                return 9, i
+            f = {(v, odd) for v, odd in free[left] if v != param}
+        elif kind in UNARY:
+            f = free[left]
+        else:
+            f = set()
+        free.append(f)
+    if free[-1]:
+        return 10, len(nodes) - 1
+    return None
+
+
+def name(x):
+    return x < 16
+
+
+def moved(x):
+    return 0 < x < 16
+
+
+def link(x):
+    return x < 8
+
+
+def functional(x):
+    return 4 <= x < 8
+
+
+def unused(x):
+    return x == 0
+
+
+def slot(x):
+    return x < 256
+
+
+OPERANDS = [
+    (moved, name, unused), (moved, name, functional), (name, name, unused), (name, name, unused),
+    (link, name, name), (link, name, name), (functional, name, unused), (moved, slot, unused), (name, unused, unused),
+]
+
+
+def judge_sheet(d):
+    if len(d) % 4 or len(d) > 256:
+        return 11, 0
+    for i in range(0, len(d), 4):
+        op = d[i]
+        if op > 8 or not all(ok(x) for ok, x in zip(OPERANDS[op], d[i + 1:i + 4])):
+            return 12, i // 4
+    return None
+
+
+JUDGES = {SITE: judge_site, CONDITION: judge_condition, SHEET: judge_sheet}
+
+
+# ---- pieces
+
+def put(site, at, slot):
+    site[at + slot // 8] |= 1 << slot % 8
+
+
+def site_a():
+    d = bytearray(SITE_BYTES)
+    for s in range(4):
+        put(d, 0, s)
+    put(d, LABELS_AT, 1)
+    d[NAMES_AT + 1], d[NAMES_AT + 2] = 2, 3
+    d[TARGETS_AT + 2], d[TARGETS_AT + 3] = 1, 2
+    return d
+
+
+def table(*nodes):
+    d = bytearray()
+    for kind, param, left, right in nodes:
+        d += bytes([kind, param, left % 256, left // 256, right % 256, right // 256])
+    return d
+
+
+R = table((2, 0, 0, 0), (4, 0, 0, 0), (8, 4, 1, 0), (6, 0, 0, 2), (10, 0, 3, 0))
+
+
+def sites(rng):
+    yield site_a()
+    for n in (0, SITE_BYTES - 1, SITE_BYTES + 1):
+        yield (site_a() + b"\0")[:n]
+    for at, value in (
+        (0, 14), (0, 0), (544, 1), (545, 4), (559, 255), (543, 128), (32, 3), (512, 1), (512, 16), (63, 128),
+        (560, 1), (561, 4), (564, 1), (1583, 1), (1327, 255), (1584, 2), (1616, 1), (1616, 2), (1616, 16), (1712, 2),
+        (34351, 128), (34320, 1), (26192, 4), (9776 + 32, 4), (9776 + 32, 1),
+    ):
+        d = site_a()
+        d[at] = value
+        yield d
+    d = site_a()
+    d[0], d[32], d[560] = 14, 255, 1
+    yield d
+    d[0] = 15
+    yield d
+    d[32] = 2
+    yield d
+    for _ in range(40):
+        d = bytearray(SITE_BYTES)
+        slots = sorted(rng.sample(range(1, 256), rng.randrange(1, 60)))
+        for s in [0] + slots:
+            put(d, 0, s)
+        for n in range(1, 16):
+            d[NAMES_AT + n] = rng.choice([0] + slots)
+        for _ in range(rng.randrange(60)):
+            put(d, LABELS_AT + 32 * rng.randrange(16), rng.choice([0] + slots))
+            put(d, ROWS_AT + 8192 * rng.randrange(4) + 32 * rng.choice(slots), rng.choice(slots))
+            d[TARGETS_AT + 256 * rng.randrange(4) + rng.choice(slots)] = rng.choice(slots)
+        for _ in range(rng.choice((0, 0, 1, 2))):
+            area = rng.choice(((0, 32), (32, 544), (544, 560), (560, 1584), (1584, SITE_BYTES)))
+            d[rng.randrange(*area)] ^= 1 << rng.randrange(8)
+        yield d
+
+
+def random_table(rng):
+    nodes = []
+    for i in range(rng.randrange(1, 40)):
+        kind = rng.choice((2, 3, 4, 4, 12, 0, 1) if i == 0 else (4, 4, 5, 5, 6, 7, 8, 9, 10, 11, 10, 11, 2, 3, 12, 0, 1))
+        child = lambda: rng.randrange(max(0, i - 4), i)
+        nodes.append((
+            kind,
+            rng.randrange(3) if kind in (4, 10, 11) else rng.randrange(PARAMS[kind]),
+            child() if kind in UNARY | BINARY else 0,
+            child() if kind in BINARY else 0,
+        ))
+    return nodes
+
+
+def conditions(rng):
+    yield R
+    yield bytearray()
+    for n in (5, 7, 12, 29, 31):
+        yield (R + b"\0\0")[:n]
+    full = table((0, 0, 0, 0), *((6, 0, i, i) for i in range(2047)))
+    yield full
+    yield full + table((6, 0, 2047, 2047))
+    for kind in range(14):
+        child = 1 if kind in UNARY | BINARY else 0
+        right = 1 if kind in BINARY else 0
+        top = PARAMS.get(kind, 1)
+        for node in (
+            (kind, 0, child, right), (kind, top - 1, child, right), (kind, min(top, 255), child, right), (kind, 1, child, right),
+            (kind, 0, 2, right), (kind, 0, child, 2), (kind, 0, 256, right), (kind, 0, child, 256), (kind, 0, 0, 0), (kind, 255, child, right),
+        ):
+            yield table((0, 0, 0, 0), (4, 0, 0, 0), node, (0, 0, 0, 0))
+    yield table((4, 0, 0, 0), (5, 0, 0, 0), (10, 0, 1, 0))
+    yield table((4, 0, 0, 0), (5, 0, 0, 0), (5, 0, 1, 0), (10, 0, 2, 0))
+    yield table((4, 0, 0, 0), (5, 0, 0, 0), (11, 1, 1, 0), (10, 0, 2, 0))
+    yield table((4, 0, 0, 0), (10, 0, 0, 0), (5, 0, 1, 0), (11, 0, 2, 0))
+    yield table((4, 0, 0, 0), (5, 0, 0, 0), (6, 0, 0, 1), (11, 0, 2, 0), (0, 0, 0, 0))
+    yield table((4, 15, 0, 0))
+    yield table((4, 15, 0, 0), (10, 14, 0, 0))
+    yield table((4, 15, 0, 0), (10, 15, 0, 0))
+    yield table((4, 3, 0, 0), (0, 0, 0, 0))
+    for _ in range(300):
+        nodes = random_table(rng)
+        if rng.random() < 0.5:
+            i = rng.randrange(len(nodes))
+            node = list(nodes[i])
+            node[rng.randrange(4)] = rng.choice((0, 1, i, i + 1, 13, 16, 17, 255))
+            nodes[i] = tuple(node)
+            nodes[i] = (nodes[i][0] % 256, nodes[i][1] % 256, nodes[i][2], nodes[i][3])
+        elif rng.random() < 0.7:
+            for v in range(3):
+                nodes.append((rng.choice((10, 11)), v, len(nodes) - 1, 0))
+        yield table(*nodes)
+
+
+def sheets(rng):
+    yield bytearray((6, 4, 1, 0))
+    yield bytearray()
+    for n in (1, 3, 5, 6):
+        yield bytearray((6, 4, 1, 0, 6, 4, 1, 0))[:n]
+    yield bytearray((6, 4, 1, 0)) * 64
+    yield bytearray((6, 4, 1, 0)) * 65
+    yield bytearray((6, 4, 1, 0)) * 63 + bytearray((6, 4, 1, 1))
+    for op in range(10):
+        for at in range(3):
+            for value in (0, 1, 3, 4, 7, 8, 15, 16, 255):
+                edit = [op, *(4 if op < 9 and ok in (link, functional) else 1 if op < 9 and ok is not unused else 0 for ok in OPERANDS[op % 9])]
+                edit[1 + at] = value
+                yield bytearray((6, 4, 1, 0)) + bytearray(edit)
+    for _ in range(100):
+        d = bytearray()
+        for _ in range(rng.randrange(1, 12)):
+            op = rng.randrange(9)
+            d += bytes([op, *(0 if ok is unused else rng.choice([x for x in range(256) if ok(x)]) for ok in OPERANDS[op])])
+        if rng.random() < 0.5:
+            d[rng.randrange(len(d))] = rng.choice((0, 1, 9, 16, 255))
+        yield d
+
+
+def main():
+    rng = random.Random(2048)
+    stdin, stdout = bytearray(), []
+    makers = {SITE: list(sites(rng)), CONDITION: list(conditions(rng)), SHEET: list(sheets(rng))}
+    first = [(kind, makers[kind][0]) for kind in (SITE, CONDITION, SHEET)]
+    rest = [(kind, d) for kind in (SITE, CONDITION, SHEET) for d in makers[kind][1:]]
+    for kind, d in first + rest:
+        places = [i for i, b in enumerate(d) if b]
+        stdin += bytes([kind]) + len(d).to_bytes(2, "little") + len(places).to_bytes(2, "little")
+        for i in places:
+            stdin += i.to_bytes(2, "little") + bytes([d[i]])
+        verdict = JUDGES[kind](d)
+        stdout.append(f"{NAMES[kind]} " + ("accepted" if verdict is None else "refused %d %d" % verdict))
+    folder = os.path.join(os.path.dirname(os.path.abspath(__file__)), "..", "crates", "verdicts")
+    with open(os.path.join(folder, "stdin"), "wb") as f:
+        f.write(stdin)
+    with open(os.path.join(folder, "stdout"), "w") as f:
+        f.write("\n".join(stdout) + "\n")
+    counts = {}
+    for line in stdout:
+        key = " ".join(line.split()[:3]) if "refused" in line else line
+        counts[key] = counts.get(key, 0) + 1
+    for key in sorted(counts):
+        print(counts[key], key, file=sys.stderr)
+
+
+if __name__ == "__main__":
+    main()
