@@ -17,6 +17,10 @@ use Rattle.semantics.specs.Holds.{Set}
 use Rattle.semantics.specs.Laws.Agree.{_≐_}
 use Rattle.listing_sets.specs.Places.{setAt, Written, Cleared}
 
+pub slot-in : {s : ℕ} → s < slots → s < setSlots
+unfolding slots
+slot-in h = h
+
 -- how long the part is, as the code has it: from its start to its end
 abbrev pub span : ℕ → ℕ
 span j = setBytes * j + setBytes - setBytes * j
