@@ -2,7 +2,7 @@
 // an operation on sets, and says what the whole buffer becomes.
 ghost use mathlib.Core.Path.{_≡_};
 ghost use mathlib.Core.Logic.{_⊎_};
-ghost use mathlib.Core.Bool.{true, not, _&&_, _||_};
+ghost use mathlib.Core.Bool.{true, false, not, _&&_, _||_};
 ghost use Prim.Native.Nat.{_+_, _*_, _≤_, _<_};
 ghost use lib.ListN.{length, getD};
 ghost use Rattle.finite.specs.Tests.{same, bit};
@@ -78,6 +78,13 @@ pub fn meet(buf: &mut [u8], j: usize, set: [u8; SET_BYTES])
     let a = SET_BYTES * j;
     let e = a + SET_BYTES;
     bitset::meet_with(&mut buf[a..e], &set);
+}
+
+// Are the two sets, given by value, the same bytes?
+pub fn same_set(a: [u8; SET_BYTES], b: [u8; SET_BYTES]) -> bool
+    ensures { λ r. ⌜ (r ≡ true → a ≡ b) × (r ≡ false → a ≡ b → ⊥) ⌝ }
+{
+    bitset::equal(&a, &b)
 }
 
 // The set of slot s alone.

@@ -7,11 +7,13 @@ use Prim.Native.Nat.{ℕ, _+_, _*_, _≤_, _<_}
 use native.Mathlib.Omega.{arith}
 use lib.ListN.{length}
 use Rattle.finite.specs.Tests.{same, any, all}
-use Rattle.finite.specs.Laws.Below.{any-cong, all-cong}
+use Rattle.finite.specs.Laws.Bools.{either}
+use Rattle.finite.specs.Laws.Below.{equal?, eq-same, ne-same, any-cong, all-cong}
 use Rattle.bitset.specs.Set.{setSlots, has}
 use Rattle.semantics.specs.Form.{slots, labels, Form, var}
-use Rattle.semantics.specs.Holds.{Set, Env, Model, step}
-use Rattle.semantics.specs.Table.{kTrue, kHere, kLabel, kName, kVar, kSlot, kNot, kDia, kBox, kOr, kAnd, Kind, leaf, unary, binary, kindOf, wayOf, Node, atom, one, two, build, treeAt, nodesFit}
+use Rattle.semantics.specs.Holds.{Set, Env, put, Model, step}
+use Rattle.semantics.specs.Table.{kTrue, kHere, kLabel, kName, kVar, kSlot, kNot, kDia, kBox, kMu, kNu, kOr, kAnd, Kind, leaf, unary, binary, kindOf, wayOf, Node, atom, one, two, build, treeAt, nodesFit}
+use Rattle.semantics.specs.Laws.FixedPoint.{iter}
 use Rattle.semantics.specs.Laws.Eval.{eval}
 use Rattle.semantics.specs.Laws.Agree.{_≐_}
 use Rattle.site.specs.Site.{siteOf}
@@ -20,7 +22,7 @@ use Rattle.condition.specs.Bytes.{nodeAt, tableOf}
 use Rattle.condition.specs.Laws.Fits.{node-tree}
 use Rattle.condition.specs.Laws.Limits.{kind-past}
 use Rattle.listing_sets.specs.Places.{setAt}
-use Rattle.listing_sets.specs.Nodes.{applied}
+use Rattle.listing_sets.specs.Nodes.{applied, startOf}
 
 -- the present slots and the labels' slots stand at places of the site
 pub here-set : (site : List ℕ) → setAt site 0 ≐ siteOf site .present
@@ -110,10 +112,27 @@ module _ (S : List ℕ) (f : nodesFit 0 (tableOf S) ≡ true) (i : ℕ) (h : 6 *
       ∙ all-cong slots _ _ (λ t q. ap (_||_ (not (step M (wayOf (nodeAt S i .param)) s t))) (l t q))
       ∙ sym (node-eval S f i h M ρ (unary kBox) (ap kindOf e) s)
 
-  module _ (r : Q ≐ eval M ρ (treeAt (tableOf S) (nodeAt S i .right))) where
-    pub is-binary : (nodeAt S i .kind ≡ 6) ⊎ (nodeAt S i .kind ≡ 7) → applied M (nodeAt S i) P Q ≐ eval M ρ (treeAt (tableOf S) i)
-    unfolding eval build two kindOf
-    is-binary (inl e) s k =
-        makes-or M (nodeAt S i) P Q s e ∙ ap₂ _||_ (l s k) (r s k) ∙ sym (node-eval S f i h M ρ (binary kOr) (ap kindOf e) s)
-    is-binary (inr e) s k =
-        makes-and M (nodeAt S i) P Q s e ∙ ap₂ _&&_ (l s k) (r s k) ∙ sym (node-eval S f i h M ρ (binary kAnd) (ap kindOf e) s)
+  pub is-binary : 6 ≤ nodeAt S i .kind → nodeAt S i .kind ≤ 7 → Q ≐ eval M ρ (treeAt (tableOf S) (nodeAt S i .right))
+      → applied M (nodeAt S i) P Q ≐ eval M ρ (treeAt (tableOf S) i)
+  unfolding eval build two kindOf
+  is-binary a b r s k =
+      either
+      (equal? (nodeAt S i .kind) 6)
+      (λ e. makes-or M (nodeAt S i) P Q s e ∙ ap₂ _||_ (l s k) (r s k) ∙ sym (node-eval S f i h M ρ (binary kOr) (ap kindOf e) s))
+      (λ n.
+      let e : nodeAt S i .kind ≡ 7 = omega arith in
+      makes-and M (nodeAt S i) P Q s e ∙ ap₂ _&&_ (l s k) (r s k) ∙ sym (node-eval S f i h M ρ (binary kAnd) (ap kindOf e) s))
+
+-- and that of a mu or nu of the variable x and the body b is what the rounds come to
+module _ (S : List ℕ) (f : nodesFit 0 (tableOf S) ≡ true) (i : ℕ) (h : 6 * i + 6 ≤ length S) (M : Model) (ρ : Env) (x b : ℕ)
+    (ex : x ≡ nodeAt S i .param) (eb : b ≡ nodeAt S i .left) where
+  pub is-loop : 10 ≤ nodeAt S i .kind → nodeAt S i .kind ≤ 11
+      → eval M ρ (treeAt (tableOf S) i) ≐ iter slots (λ P. eval M (put ρ x P) (treeAt (tableOf S) b)) (startOf (nodeAt S i .kind))
+  unfolding eval build one kindOf startOf
+  is-loop l u s k =
+      either
+      (equal? (nodeAt S i .kind) 10)
+      (λ e. rw (ex, eb, eq-same e) (node-eval S f i h M ρ (unary kMu) (ap kindOf e) s))
+      (λ n.
+      let e : nodeAt S i .kind ≡ 11 = omega arith in
+      rw (ex, eb, ne-same n) (node-eval S f i h M ρ (unary kNu) (ap kindOf e) s))
