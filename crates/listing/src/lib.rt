@@ -4,8 +4,14 @@
 ghost use mathlib.Core.Path.{_≡_};
 ghost use mathlib.Core.Logic.{_⊎_};
 ghost use Prim.Native.Nat.{_+_, _*_, _≤_};
-ghost use lib.ListN.{length};
+ghost use lib.ListN.{length, replicate};
+ghost use Rattle.bitset.specs.Set.{setBytes};
+ghost use Rattle.site.specs.Layout.{siteBytes};
+ghost use Rattle.verdict.specs.declared.Verdict.the-variants.{Accepted};
 ghost use Rattle.condition.specs.Bytes.{nodeAt};
+ghost use Rattle.condition.specs.Refusal.{conditionVerdict};
+ghost use Rattle.even_rule.specs.Free.{FreeRows};
+ghost use Rattle.listing.specs.Listed.{Listed};
 ghost use Rattle.listing.specs.State.{Ready, Done};
 use bitset::SET_SLOTS;
 
@@ -91,4 +97,44 @@ fn fixpoint(site: &[u8], table: &[u8], free: &[u16], env: &mut [u8], fresh: &mut
     }
     listing_sets::assign(free, env, fresh, n, x, old);
     listing_sets::store(work, i, set);
+}
+
+fn zero(buf: &mut [u8])
+    ensures { λ _. ⌜ now (buf .exit) ≡ replicate (length (now (buf .entry))) 0 ⌝ }
+{
+    let mut k = 0;
+    while k < buf.len() {
+        buf[k] = 0;
+        k += 1;
+    }
+}
+
+fn no_flags() -> [u8; 2048]
+    ensures { λ r. ⌜ r ≡ replicate 2048 0 ⌝ }
+{
+    [0; 2048]
+}
+
+fn no_sets() -> [u8; 512]
+    ensures { λ r. ⌜ r ≡ replicate 512 0 ⌝ }
+{
+    [0; 512]
+}
+
+// The condition's set, and how many slots it holds.
+pub fn list(site: &[u8], table: &[u8], free: &[u16], set: &mut [u8], work: &mut [u8]) -> u32
+    requires { ⌜ length (now site) ≡ siteBytes ⌝ }
+    requires { ⌜ conditionVerdict (now table) ≡ Accepted ⌝ }
+    requires { ⌜ FreeRows (now table) (now free) ⌝ }
+    requires { ⌜ (length (now free) ≡ 2048) × (length (now set) ≡ setBytes) × (length (now work) ≡ 65536) ⌝ }
+    ensures { λ r. ⌜ Listed (now (site .entry)) (now (table .entry)) (now (set .exit)) (now (work .exit)) r ⌝ }
+{
+    let mut env = no_sets();
+    let mut fresh = no_flags();
+    let i = table.len() / 6 - 1;
+    eval(site, table, free, &mut env, &mut fresh, work, i);
+    let found = listing_sets::load(work, i);
+    listing_sets::store(set, 0, found);
+    zero(work);
+    bitset::count(set)
 }
