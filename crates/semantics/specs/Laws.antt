@@ -7,6 +7,7 @@ pub mod Emit
 pub mod Monotone
 pub mod FixedPoint
 pub mod Eval
+pub mod Agree
 -- edits
 pub mod Edits
 -- rewriting

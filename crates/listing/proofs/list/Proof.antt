@@ -1,0 +1,75 @@
+use Rattle.listing.specs.Laws.Answer.{none-known, whole, answer}
+use Rattle.condition.specs.Laws.Verdict.{accepted-sound}
+use Rattle.semantics.specs.Form.{slots}
+use lib.ListN.{length, replicate}
+use native.Mathlib.Omega.{arith}
+use Prim.Native.Nat.{ℕ, _-_, _/_}
+use mathlib.Core.Path.{refl, _∙_, ap}
+use borrow.Author.Needs.{needs}
+use Rattle.listing.proofs.list.Statement.{statement}
+use Rattle.listing.proofs.list.Tie as tie
+
+no-sets-requires : tie.Need-no-sets-requires
+no-sets-requires c κs = search needs
+
+no-flags-requires : tie.Need-no-flags-requires
+no-flags-requires c κs = search needs
+
+sub-i : tie.Need-sub-i
+sub-i c = let a = c .before .before .before .before .before .before .before .args in let s = accepted-sound (a .table .now) (c .before .before .before .before .before .before .before .pre .1 .0) in omega (arith, s .some)
+
+slice-aggregate-eval : tie.Need-slice-aggregate-eval
+slice-aggregate-eval c = search needs
+
+slice-aggregate-eval-2 : tie.Need-slice-aggregate-eval-2
+slice-aggregate-eval-2 c = search needs
+
+eval-requires : tie.Need-eval-requires
+eval-requires c κs = let a = c .before .before .before .before .before .before .before .before .before .before .args in let p = c .before .before .before .before .before .before .before .before .before .before .pre in let s = accepted-sound (a .table .now) (p .1 .0) in
+    (rw (c .before .before .before .before .no-sets .ensures, c .before .before .before .no-flags .ensures) (none-known (a .site .now) (a .table .now) (a .free .now) (a .work .now) (p .0) s (p .1 .1 .0) (p .1 .1 .1 .0) (p .1 .1 .1 .2)), omega (arith, s .some))
+
+load-requires : tie.Need-load-requires
+load-requires c κs = let a = c .before .before .before .before .before .before .before .before .before .before .before .before .before .before .before .before .args in let p = c .before .before .before .before .before .before .before .before .before .before .before .before .before .before .before .before .pre in let s = accepted-sound (a .table .now) (p .1 .0) in omega (arith, p .1 .1 .1, s .some, s .few, c .before .before .before .before .before .eval .kept)
+
+store-requires : tie.Need-store-requires
+store-requires c κs = search needs
+
+zero-requires : tie.Need-zero-requires
+zero-requires c κs = search needs
+
+count-requires : tie.Need-count-requires
+count-requires c κs = search needs
+
+same-length : tie.Need-same-length
+same-length c = search needs
+
+same-length-2 : tie.Need-same-length-2
+same-length-2 c = search needs
+
+returns : tie.Need-returns
+unfolding slots
+returns c = let a = c .before .before .before .before .before .before .before .before .before .before .before .before .before .before .before .before .before .before .before .before .before .before .before .before .before .before .before .args in let p = c .before .before .before .before .before .before .before .before .before .before .before .before .before .before .before .before .before .before .before .before .before .before .before .before .before .before .before .pre in let s = accepted-sound (a .table .now) (p .1 .0) in let e = c .before .before .before .before .before .before .before .before .before .before .before .before .before .before .before .before .eval .last .1 .1 .1 in
+    record {
+      set = answer (a .site .now) (a .table .now) _ (e .0) (e .1 .0) (e .1 .1 .0) (c .before .before .before .before .before .before .before .before .store .last .0) (length (a .table .now) / 6 - 1) s refl (c .before .before .before .before .before .before .before .before .before .before .before .before .before .before .before .before .eval .ensures)
+        (λ t h. whole (a .set .now) (c .before .before .before .before .before .before .before .before .store .last .0) (c .before .before .before .before .before .before .before .before .before .before .load .result) (c .before .before .before .before .before .before .before .before .store .ensures) t h ∙ c .before .before .before .before .before .before .before .before .before .before .load .ensures t h);
+      count = c .count .ensures;
+      work = c .before .before .before .before .zero .ensures ∙ ap (λ (n : ℕ). replicate n 0) (c .before .before .before .before .before .before .before .before .before .before .before .before .before .before .before .before .eval .kept .1 .1 .1 .1 .1 .0 ∙ p .1 .1 .1 .2);
+    }
+
+pub list-spec : {M : Type 1} → statement M
+list-spec =
+    tie.close
+    (tie.spec
+    no-sets-requires
+    no-flags-requires
+    sub-i
+    slice-aggregate-eval
+    slice-aggregate-eval-2
+    eval-requires
+    load-requires
+    store-requires
+    zero-requires
+    count-requires
+    same-length
+    same-length-2
+    returns)

@@ -1,0 +1,6 @@
+-- What listing answers.
+pub mod Listed
+-- what the evaluator keeps
+pub mod State
+-- what is proved of them
+pub mod Laws

@@ -1,0 +1,42 @@
+-- What the evaluator keeps between calls: a flag for each node whose set stands at its place in the work buffer, and a set for each
+-- variable in the environment.
+use mathlib.Core.Path.{_≡_}
+use mathlib.Core.List.{List}
+use mathlib.Core.Bool.{true}
+use Prim.Native.Nat.{ℕ, _+_, _*_, _≤_}
+use lib.ListN.{length, getD}
+use Rattle.semantics.specs.Holds.{Set, Env}
+use Rattle.semantics.specs.Table.{treeAt, nodesFit}
+use Rattle.semantics.specs.Laws.Eval.{eval}
+use Rattle.semantics.specs.Laws.Agree.{_≐_}
+use Rattle.site.specs.Layout.{siteBytes}
+use Rattle.site.specs.Site.{siteOf}
+use Rattle.condition.specs.Bytes.{tableOf}
+use Rattle.even_rule.specs.Free.{FreeRows}
+use Rattle.listing_sets.specs.Places.{setAt}
+
+-- the set of node j of the table S under the valuation ρ
+abbrev pub nodeSet : List ℕ → List ℕ → Env → ℕ → Set
+nodeSet site S ρ j = eval (siteOf site) ρ (treeAt (tableOf S) j)
+
+-- a node whose flag is set has its set, under the variables' present sets, at its place
+unfoldable pub Good : List ℕ → List ℕ → List ℕ → List ℕ → List ℕ → Type 0
+Good site S env fresh work = (j : ℕ) → 6 * j + 6 ≤ length S → getD fresh j 0 ≡ 1 → setAt work j ≐ nodeSet site S (setAt env) j
+
+-- what each call asks
+pub record Ready (site S free env fresh work : List ℕ) : Type 0 where
+  pub site-size : length site ≡ siteBytes
+  pub few : length S ≤ 12288
+  pub fits : nodesFit 0 (tableOf S) ≡ true
+  pub rows : FreeRows S free
+  pub free-size : length free ≡ 2048
+  pub env-size : length env ≡ 512
+  pub fresh-size : length fresh ≡ 2048
+  pub work-size : length work ≡ 65536
+  pub good : Good site S env fresh work
+
+-- what it leaves: the variables' sets as they were, flags that are right, and node i's set at its place
+pub record Done (site S env env′ fresh′ work′ : List ℕ) (i : ℕ) : Type 0 where
+  pub kept : (v : ℕ) → setAt env′ v ≐ setAt env v
+  pub good : Good site S env′ fresh′ work′
+  pub here : setAt work′ i ≐ nodeSet site S (setAt env) i

@@ -1,0 +1,140 @@
+// Lists a condition on a site: the set of the slots where it holds. Evaluation goes by recursion on a node's children and is
+// memoised: node i's set is written at byte 32 * i of the work buffer, and is computed again only once a variable that is free in
+// the node has moved.
+ghost use mathlib.Core.Path.{_≡_};
+ghost use mathlib.Core.Logic.{_⊎_};
+ghost use Prim.Native.Nat.{_+_, _*_, _≤_};
+ghost use lib.ListN.{length, replicate};
+ghost use Rattle.bitset.specs.Set.{setBytes};
+ghost use Rattle.site.specs.Layout.{siteBytes};
+ghost use Rattle.verdict.specs.declared.Verdict.the-variants.{Accepted};
+ghost use Rattle.condition.specs.Bytes.{nodeAt};
+ghost use Rattle.condition.specs.Refusal.{conditionVerdict};
+ghost use Rattle.even_rule.specs.Free.{FreeRows};
+ghost use Rattle.listing.specs.Listed.{Listed};
+ghost use Rattle.listing.specs.State.{Ready, Done};
+use bitset::SET_SLOTS;
+
+// Node i's set, written at its place, unless it stands there.
+pub fn eval(site: &[u8], table: &[u8], free: &[u16], env: &mut [u8], fresh: &mut [u8], work: &mut [u8], i: usize)
+    requires { ⌜ Ready (now site) (now table) (now free) (now env) (now fresh) (now work) ⌝ }
+    requires { ⌜ 6 * i + 6 ≤ length (now table) ⌝ }
+    ensures { λ _. ⌜ Done (now (site .entry)) (now (table .entry)) (now (env .entry)) (now (env .exit)) (now (fresh .exit)) (now (work .exit)) i ⌝ }
+{
+    if fresh[i] == 1 {
+        return;
+    }
+    compute(site, table, free, env, fresh, work, i);
+    fresh[i] = 1;
+}
+
+// The same, with no look at the flag.
+fn compute(site: &[u8], table: &[u8], free: &[u16], env: &mut [u8], fresh: &mut [u8], work: &mut [u8], i: usize)
+    requires { ⌜ Ready (now site) (now table) (now free) (now env) (now fresh) (now work) ⌝ }
+    requires { ⌜ 6 * i + 6 ≤ length (now table) ⌝ }
+    ensures { λ _. ⌜ Done (now (site .entry)) (now (table .entry)) (now (env .entry)) (now (env .exit)) (now (fresh .exit)) (now (work .exit)) i ⌝ }
+{
+    let k = condition::kind(table, i);
+    match k {
+        5 | 8 | 9 => unary(site, table, free, env, fresh, work, i),
+        6 | 7 => binary(site, table, free, env, fresh, work, i),
+        10 | 11 => fixpoint(site, table, free, env, fresh, work, i),
+        _ => listing_sets::put_leaf(site, table, env, work, i),
+    }
+}
+
+// A not, diamond or box.
+fn unary(site: &[u8], table: &[u8], free: &[u16], env: &mut [u8], fresh: &mut [u8], work: &mut [u8], i: usize)
+    requires { ⌜ Ready (now site) (now table) (now free) (now env) (now fresh) (now work) ⌝ }
+    requires { ⌜ 6 * i + 6 ≤ length (now table) ⌝ }
+    requires { ⌜ (nodeAt (now table) i .kind ≡ 5) ⊎ ((nodeAt (now table) i .kind ≡ 8) ⊎ (nodeAt (now table) i .kind ≡ 9)) ⌝ }
+    ensures { λ _. ⌜ Done (now (site .entry)) (now (table .entry)) (now (env .entry)) (now (env .exit)) (now (fresh .exit)) (now (work .exit)) i ⌝ }
+{
+    let l = condition::left_child(table, i);
+    eval(site, table, free, env, fresh, work, l);
+    let set = listing_sets::load(work, l);
+    listing_sets::put_unary(site, table, work, i, set);
+}
+
+// An or, or an and. The left set is taken out before the right child is evaluated: a loop below the right child may give a shared
+// node another set.
+fn binary(site: &[u8], table: &[u8], free: &[u16], env: &mut [u8], fresh: &mut [u8], work: &mut [u8], i: usize)
+    requires { ⌜ Ready (now site) (now table) (now free) (now env) (now fresh) (now work) ⌝ }
+    requires { ⌜ 6 * i + 6 ≤ length (now table) ⌝ }
+    requires { ⌜ (6 ≤ nodeAt (now table) i .kind) × (nodeAt (now table) i .kind ≤ 7) ⌝ }
+    ensures { λ _. ⌜ Done (now (site .entry)) (now (table .entry)) (now (env .entry)) (now (env .exit)) (now (fresh .exit)) (now (work .exit)) i ⌝ }
+{
+    let l = condition::left_child(table, i);
+    eval(site, table, free, env, fresh, work, l);
+    let left = listing_sets::load(work, l);
+    let r = condition::right_child(table, i);
+    eval(site, table, free, env, fresh, work, r);
+    let right = listing_sets::load(work, r);
+    listing_sets::put_binary(table, work, i, left, right);
+}
+
+// A mu or nu: rounds from the empty or the full set until one gives back its set, 256 at most. The variable then has its old set again.
+fn fixpoint(site: &[u8], table: &[u8], free: &[u16], env: &mut [u8], fresh: &mut [u8], work: &mut [u8], i: usize)
+    requires { ⌜ Ready (now site) (now table) (now free) (now env) (now fresh) (now work) ⌝ }
+    requires { ⌜ 6 * i + 6 ≤ length (now table) ⌝ }
+    requires { ⌜ (10 ≤ nodeAt (now table) i .kind) × (nodeAt (now table) i .kind ≤ 11) ⌝ }
+    ensures { λ _. ⌜ Done (now (site .entry)) (now (table .entry)) (now (env .entry)) (now (env .exit)) (now (fresh .exit)) (now (work .exit)) i ⌝ }
+{
+    let x = condition::number(table, i);
+    let b = condition::left_child(table, i);
+    let n = table.len() / 6;
+    let old = listing_sets::load(env, x);
+    let mut set = listing_sets::start(condition::kind(table, i));
+    let mut rounds: usize = 0;
+    let mut moved = true;
+    while moved && rounds < SET_SLOTS {
+        listing_sets::assign(free, env, fresh, n, x, set);
+        eval(site, table, free, env, fresh, work, b);
+        let next = listing_sets::load(work, b);
+        moved = !listing_sets::same_set(set, next);
+        set = next;
+        rounds += 1;
+    }
+    listing_sets::assign(free, env, fresh, n, x, old);
+    listing_sets::store(work, i, set);
+}
+
+fn zero(buf: &mut [u8])
+    ensures { λ _. ⌜ now (buf .exit) ≡ replicate (length (now (buf .entry))) 0 ⌝ }
+{
+    let mut k = 0;
+    while k < buf.len() {
+        buf[k] = 0;
+        k += 1;
+    }
+}
+
+fn no_flags() -> [u8; 2048]
+    ensures { λ r. ⌜ r ≡ replicate 2048 0 ⌝ }
+{
+    [0; 2048]
+}
+
+fn no_sets() -> [u8; 512]
+    ensures { λ r. ⌜ r ≡ replicate 512 0 ⌝ }
+{
+    [0; 512]
+}
+
+// The condition's set, and how many slots it holds.
+pub fn list(site: &[u8], table: &[u8], free: &[u16], set: &mut [u8], work: &mut [u8]) -> u32
+    requires { ⌜ length (now site) ≡ siteBytes ⌝ }
+    requires { ⌜ conditionVerdict (now table) ≡ Accepted ⌝ }
+    requires { ⌜ FreeRows (now table) (now free) ⌝ }
+    requires { ⌜ (length (now free) ≡ 2048) × (length (now set) ≡ setBytes) × (length (now work) ≡ 65536) ⌝ }
+    ensures { λ r. ⌜ Listed (now (site .entry)) (now (table .entry)) (now (set .exit)) (now (work .exit)) r ⌝ }
+{
+    let mut env = no_sets();
+    let mut fresh = no_flags();
+    let i = table.len() / 6 - 1;
+    eval(site, table, free, &mut env, &mut fresh, work, i);
+    let found = listing_sets::load(work, i);
+    listing_sets::store(set, 0, found);
+    zero(work);
+    bitset::count(set)
+}

@@ -1,0 +1,12 @@
+use Rattle.semantics.specs.Laws.FixedPoint.{full}
+use Rattle.semantics.specs.Form.{slots}
+use Rattle.bitset.specs.Laws.Bytes.{has-full}
+use Rattle.listing_sets.proofs.all_slots.Statement.{statement}
+use Rattle.listing_sets.proofs.all_slots.Tie as tie
+
+returns : tie.Need-returns
+unfolding slots full
+returns c = has-full
+
+pub all-slots-spec : {M : Type 1} → statement M
+all-slots-spec = tie.close (tie.spec returns)

@@ -1,0 +1,80 @@
+-- A set at its place in a buffer: the part that is lent, and the buffer once the part has come back.
+use mathlib.Core.Path.{_≡_, refl, sym, _∙_, ap}
+use mathlib.Core.Logic.{_≢_}
+use mathlib.Core.List.{List}
+use mathlib.Core.Bool.{true, false, cond}
+use Prim.Native.Nat.{ℕ, _+_, _-_, _*_, _/_, _%_, _≤_, _<_}
+use native.Mathlib.Omega.{arith}
+use lib.ListN.{length, getD, set, take, drop, length-drop}
+use lib.Seq.{length-take-le, getD-set-same, getD-set-other}
+use Rattle.finite.specs.Tests.{bit, below}
+use Rattle.finite.specs.Laws.Bools.{either, look}
+use Rattle.finite.specs.Laws.Below.{equal?, below-out, not-below}
+use Rattle.bitset.specs.Set.{setBytes, setSlots, has}
+use Rattle.bitset.specs.Laws.Part.{has-part, back, back-below, back-above, back-has}
+use Rattle.semantics.specs.Form.{slots}
+use Rattle.semantics.specs.Holds.{Set}
+use Rattle.semantics.specs.Laws.Agree.{_≐_}
+use Rattle.listing_sets.specs.Places.{setAt, Written, Cleared}
+
+pub slot-in : {s : ℕ} → s < slots → s < setSlots
+unfolding slots
+slot-in h = h
+
+-- how long the part is, as the code has it: from its start to its end
+abbrev pub span : ℕ → ℕ
+span j = setBytes * j + setBytes - setBytes * j
+
+module _ (b : List ℕ) (j : ℕ) where
+  pub part-set : has (take (span j) (drop (setBytes * j) b)) ≐ setAt b j
+  unfolding slots setAt
+  part-set s h =
+      has-part b (setBytes * j) (span j) s (omega arith) ∙ ap (has b) (let q : setBytes * j * 8 + s ≡ setSlots * j + s = omega arith in q)
+
+  module _ (fits : setBytes * j + setBytes ≤ length b) (ys : List ℕ) (l : length ys ≡ length (take (span j) (drop (setBytes * j) b))) where
+    size : length ys ≡ span j
+    size = l ∙ length-take-le (span j) (drop (setBytes * j) b) (omega (arith, length-drop (setBytes * j) b))
+
+    -- a byte of another place
+    other : (i : ℕ) → i ≢ j → (n : ℕ) → setBytes * i ≤ n → n < setBytes * i + setBytes → getD (back b ys (setBytes * j) (span j)) n 0 ≡ getD b n 0
+    other i ne n h g =
+        either
+        (look (below i j))
+        (λ q. let w = below-out i j q in back-below b ys (setBytes * j) (span j) (omega arith) size n (omega arith))
+        (λ q. let w = not-below i j q in back-above b ys (setBytes * j) (span j) (omega arith) size n (omega arith))
+
+    pub written : (S : Set) → has ys ≐ S → Written b (back b ys (setBytes * j) (span j)) j S
+    unfolding slots setAt has
+    written S h =
+        record {
+          here = λ s l.
+              ap (has (back b ys (setBytes * j) (span j))) (let q : setSlots * j + s ≡ setBytes * j * 8 + s = omega arith in q)
+              ∙ back-has b ys (setBytes * j) (span j) (omega arith) size s (omega arith)
+              ∙ h s l;
+          others = λ i ne s l.
+              ap (λ (x : ℕ). bit x ((setSlots * i + s) % 8)) (other i ne ((setSlots * i + s) / 8) (omega arith) (omega arith));
+        }
+
+-- the flags of the first j nodes are done: at the start, and after a node in which the variable is free, and one in which it is not
+module _ (free fresh₀ : List ℕ) (x : ℕ) where
+  pub cleared-none : Cleared free fresh₀ fresh₀ 0 x
+  cleared-none = record { node = λ i h. absurd (omega arith); rest = λ i h. refl }
+
+  module _ (fresh : List ℕ) (j : ℕ) (c : Cleared free fresh₀ fresh j x) where
+    pub cleared-node : j < length fresh → bit (getD free j 0) x ≡ true → Cleared free fresh₀ (set fresh j 0) (j + 1) x
+    cleared-node h e =
+        record {
+          node = λ i l.
+              either
+              (equal? i j)
+              (λ q. rw (q, getD-set-same fresh j 0 0 h, e) refl)
+              (λ q. getD-set-other fresh j i 0 0 q ∙ c .node i (omega arith));
+          rest = λ i l. getD-set-other fresh j i 0 0 (λ q. omega arith) ∙ c .rest i (omega arith);
+        }
+
+    pub cleared-other : bit (getD free j 0) x ≡ false → Cleared free fresh₀ fresh (j + 1) x
+    cleared-other e =
+        record {
+          node = λ i l. either (equal? i j) (λ q. rw (q, e) (c .rest j (omega arith))) (λ q. c .node i (omega arith));
+          rest = λ i l. c .rest i (omega arith);
+        }

@@ -1,0 +1,17 @@
+-- What a node makes of its children's sets, by its kind.
+use mathlib.Core.Bool.{cond}
+use Prim.Native.Nat.{ℕ}
+use Rattle.finite.specs.Tests.{same}
+use Rattle.semantics.specs.Form.{var}
+use Rattle.semantics.specs.Holds.{Set, Model}
+use Rattle.semantics.specs.Table.{kindOf, Node, build}
+use Rattle.semantics.specs.Laws.FixedPoint.{none, full}
+use Rattle.semantics.specs.Laws.Eval.{eval}
+
+-- its kind over two variables, of which 0 stands for the left child and 1 for the right
+unfoldable pub applied : Model → Node → Set → Set → Set
+applied M x S T = eval M (λ v. cond (same v 0) S T) (build (kindOf (x .kind)) (x .param) (var 0) (var 1))
+
+-- the set from which the rounds of a mu (kind 10) or nu start
+unfoldable pub startOf : ℕ → Set
+startOf k = cond (same k 10) none full

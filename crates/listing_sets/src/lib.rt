@@ -1,0 +1,227 @@
+// Sets of slots at their places in a buffer: set j is the 32 bytes from byte 32 * j on. Each write lends that part of the buffer to
+// an operation on sets, and says what the whole buffer becomes.
+ghost use mathlib.Core.Path.{_≡_};
+ghost use mathlib.Core.Logic.{_⊎_};
+ghost use mathlib.Core.Bool.{true, false, not, _&&_, _||_};
+ghost use Prim.Native.Nat.{_+_, _*_, _≤_, _<_};
+ghost use lib.ListN.{length, getD};
+ghost use Rattle.finite.specs.Tests.{same, bit};
+ghost use Rattle.bitset.specs.Set.{setBytes, setSlots, has, Is};
+ghost use Rattle.semantics.specs.Holds.{Model};
+ghost use Rattle.semantics.specs.Table.{treeAt, nodesFit};
+ghost use Rattle.semantics.specs.Laws.FixedPoint.{none, full};
+ghost use Rattle.semantics.specs.Laws.Eval.{eval};
+ghost use Rattle.semantics.specs.Laws.Agree.{_≐_};
+ghost use Rattle.site.specs.Layout.{siteBytes};
+ghost use Rattle.site.specs.Site.{siteOf};
+ghost use Rattle.condition.specs.Bytes.{nodeAt, tableOf};
+ghost use Rattle.listing_sets.specs.Places.{setAt, Written, Cleared};
+ghost use Rattle.listing_sets.specs.Nodes.{startOf, applied};
+use bitset::SET_BYTES;
+
+pub fn copy(dst: &mut [u8], src: &[u8])
+    requires { ⌜ (length (now dst) ≡ setBytes) × (length (now src) ≡ setBytes) ⌝ }
+    ensures { λ _. ⌜ Is (now (dst .exit)) (has (now (src .entry))) ⌝ }
+{
+    for k in 0..SET_BYTES {
+        dst[k] = src[k];
+    }
+}
+
+// The set at place j, by value.
+pub fn load(buf: &[u8], j: usize) -> [u8; SET_BYTES]
+    requires { ⌜ setBytes * j + setBytes ≤ length (now buf) ⌝ }
+    ensures { λ r. ⌜ has r ≐ setAt (now (buf .entry)) j ⌝ }
+{
+    let a = SET_BYTES * j;
+    let e = a + SET_BYTES;
+    let mut set = [0u8; SET_BYTES];
+    copy(&mut set, &buf[a..e]);
+    set
+}
+
+// The set at place j becomes `set`.
+pub fn store(buf: &mut [u8], j: usize, set: [u8; SET_BYTES])
+    requires { ⌜ setBytes * j + setBytes ≤ length (now buf) ⌝ }
+    ensures { λ _. ⌜ Written (now (buf .entry)) (now (buf .exit)) j (has set) ⌝ }
+{
+    let a = SET_BYTES * j;
+    let e = a + SET_BYTES;
+    copy(&mut buf[a..e], &set);
+}
+
+// Its complement.
+pub fn invert(buf: &mut [u8], j: usize)
+    requires { ⌜ setBytes * j + setBytes ≤ length (now buf) ⌝ }
+    ensures { λ _. ⌜ Written (now (buf .entry)) (now (buf .exit)) j (λ s. not (setAt (now (buf .entry)) j s)) ⌝ }
+{
+    let a = SET_BYTES * j;
+    let e = a + SET_BYTES;
+    bitset::complement(&mut buf[a..e]);
+}
+
+// Its union with `set`.
+pub fn unite(buf: &mut [u8], j: usize, set: [u8; SET_BYTES])
+    requires { ⌜ setBytes * j + setBytes ≤ length (now buf) ⌝ }
+    ensures { λ _. ⌜ Written (now (buf .entry)) (now (buf .exit)) j (λ s. setAt (now (buf .entry)) j s || has set s) ⌝ }
+{
+    let a = SET_BYTES * j;
+    let e = a + SET_BYTES;
+    bitset::union_with(&mut buf[a..e], &set);
+}
+
+// Its slots that are in `set` too.
+pub fn meet(buf: &mut [u8], j: usize, set: [u8; SET_BYTES])
+    requires { ⌜ setBytes * j + setBytes ≤ length (now buf) ⌝ }
+    ensures { λ _. ⌜ Written (now (buf .entry)) (now (buf .exit)) j (λ s. setAt (now (buf .entry)) j s && has set s) ⌝ }
+{
+    let a = SET_BYTES * j;
+    let e = a + SET_BYTES;
+    bitset::meet_with(&mut buf[a..e], &set);
+}
+
+// Are the two sets, given by value, the same bytes?
+pub fn same_set(a: [u8; SET_BYTES], b: [u8; SET_BYTES]) -> bool
+    ensures { λ r. ⌜ (r ≡ true → a ≡ b) × (r ≡ false → a ≡ b → ⊥) ⌝ }
+{
+    bitset::equal(&a, &b)
+}
+
+// The set of slot s alone.
+pub fn single(s: usize) -> [u8; SET_BYTES]
+    requires { ⌜ s < setSlots ⌝ }
+    ensures { λ r. ⌜ Is r (λ t. same t s) ⌝ }
+{
+    let mut set = [0u8; SET_BYTES];
+    bitset::insert(&mut set, s);
+    set
+}
+
+// Is the variable x free in node j?
+fn depends(free: &[u16], j: usize, x: usize) -> bool
+    requires { ⌜ (j < length (now free)) × (x < 16) ⌝ }
+    ensures { λ r. ⌜ r ≡ bit (getD (now (free .entry)) j 0) x ⌝ }
+{
+    (free[j] >> x) % 2 == 1
+}
+
+// Clears the flag of each of the first n nodes in which the variable x is free.
+pub fn stale(free: &[u16], fresh: &mut [u8], n: usize, x: usize)
+    requires { ⌜ (n ≤ 2048) × (x < 16) × (length (now free) ≡ 2048) × (length (now fresh) ≡ 2048) ⌝ }
+    ensures { λ _. ⌜ Cleared (now (free .entry)) (now (fresh .entry)) (now (fresh .exit)) n x ⌝ }
+{
+    let mut j = 0;
+    while j < n {
+        if depends(free, j, x) {
+            fresh[j] = 0;
+        }
+        j += 1;
+    }
+}
+
+// The variable x gets `set`, so that the sets of the nodes in which it is free are not known any more.
+pub fn assign(free: &[u16], env: &mut [u8], fresh: &mut [u8], n: usize, x: usize, set: [u8; SET_BYTES])
+    requires { ⌜ (n ≤ 2048) × (x < 16) × (length (now free) ≡ 2048) × (length (now env) ≡ 512) × (length (now fresh) ≡ 2048) ⌝ }
+    ensures { λ _. ⌜ Written (now (env .entry)) (now (env .exit)) x (has set) × Cleared (now (free .entry)) (now (fresh .entry)) (now (fresh .exit)) n x ⌝ }
+{
+    store(env, x, set);
+    stale(free, fresh, n, x);
+}
+
+fn no_slots() -> [u8; SET_BYTES]
+    ensures { λ r. ⌜ has r ≐ none ⌝ }
+{
+    [0; SET_BYTES]
+}
+
+fn all_slots() -> [u8; SET_BYTES]
+    ensures { λ r. ⌜ has r ≐ full ⌝ }
+{
+    [255; SET_BYTES]
+}
+
+// The set from which a loop's rounds start: none for a mu, all slots for a nu.
+pub fn start(kind: u8) -> [u8; SET_BYTES]
+    ensures { λ r. ⌜ has r ≐ startOf kind ⌝ }
+{
+    if kind == 10 {
+        return no_slots();
+    }
+    all_slots()
+}
+
+fn wide(x: u8) -> usize
+    ensures { λ r. ⌜ (r ≡ x) × (r < 256) ⌝ }
+{
+    x as usize
+}
+
+// The set of node i, which has no child.
+fn leaf_set(site: &[u8], table: &[u8], env: &[u8], i: usize) -> [u8; SET_BYTES]
+    requires { ⌜ (length (now site) ≡ siteBytes) × (length (now env) ≡ 512) ⌝ }
+    requires { ⌜ nodesFit 0 (tableOf (now table)) ≡ true ⌝ }
+    requires { ⌜ 6 * i + 6 ≤ length (now table) ⌝ }
+    requires { ⌜ (5 ≤ nodeAt (now table) i .kind → nodeAt (now table) i .kind ≤ 11 → ⊥) ⌝ }
+    ensures { λ r. ⌜ has r ≐ eval (siteOf (now (site .entry))) (setAt (now (env .entry))) (treeAt (tableOf (now (table .entry))) i) ⌝ }
+{
+    let k = condition::kind(table, i);
+    match k {
+        0 => all_slots(),
+        1 => load(site, 0),
+        2 => load(site, 1 + condition::number(table, i)),
+        3 => single(site::place(site, condition::number(table, i))),
+        4 => load(env, condition::number(table, i)),
+        _ => single(wide(condition::param(table, i))),
+    }
+}
+
+// Writes it.
+pub fn put_leaf(site: &[u8], table: &[u8], env: &[u8], work: &mut [u8], i: usize)
+    requires { ⌜ (length (now site) ≡ siteBytes) × (length (now env) ≡ 512) × (setBytes * i + setBytes ≤ length (now work)) ⌝ }
+    requires { ⌜ nodesFit 0 (tableOf (now table)) ≡ true ⌝ }
+    requires { ⌜ 6 * i + 6 ≤ length (now table) ⌝ }
+    requires { ⌜ (5 ≤ nodeAt (now table) i .kind → nodeAt (now table) i .kind ≤ 11 → ⊥) ⌝ }
+    ensures { λ _. ⌜ Written (now (work .entry)) (now (work .exit)) i (eval (siteOf (now (site .entry))) (setAt (now (env .entry))) (treeAt (tableOf (now (table .entry))) i)) ⌝ }
+{
+    let set = leaf_set(site, table, env, i);
+    store(work, i, set);
+}
+
+// Writes the set of node i, an or or an and, from its children's.
+pub fn put_binary(table: &[u8], work: &mut [u8], i: usize, left: [u8; SET_BYTES], right: [u8; SET_BYTES])
+    requires { ⌜ 6 * i + 6 ≤ length (now table) ⌝ }
+    requires { ⌜ setBytes * i + setBytes ≤ length (now work) ⌝ }
+    requires { ⌜ (6 ≤ nodeAt (now table) i .kind) × (nodeAt (now table) i .kind ≤ 7) ⌝ }
+    ensures { λ _. ⌜ ((M : Model) → Written (now (work .entry)) (now (work .exit)) i (applied M (nodeAt (now (table .entry)) i) (has left) (has right))) ⌝ }
+{
+    store(work, i, left);
+    if condition::kind(table, i) == 6 {
+        unite(work, i, right);
+        return;
+    }
+    meet(work, i, right);
+}
+
+// Writes the set of node i, a not, diamond or box, from its child's.
+pub fn put_unary(site: &[u8], table: &[u8], work: &mut [u8], i: usize, set: [u8; SET_BYTES])
+    requires { ⌜ length (now site) ≡ siteBytes ⌝ }
+    requires { ⌜ 6 * i + 6 ≤ length (now table) ⌝ }
+    requires { ⌜ setBytes * i + setBytes ≤ length (now work) ⌝ }
+    requires { ⌜ (nodeAt (now table) i .kind ≡ 5) ⊎ ((nodeAt (now table) i .kind ≡ 8) ⊎ (nodeAt (now table) i .kind ≡ 9)) ⌝ }
+    ensures { λ _. ⌜ Written (now (work .entry)) (now (work .exit)) i (applied (siteOf (now (site .entry))) (nodeAt (now (table .entry)) i) (has set) (has set)) ⌝ }
+{
+    let k = condition::kind(table, i);
+    if k == 5 {
+        store(work, i, set);
+        invert(work, i);
+        return;
+    }
+    let way = condition::param(table, i);
+    if k == 8 {
+        let found = modal::diamond(site, way, set);
+        store(work, i, found);
+        return;
+    }
+    let found = modal::boxed(site, way, set);
+    store(work, i, found);
+}

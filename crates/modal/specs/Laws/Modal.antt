@@ -1,0 +1,47 @@
+-- The diamond of each kind of way, and the box by the diamond.
+use mathlib.Core.Path.{_≡_, sym, _∙_, ap}
+use mathlib.Core.Bool.{Bool, not, _&&_, _||_, and-true}
+use mathlib.Core.List.{List}
+use Prim.Native.Nat.{ℕ, _+_, _-_, _≤_, _<_}
+use native.Mathlib.Omega.{arith}
+use lib.ListN.{replicate}
+use Rattle.finite.specs.Tests.{any, all}
+use Rattle.finite.specs.Laws.Below.{below-not, any-cong}
+use Rattle.finite.specs.Laws.Dual.{all-any}
+use Rattle.bitset.specs.Set.{setBytes, setSlots, has, Is}
+use Rattle.bitset.specs.Laws.Bytes.{has-full}
+use Rattle.semantics.specs.Form.{slots, links, every}
+use Rattle.semantics.specs.Holds.{Model, step}
+use Rattle.semantics.specs.Table.{wayOf}
+use Rattle.semantics.specs.Laws.Ways.{way-along, way-against}
+
+-- the slots of a set that the full set meets
+pub meets-full : (T : List ℕ) → any setSlots (λ t. has T t && has (replicate setBytes 255) t) ≡ any slots (λ t. has T t)
+unfolding slots
+meets-full T = any-cong setSlots _ _ (λ t h. rw (has-full t h) (and-true (has T t)))
+
+module _ (M : Model) (T R : List ℕ) (w : ℕ) where
+  pub diamond-along : w < links → Is R (λ s. any slots (λ t. M .link w s t && has T t)) → Is R (λ s. any slots (λ t. step M (wayOf w) s t && has T t))
+  unfolding step
+  diamond-along h i = rw (way-along w h) i
+
+  pub diamond-against : links ≤ w → w < links + links → Is R (λ s. any slots (λ t. M .link (w - links) t s && has T t))
+      → Is R (λ s. any slots (λ t. step M (wayOf w) s t && has T t))
+  unfolding step
+  diamond-against h k i = rw (let e : w ≡ (w - links) + links = omega arith in ap wayOf e ∙ way-against (w - links) (omega arith)) i
+
+  pub diamond-every : links + links ≤ w → Is R (λ s. any slots (λ t. has T t)) → Is R (λ s. any slots (λ t. step M (wayOf w) s t && has T t))
+  unfolding step wayOf
+  diamond-every h i = rw way-every i
+    where
+      way-every : wayOf w ≡ every
+      way-every = rw (below-not w links (omega arith), below-not w (links + links) h)
+
+-- O is the complement of T, D the diamond of O, and B the complement of D
+pub box-diamond : (f : ℕ → ℕ → Bool) (T O D B : List ℕ) → Is O (λ t. not (has T t)) → Is D (λ s. any slots (λ t. f s t && has O t))
+    → Is B (λ s. not (has D s)) → Is B (λ s. all slots (λ t. not (f s t) || has T t))
+unfolding slots
+box-diamond f T O D B o d b s h =
+    b s h
+    ∙ ap not (d s h ∙ any-cong slots _ _ (λ t k. ap (λ (x : Bool). f s t && x) (o t k)))
+    ∙ sym (all-any slots (f s) (has T))
