@@ -264,6 +264,22 @@ def sheets(rng):
         yield d
 
 
+def encode(kind, d):
+    places = [i for i, b in enumerate(d) if b]
+    out = bytearray([kind]) + len(d).to_bytes(2, "little") + len(places).to_bytes(2, "little")
+    for i in places:
+        out += i.to_bytes(2, "little") + bytes([d[i]])
+    return out
+
+
+def write(crate, stdin, stdout):
+    folder = os.path.join(os.path.dirname(os.path.abspath(__file__)), "..", "crates", crate)
+    with open(os.path.join(folder, "stdin"), "wb") as f:
+        f.write(stdin)
+    with open(os.path.join(folder, "stdout"), "w") as f:
+        f.write("\n".join(stdout) + "\n")
+
+
 def main():
     rng = random.Random(2048)
     stdin, stdout = bytearray(), []
@@ -271,17 +287,10 @@ def main():
     first = [(kind, makers[kind][0]) for kind in (SITE, CONDITION, SHEET)]
     rest = [(kind, d) for kind in (SITE, CONDITION, SHEET) for d in makers[kind][1:]]
     for kind, d in first + rest:
-        places = [i for i, b in enumerate(d) if b]
-        stdin += bytes([kind]) + len(d).to_bytes(2, "little") + len(places).to_bytes(2, "little")
-        for i in places:
-            stdin += i.to_bytes(2, "little") + bytes([d[i]])
+        stdin += encode(kind, d)
         verdict = JUDGES[kind](d)
         stdout.append(f"{NAMES[kind]} " + ("accepted" if verdict is None else "refused %d %d" % verdict))
-    folder = os.path.join(os.path.dirname(os.path.abspath(__file__)), "..", "crates", "verdicts")
-    with open(os.path.join(folder, "stdin"), "wb") as f:
-        f.write(stdin)
-    with open(os.path.join(folder, "stdout"), "w") as f:
-        f.write("\n".join(stdout) + "\n")
+    write("verdicts", stdin, stdout)
     counts = {}
     for line in stdout:
         key = " ".join(line.split()[:3]) if "refused" in line else line

@@ -1,11 +1,11 @@
--- `verdicts::fill` keeps the piece's length, so each place is inside it.
+-- `pieces::fill` keeps the piece's length, so each place is inside it.
 use mathlib.Core.Path.{_≡_}
 use Prim.Native.Nat.{_≤_, _-_}
 use native.Mathlib.Omega.{arith}
 use borrow.Author.Needs.{needs}
 use lib.ListN.{length}
-use Rattle.verdicts.proofs.fill.Statement.{statement}
-use Rattle.verdicts.proofs.fill.Tie as tie
+use Rattle.pieces.proofs.fill.Statement.{statement}
+use Rattle.pieces.proofs.fill.Tie as tie
 
 abbrev Inv-loop : tie.InvT-loop
 Inv-loop piece₀ count k₀ piece k = (length piece ≡ 65536) × (k ≤ count)

@@ -1,0 +1,82 @@
+// Reads pairs of a site and a condition on standard input and prints for each what listing answers: the count and the set, two
+// hexadecimal digits a byte, or `refused N W`. The work buffer has to come back as zeros.
+use desk::Listing;
+use libc::STDOUT_FILENO;
+
+fn print_byte(x: u8) {
+    io::print_hex(STDOUT_FILENO, x as u64, 2);
+}
+
+fn print_set(set: &[u8]) {
+    let mut k = 0;
+    while k < set.len() {
+        print_byte(set[k]);
+        k += 1;
+    }
+}
+
+fn print_two(n: u64, w: u64) {
+    io::print_decimal(STDOUT_FILENO, n);
+    io::write_all(STDOUT_FILENO, b" ");
+    io::print_decimal(STDOUT_FILENO, w);
+}
+
+fn print_answer(answer: Listing, set: &[u8]) {
+    match answer {
+        Listing::Listed(n) => {
+            io::print_decimal(STDOUT_FILENO, n as u64);
+            io::write_all(STDOUT_FILENO, b" ");
+            print_set(set);
+        }
+        Listing::Refused(item, w) => {
+            io::write_all(STDOUT_FILENO, b"refused ");
+            print_two(item as u64, w as u64);
+        }
+    }
+}
+
+fn all_zero(work: &[u8]) -> bool {
+    let mut k = 0;
+    while k < work.len() {
+        if work[k] != 0 {
+            return false;
+        }
+        k += 1;
+    }
+    true
+}
+
+fn answer(site: &[u8], cond: &[u8]) {
+    let mut set = [170u8; 32];
+    let mut work = [170u8; 65536];
+    let r = desk::list(site, cond, &mut set, &mut work);
+    print_answer(r, &set);
+    if !all_zero(&work) {
+        io::write_all(STDOUT_FILENO, b" work left");
+    }
+    io::write_all(STDOUT_FILENO, b"\n");
+}
+
+// Reads one pair and prints its line; false at the end of the input.
+fn next() -> bool {
+    let mut site = [0u8; 65536];
+    let first = pieces::read(&mut site);
+    let kind = first.kind;
+    if kind == 0 {
+        return false;
+    }
+    let mut cond = [0u8; 65536];
+    let second = pieces::read(&mut cond);
+    let m = first.len;
+    let n = second.len;
+    answer(&site[0..m], &cond[0..n]);
+    true
+}
+
+// A proved loop has to end, so the turns are counted down from a number that no input uses up.
+fn main() {
+    let mut turns = u64::MAX;
+    while turns > 0 && next() {
+        turns -= 1;
+    }
+}

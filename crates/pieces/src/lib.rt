@@ -1,0 +1,61 @@
+// Pieces of jobs, read on standard input for the test programs. A piece is written as its kind, its length, how many of its bytes
+// are not 0, and each of these behind its place (tests/pieces.py).
+use libc::STDIN_FILENO;
+
+ghost use mathlib.Core.Path.{_≡_};
+ghost use Prim.Native.Nat.{_<_};
+ghost use lib.ListN.{length};
+
+pub const SITE: u8 = 1;
+
+pub const CONDITION: u8 = 2;
+
+// The kind of a piece, 0 at the end of the input, and its length.
+pub struct Piece {
+    pub kind: u8,
+    pub len: usize,
+}
+
+fn wide(x: u8) -> usize
+    ensures { λ r. ⌜ r < 256 ⌝ }
+{
+    x as usize
+}
+
+// A number of two bytes, low byte first.
+fn number(low: u8, high: u8) -> usize
+    ensures { λ r. ⌜ r < 65536 ⌝ }
+{
+    wide(low) + 256 * wide(high)
+}
+
+// Puts the next byte of the input, which stands behind its place, into the piece.
+fn put_next(piece: &mut [u8])
+    requires { ⌜ length (now piece) ≡ 65536 ⌝ }
+{
+    let mut entry = [0u8; 3];
+    io::read_full(STDIN_FILENO, &mut entry);
+    let at = number(entry[0], entry[1]);
+    piece[at] = entry[2];
+}
+
+fn fill(piece: &mut [u8], count: usize)
+    requires { ⌜ length (now piece) ≡ 65536 ⌝ }
+{
+    for k in 0..count {
+        put_next(piece);
+    }
+}
+
+// Reads the next piece into a buffer of zeros.
+pub fn read(piece: &mut [u8]) -> Piece
+    requires { ⌜ length (now piece) ≡ 65536 ⌝ }
+    ensures { λ r. ⌜ r .len < 65536 ⌝ }
+{
+    let mut head = [0u8; 5];
+    if io::read_full(STDIN_FILENO, &mut head) < 5 {
+        return Piece { kind: 0, len: 0 };
+    }
+    fill(piece, number(head[3], head[4]));
+    Piece { kind: head[0], len: number(head[1], head[2]) }
+}
