@@ -4,18 +4,13 @@ use mathlib.Core.Logic.{_↔_}
 use mathlib.Core.List.{List}
 use mathlib.Core.Bool.{true}
 use Prim.Native.Nat.{ℕ, _<_}
-use lib.ListN.{replicate}
-use Rattle.finite.specs.Tests as tests
+use Rattle.finite.specs.Tests.{count}
 use Rattle.bitset.specs.Set.{has}
-use Rattle.semantics.specs.Form.{slots}
-use Rattle.semantics.specs.Holds.{Env, Holds}
-use Rattle.semantics.specs.Table.{formOf}
-use Rattle.site.specs.Site.{siteOf}
-use Rattle.condition.specs.Bytes.{tableOf}
+use Rattle.semantics.specs.Form.{slots, Form}
+use Rattle.semantics.specs.Holds.{Env, Model, Holds}
 
--- the condition of the table S lists `set′` on the site, with r slots, and leaves the work buffer zero. It has no free variable, so
--- it holds at the same slots under every valuation
-pub record Listed (site S set′ work′ : List ℕ) (r : ℕ) : Type 0 where
-  pub set : (ρ : Env) (s : ℕ) → s < slots → (has set′ s ≡ true) ↔ Holds (siteOf site) ρ (formOf (tableOf S)) s
-  pub count : r ≡ tests.count slots (has set′)
-  pub work : work′ ≡ replicate 65536 0
+-- the set holds the slots where the condition φ holds on the site M, and they are n. A condition without a free variable holds at the
+-- same slots under every valuation
+pub record Listed (M : Model) (φ : Form) (set : List ℕ) (n : ℕ) : Type 0 where
+  pub listed : (ρ : Env) (s : ℕ) → s < slots → (has set s ≡ true) ↔ Holds M ρ φ s
+  pub counted : n ≡ count slots (has set)

@@ -6,9 +6,11 @@ ghost use mathlib.Core.Logic.{_⊎_};
 ghost use Prim.Native.Nat.{_+_, _*_, _≤_};
 ghost use lib.ListN.{length, replicate};
 ghost use Rattle.bitset.specs.Set.{setBytes};
+ghost use Rattle.semantics.specs.Table.{formOf};
 ghost use Rattle.site.specs.Layout.{siteBytes};
+ghost use Rattle.site.specs.Site.{siteOf};
 ghost use Rattle.verdict.specs.declared.Verdict.the-variants.{Accepted};
-ghost use Rattle.condition.specs.Bytes.{nodeAt};
+ghost use Rattle.condition.specs.Bytes.{nodeAt, tableOf};
 ghost use Rattle.condition.specs.Refusal.{conditionVerdict};
 ghost use Rattle.even_rule.specs.Free.{FreeRows};
 ghost use Rattle.listing.specs.Listed.{Listed};
@@ -16,7 +18,15 @@ ghost use Rattle.listing.specs.State.{Ready, Done};
 use bitset::SET_SLOTS;
 
 // Node i's set, written at its place, unless it stands there.
-pub fn eval(site: &[u8], table: &[u8], free: &[u16], env: &mut [u8], fresh: &mut [u8], work: &mut [u8], i: usize)
+pub fn eval(
+    site: &[u8],
+    table: &[u8],
+    free: &[u16],
+    env: &mut [u8],
+    fresh: &mut [u8],
+    work: &mut [u8],
+    i: usize,
+)
     requires { ⌜ Ready (now site) (now table) (now free) (now env) (now fresh) (now work) ⌝ }
     requires { ⌜ 6 * i + 6 ≤ length (now table) ⌝ }
     ensures { λ _. ⌜ Done (now (site .entry)) (now (table .entry)) (now (env .entry)) (now (env .exit)) (now (fresh .exit)) (now (work .exit)) i ⌝ }
@@ -29,7 +39,15 @@ pub fn eval(site: &[u8], table: &[u8], free: &[u16], env: &mut [u8], fresh: &mut
 }
 
 // The same, with no look at the flag.
-fn compute(site: &[u8], table: &[u8], free: &[u16], env: &mut [u8], fresh: &mut [u8], work: &mut [u8], i: usize)
+fn compute(
+    site: &[u8],
+    table: &[u8],
+    free: &[u16],
+    env: &mut [u8],
+    fresh: &mut [u8],
+    work: &mut [u8],
+    i: usize,
+)
     requires { ⌜ Ready (now site) (now table) (now free) (now env) (now fresh) (now work) ⌝ }
     requires { ⌜ 6 * i + 6 ≤ length (now table) ⌝ }
     ensures { λ _. ⌜ Done (now (site .entry)) (now (table .entry)) (now (env .entry)) (now (env .exit)) (now (fresh .exit)) (now (work .exit)) i ⌝ }
@@ -44,7 +62,15 @@ fn compute(site: &[u8], table: &[u8], free: &[u16], env: &mut [u8], fresh: &mut 
 }
 
 // A not, diamond or box.
-fn unary(site: &[u8], table: &[u8], free: &[u16], env: &mut [u8], fresh: &mut [u8], work: &mut [u8], i: usize)
+fn unary(
+    site: &[u8],
+    table: &[u8],
+    free: &[u16],
+    env: &mut [u8],
+    fresh: &mut [u8],
+    work: &mut [u8],
+    i: usize,
+)
     requires { ⌜ Ready (now site) (now table) (now free) (now env) (now fresh) (now work) ⌝ }
     requires { ⌜ 6 * i + 6 ≤ length (now table) ⌝ }
     requires { ⌜ (nodeAt (now table) i .kind ≡ 5) ⊎ ((nodeAt (now table) i .kind ≡ 8) ⊎ (nodeAt (now table) i .kind ≡ 9)) ⌝ }
@@ -58,7 +84,15 @@ fn unary(site: &[u8], table: &[u8], free: &[u16], env: &mut [u8], fresh: &mut [u
 
 // An or, or an and. The left set is taken out before the right child is evaluated: a loop below the right child may give a shared
 // node another set.
-fn binary(site: &[u8], table: &[u8], free: &[u16], env: &mut [u8], fresh: &mut [u8], work: &mut [u8], i: usize)
+fn binary(
+    site: &[u8],
+    table: &[u8],
+    free: &[u16],
+    env: &mut [u8],
+    fresh: &mut [u8],
+    work: &mut [u8],
+    i: usize,
+)
     requires { ⌜ Ready (now site) (now table) (now free) (now env) (now fresh) (now work) ⌝ }
     requires { ⌜ 6 * i + 6 ≤ length (now table) ⌝ }
     requires { ⌜ (6 ≤ nodeAt (now table) i .kind) × (nodeAt (now table) i .kind ≤ 7) ⌝ }
@@ -74,7 +108,15 @@ fn binary(site: &[u8], table: &[u8], free: &[u16], env: &mut [u8], fresh: &mut [
 }
 
 // A mu or nu: rounds from the empty or the full set until one gives back its set, 256 at most. The variable then has its old set again.
-fn fixpoint(site: &[u8], table: &[u8], free: &[u16], env: &mut [u8], fresh: &mut [u8], work: &mut [u8], i: usize)
+fn fixpoint(
+    site: &[u8],
+    table: &[u8],
+    free: &[u16],
+    env: &mut [u8],
+    fresh: &mut [u8],
+    work: &mut [u8],
+    i: usize,
+)
     requires { ⌜ Ready (now site) (now table) (now free) (now env) (now fresh) (now work) ⌝ }
     requires { ⌜ 6 * i + 6 ≤ length (now table) ⌝ }
     requires { ⌜ (10 ≤ nodeAt (now table) i .kind) × (nodeAt (now table) i .kind ≤ 11) ⌝ }
@@ -99,16 +141,6 @@ fn fixpoint(site: &[u8], table: &[u8], free: &[u16], env: &mut [u8], fresh: &mut
     listing_sets::store(work, i, set);
 }
 
-fn zero(buf: &mut [u8])
-    ensures { λ _. ⌜ now (buf .exit) ≡ replicate (length (now (buf .entry))) 0 ⌝ }
-{
-    let mut k = 0;
-    while k < buf.len() {
-        buf[k] = 0;
-        k += 1;
-    }
-}
-
 fn no_flags() -> [u8; 2048]
     ensures { λ r. ⌜ r ≡ replicate 2048 0 ⌝ }
 {
@@ -125,9 +157,10 @@ fn no_sets() -> [u8; 512]
 pub fn list(site: &[u8], table: &[u8], free: &[u16], set: &mut [u8], work: &mut [u8]) -> u32
     requires { ⌜ length (now site) ≡ siteBytes ⌝ }
     requires { ⌜ conditionVerdict (now table) ≡ Accepted ⌝ }
-    requires { ⌜ FreeRows (now table) (now free) ⌝ }
-    requires { ⌜ (length (now free) ≡ 2048) × (length (now set) ≡ setBytes) × (length (now work) ≡ 65536) ⌝ }
-    ensures { λ r. ⌜ Listed (now (site .entry)) (now (table .entry)) (now (set .exit)) (now (work .exit)) r ⌝ }
+    requires { ⌜ (length (now free) ≡ 2048) × FreeRows (now table) (now free) ⌝ }
+    requires { ⌜ (length (now set) ≡ setBytes) × (length (now work) ≡ 65536) ⌝ }
+    ensures { λ r. ⌜ Listed (siteOf (now (site .entry))) (formOf (tableOf (now (table .entry)))) (now (set .exit)) r ⌝ }
+    ensures { λ _. ⌜ now (work .exit) ≡ replicate 65536 0 ⌝ }
 {
     let mut env = no_sets();
     let mut fresh = no_flags();
@@ -135,6 +168,6 @@ pub fn list(site: &[u8], table: &[u8], free: &[u16], set: &mut [u8], work: &mut 
     eval(site, table, free, &mut env, &mut fresh, work, i);
     let found = listing_sets::load(work, i);
     listing_sets::store(set, 0, found);
-    zero(work);
+    buffer::zero(work);
     bitset::count(set)
 }

@@ -120,7 +120,14 @@ pub fn stale(free: &[u16], fresh: &mut [u8], n: usize, x: usize)
 }
 
 // The variable x gets `set`, so that the sets of the nodes in which it is free are not known any more.
-pub fn assign(free: &[u16], env: &mut [u8], fresh: &mut [u8], n: usize, x: usize, set: [u8; SET_BYTES])
+pub fn assign(
+    free: &[u16],
+    env: &mut [u8],
+    fresh: &mut [u8],
+    n: usize,
+    x: usize,
+    set: [u8; SET_BYTES],
+)
     requires { ⌜ (n ≤ 2048) × (x < 16) × (length (now free) ≡ 2048) × (length (now env) ≡ 512) × (length (now fresh) ≡ 2048) ⌝ }
     ensures { λ _. ⌜ Written (now (env .entry)) (now (env .exit)) x (has set) × Cleared (now (free .entry)) (now (fresh .entry)) (now (fresh .exit)) n x ⌝ }
 {
@@ -188,7 +195,13 @@ pub fn put_leaf(site: &[u8], table: &[u8], env: &[u8], work: &mut [u8], i: usize
 }
 
 // Writes the set of node i, an or or an and, from its children's.
-pub fn put_binary(table: &[u8], work: &mut [u8], i: usize, left: [u8; SET_BYTES], right: [u8; SET_BYTES])
+pub fn put_binary(
+    table: &[u8],
+    work: &mut [u8],
+    i: usize,
+    left: [u8; SET_BYTES],
+    right: [u8; SET_BYTES],
+)
     requires { ⌜ 6 * i + 6 ≤ length (now table) ⌝ }
     requires { ⌜ setBytes * i + setBytes ≤ length (now work) ⌝ }
     requires { ⌜ (6 ≤ nodeAt (now table) i .kind) × (nodeAt (now table) i .kind ≤ 7) ⌝ }

@@ -1,7 +1,6 @@
 // Pieces of jobs, read on standard input for the test programs. A piece is written as its kind, its length, how many of its bytes
 // are not 0, and each of these behind its place (tests/pieces.py).
 use libc::STDIN_FILENO;
-
 ghost use mathlib.Core.Path.{_≡_};
 ghost use Prim.Native.Nat.{_<_};
 ghost use lib.ListN.{length};
@@ -57,5 +56,8 @@ pub fn read(piece: &mut [u8]) -> Piece
         return Piece { kind: 0, len: 0 };
     }
     fill(piece, number(head[3], head[4]));
-    Piece { kind: head[0], len: number(head[1], head[2]) }
+    Piece {
+        kind: head[0],
+        len: number(head[1], head[2]),
+    }
 }

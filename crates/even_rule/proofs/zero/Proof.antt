@@ -1,5 +1,5 @@
 -- `even_rule::zero` meets its contract.
-use Rattle.even_rule.specs.Laws.Check.{filled}
+use Rattle.buffer.specs.Laws.{filled}
 use borrow.Author.Fill.{fill-none, fill-more}
 use lib.ListN.{length, drop, replicate, length-set}
 use native.Mathlib.Omega.{arith}

@@ -1,11 +1,11 @@
 -- The checks by the masks: item 9, item 10, and the masks that are handed on.
 use mathlib.Core.Path.{_≡_, refl, sym, _∙_, ap, ap₂}
-use mathlib.Core.List.{List, _++_, append-nil}
+use mathlib.Core.List.{List}
 use mathlib.Core.Bool.{Bool, true, false, not, _||_}
 use Prim.Native.Nat.{ℕ, zero, suc, _+_, _*_, _-_, _/_, _≤_, _<_}
 use native.Mathlib.Nat.{not-suc-le-zero}
 use native.Mathlib.Omega.{arith}
-use lib.ListN.{length, getD, set, drop, replicate, length-replicate, getD-replicate, drop-of-length-le}
+use lib.ListN.{length, getD, set, replicate, length-replicate, getD-replicate}
 use lib.Seq.{getD-set-same, getD-set-other}
 use lib.Dec.{eqb}
 use lib.Bits.{bitOr, or-lt}
@@ -134,8 +134,3 @@ united-more evens odds rows rows′ i h u =
           (λ q. getD-set-other rows′ i j m 0 q ∙ u .node j (omega arith));
       rest = λ j l. getD-set-other rows′ i j m 0 (λ q. omega arith) ∙ u .rest j (omega arith);
     }
-
-pub filled : (rows : List ℕ) (k : ℕ) → k ≤ length rows → length rows ≤ k → replicate k 0 ++ drop k rows ≡ replicate (length rows) 0
-filled rows k h g =
-    let e : k ≡ length rows = omega arith in
-    ap (λ (z : List ℕ). replicate k 0 ++ z) (drop-of-length-le rows g) ∙ append-nil (replicate k 0) ∙ ap (λ (n : ℕ). replicate n 0) e

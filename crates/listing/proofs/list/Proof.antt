@@ -26,7 +26,7 @@ slice-aggregate-eval-2 c = search needs
 
 eval-requires : tie.Need-eval-requires
 eval-requires c κs = let a = c .before .before .before .before .before .before .before .before .before .before .args in let p = c .before .before .before .before .before .before .before .before .before .before .pre in let s = accepted-sound (a .table .now) (p .1 .0) in
-    (rw (c .before .before .before .before .no-sets .ensures, c .before .before .before .no-flags .ensures) (none-known (a .site .now) (a .table .now) (a .free .now) (a .work .now) (p .0) s (p .1 .1 .0) (p .1 .1 .1 .0) (p .1 .1 .1 .2)), omega (arith, s .some))
+    (rw (c .before .before .before .before .no-sets .ensures, c .before .before .before .no-flags .ensures) (none-known (a .site .now) (a .table .now) (a .free .now) (a .work .now) (p .0) s (p .1 .1 .0 .1) (p .1 .1 .0 .0) (p .1 .1 .1 .1)), omega (arith, s .some))
 
 load-requires : tie.Need-load-requires
 load-requires c κs = let a = c .before .before .before .before .before .before .before .before .before .before .before .before .before .before .before .before .args in let p = c .before .before .before .before .before .before .before .before .before .before .before .before .before .before .before .before .pre in let s = accepted-sound (a .table .now) (p .1 .0) in omega (arith, p .1 .1 .1, s .some, s .few, c .before .before .before .before .before .eval .kept)
@@ -48,13 +48,14 @@ same-length-2 c = search needs
 
 returns : tie.Need-returns
 unfolding slots
-returns c = let a = c .before .before .before .before .before .before .before .before .before .before .before .before .before .before .before .before .before .before .before .before .before .before .before .before .before .before .before .args in let p = c .before .before .before .before .before .before .before .before .before .before .before .before .before .before .before .before .before .before .before .before .before .before .before .before .before .before .before .pre in let s = accepted-sound (a .table .now) (p .1 .0) in let e = c .before .before .before .before .before .before .before .before .before .before .before .before .before .before .before .before .eval .last .1 .1 .1 in
-    record {
-      set = answer (a .site .now) (a .table .now) _ (e .0) (e .1 .0) (e .1 .1 .0) (c .before .before .before .before .before .before .before .before .store .last .0) (length (a .table .now) / 6 - 1) s refl (c .before .before .before .before .before .before .before .before .before .before .before .before .before .before .before .before .eval .ensures)
+returns c = let a = c .before .before .before .before .before .before .before .before .before .before .before .before .before .before .before .before .before .before .before .before .before .before .before .before .before .before .before .args in let p = c .before .before .before .before .before .before .before .before .before .before .before .before .before .before .before .before .before .before .before .before .before .before .before .before .before .before .before .pre in let s = accepted-sound (a .table .now) (p .1 .0) in let e = c .before .before .before .before .before .before .before .before .before .before .before .before .before .before .before .before .eval .last .1 .1 .1 in (
+  record {
+    listed = answer (a .site .now) (a .table .now) _ (e .0) (e .1 .0) (e .1 .1 .0) (c .before .before .before .before .before .before .before .before .store .last .0) (length (a .table .now) / 6 - 1) s refl (c .before .before .before .before .before .before .before .before .before .before .before .before .before .before .before .before .eval .ensures)
         (λ t h. whole (a .set .now) (c .before .before .before .before .before .before .before .before .store .last .0) (c .before .before .before .before .before .before .before .before .before .before .load .result) (c .before .before .before .before .before .before .before .before .store .ensures) t h ∙ c .before .before .before .before .before .before .before .before .before .before .load .ensures t h);
-      count = c .count .ensures;
-      work = c .before .before .before .before .zero .ensures ∙ ap (λ (n : ℕ). replicate n 0) (c .before .before .before .before .before .before .before .before .before .before .before .before .before .before .before .before .eval .kept .1 .1 .1 .1 .1 .0 ∙ p .1 .1 .1 .2);
-    }
+    counted = c .count .ensures;
+  },
+  c .before .before .before .before .zero .ensures ∙ ap (λ (n : ℕ). replicate n 0) (c .before .before .before .before .before .before .before .before .before .before .before .before .before .before .before .before .eval .kept .1 .1 .1 .1 .1 .0 ∙ p .1 .1 .1 .1),
+)
 
 pub list-spec : {M : Type 1} → statement M
 list-spec =

@@ -1,13 +1,13 @@
--- The first k bytes are 0.
-use mathlib.Core.Path.{_≡_, refl, _∙_}
-use mathlib.Core.List.{_++_}
-use Prim.Native.Nat.{_-_, _≤_}
-use native.Mathlib.Omega.{arith}
-use lib.ListN.{length, drop, replicate, length-set}
+-- `buffer::zero` meets its contract: the first k bytes are 0.
+use Rattle.buffer.specs.Laws.{filled}
 use borrow.Author.Fill.{fill-none, fill-more}
-use Rattle.even_rule.specs.Laws.Check.{filled}
-use Rattle.listing.proofs.zero.Statement.{statement}
-use Rattle.listing.proofs.zero.Tie as tie
+use lib.ListN.{length, drop, replicate, length-set}
+use native.Mathlib.Omega.{arith}
+use Prim.Native.Nat.{_-_, _≤_}
+use mathlib.Core.List.{_++_}
+use mathlib.Core.Path.{_≡_, refl, _∙_}
+use Rattle.buffer.proofs.zero.Statement.{statement}
+use Rattle.buffer.proofs.zero.Tie as tie
 
 abbrev Inv-loop : tie.InvT-loop
 Inv-loop buf₀ k₀ buf k = (k ≤ length buf₀) × (length buf ≡ length buf₀) × (buf ≡ replicate k 0 ++ drop k buf₀)

@@ -1,0 +1,3 @@
+-- Laws of the entry points, by topic.
+pub mod Refusal
+pub mod Listing

@@ -1,0 +1,95 @@
+-- The answers of listing, case by case.
+use mathlib.Core.Path.{_≡_, refl, sym, _∙_, ap}
+use mathlib.Core.List.{List}
+use mathlib.Core.Logic.{_≢_}
+use Prim.Native.Nat.{ℕ}
+use lib.ListN.{length, replicate}
+use Rattle.bitset.specs.Set.{setBytes}
+use Rattle.verdict.specs.Verdict.{reasonOf, whereOf}
+use Rattle.verdict.specs.declared.Verdict.{Verdict}
+use Rattle.verdict.specs.declared.Verdict.the-variants.{Accepted, Refused}
+use Rattle.semantics.specs.Table.{formOf}
+use Rattle.site.specs.Site.{siteOf}
+use Rattle.site.specs.Refusal.{siteVerdict}
+use Rattle.condition.specs.Bytes.{tableOf}
+use Rattle.even_rule.specs.Free.{FreeRows, FreeAfter, Checked}
+use Rattle.listing.specs.Listed.{Listed}
+use Rattle.desk.specs.declared.Listing.{Listing}
+use Rattle.desk.specs.declared.Listing.the-variants as answer
+use Rattle.desk.specs.Refusal.{workBytes, listVerdict}
+use Rattle.desk.specs.Answer.{verdictOf, countOf}
+use Rattle.desk.specs.Listing.{SetAfter, Answered, Returned, Judged}
+use Rattle.desk.specs.Laws.Refusal.{buffer-in, buffer-not, Accepts, list-accepts, list-reason}
+
+-- ---- the inputs are judged
+
+module _ {set work : ℕ} {site table masks : List ℕ} where
+  module _ (zeros : masks ≡ replicate 2048 0) where
+    pub judged-set : set ≢ setBytes → Judged set work site table masks (Refused 1 0)
+    unfolding listVerdict FreeAfter
+    judged-set h = record { verdict = rw (buffer-not h); masks-after = zeros }
+
+    pub judged-work : set ≡ setBytes → work ≢ workBytes → Judged set work site table masks (Refused 1 0)
+    unfolding listVerdict FreeAfter
+    judged-work e h = record { verdict = rw (buffer-in e, buffer-not h); masks-after = zeros }
+
+    pub judged-site : set ≡ setBytes → work ≡ workBytes → {item w : ℕ} → siteVerdict site ≡ Refused item w
+        → Judged set work site table masks (Refused item w)
+    unfolding listVerdict FreeAfter
+    judged-site e f v = record { verdict = rw (buffer-in e, buffer-in f, v); masks-after = zeros }
+
+  pub judged-table : set ≡ setBytes → work ≡ workBytes → siteVerdict site ≡ Accepted → {r : Verdict} → Checked table masks r
+      → Judged set work site table masks r
+  unfolding listVerdict
+  judged-table e f v k = record { verdict = rw (buffer-in e, buffer-in f, v) (k .verdict); masks-after = k .masks }
+
+  -- what is known of accepted ones
+  module _ {v : Verdict} (j : Judged set work site table masks v) (e : v ≡ Accepted) where
+    pub accepts : Accepts set work site table
+    accepts = list-accepts set work site table (sym (j .verdict) ∙ e)
+
+    pub free-rows : FreeRows table masks
+    unfolding FreeAfter
+    free-rows = rw e at (j .masks-after)
+
+-- ---- listing answers
+
+module _ {site table set set′ work work′ masks : List ℕ} {v : Verdict} (j : Judged (length set) (length work) site table masks v) where
+  pub answered-listed : v ≡ Accepted → {n : ℕ} → Listed (siteOf site) (formOf (tableOf table)) set′ n → work′ ≡ replicate workBytes 0
+      → Answered site table set set′ work work′ Accepted n
+  unfolding SetAfter
+  answered-listed e l z =
+      record {
+        verdict = sym e ∙ j .verdict;
+        set-after = l;
+        work-zero = z ∙ ap (λ (k : ℕ). replicate k 0) (sym (accepts j e .work-size));
+      }
+
+  pub answered-refused : {item w : ℕ} → v ≡ Refused item w → {r : Listing} → r ≡ answer.Refused item w → set′ ≡ replicate (length set) 0
+      → work′ ≡ replicate (length work) 0 → Answered site table set set′ work work′ (verdictOf r) (countOf r)
+  unfolding SetAfter
+  answered-refused e f y z = rw f (record { verdict = sym e ∙ j .verdict; set-after = (y, refl); work-zero = z })
+
+-- ---- the same in numbers
+
+module _ {site table set set′ work work′ : List ℕ} where
+  pub returned : (r : Listing) → Answered site table set set′ work work′ (verdictOf r) (countOf r) → {reason w n : ℕ}
+      → reason ≡ reasonOf (verdictOf r) → w ≡ whereOf (verdictOf r) → n ≡ countOf r → Returned site table set set′ work work′ reason w n
+  returned r a e f g =
+      record {
+        reason-is = e ∙ ap reasonOf (a .verdict);
+        where-is = f ∙ ap whereOf (a .verdict);
+        answered = rw (g, sym (a .verdict)) a;
+      }
+
+  -- the reason 0: the inputs are accepted, and the set is the one that the semantics give
+  module _ {w n : ℕ} (h : Returned site table set set′ work work′ 0 w n) where
+    accepted : listVerdict (length set) (length work) site table ≡ Accepted
+    accepted = list-reason (length set) (length work) site table (sym (h .reason-is))
+
+    pub accepts-inputs : Accepts (length set) (length work) site table
+    accepts-inputs = list-accepts (length set) (length work) site table accepted
+
+    pub lists : Listed (siteOf site) (formOf (tableOf table)) set′ n
+    unfolding SetAfter
+    lists = rw accepted at (h .answered .set-after)
