@@ -1,15 +1,14 @@
 -- Slots and the bytes they stand in: a byte's eight slots, the empty and the full set, and that slots tell the bytes.
-use mathlib.Core.Path.{_≡_, refl, sym, _∙_, ap₂}
-use mathlib.Core.Bool.{Bool, true, false, Bool·beq, true≢false, false≢true}
+use mathlib.Core.Path.{_≡_, sym, _∙_, ap₂}
+use mathlib.Core.Bool.{Bool, true, false, Bool·beq}
 use mathlib.Core.List.{List}
-use Prim.Native.Nat.{ℕ, zero, suc, _+_, _*_, _/_, _%_, _^_, _<_}
-use native.Mathlib.Nat.{mod-lt, zero-lt-suc, two-pow-succ}
+use Prim.Native.Nat.{ℕ, _+_, _*_, _/_, _%_, _<_}
 use native.Mathlib.Omega.{arith}
-use lib.Dec.{eqb}
 use lib.ListN.{length, getD, replicate, getD-replicate}
 use lib.Seq.{ext-getD}
 use Rattle.finite.specs.Tests.{bit}
-use Rattle.finite.specs.Laws.Bits.{beq-eq, all-below, bit-suc}
+use Rattle.finite.specs.Laws.Bits.{beq-eq, all-below}
+use Rattle.finite.specs.Laws.Weights.{bit-zero, same-bits}
 use Rattle.bitset.specs.Set.{setBytes, has, Is}
 
 -- slot i * 8 + k is bit k of byte i
@@ -23,35 +22,11 @@ unfolding has
 has-like v b law s h = rw (getD-replicate {A = ℕ} setBytes (s / 8) v 0 (omega arith)) (law (s % 8) (omega arith))
 
 pub has-empty : Is (replicate setBytes 0) (λ s. false)
-unfolding bit
-has-empty = has-like 0 false (λ k h. beq-eq _ _ (all-below (λ j. Bool·beq (bit 0 j) false) 8 tt k h))
+has-empty = has-like 0 false (λ k h. bit-zero k)
 
 pub has-full : Is (replicate setBytes 255) (λ s. true)
 unfolding bit
 has-full = has-like 255 true (λ k h. beq-eq _ _ (all-below (λ j. Bool·beq (bit 255 j) true) 8 tt k h))
-
--- a number is told by its digits
-digit-eq : (x y : ℕ) → x < 2 → y < 2 → eqb x 1 ≡ eqb y 1 → x ≡ y
-digit-eq zero zero hx hy e = refl
-digit-eq zero (suc zero) hx hy e = absurd (false≢true e)
-digit-eq (suc zero) zero hx hy e = absurd (true≢false e)
-digit-eq (suc zero) (suc zero) hx hy e = refl
-digit-eq zero (suc (suc y)) hx hy e = absurd (omega arith)
-digit-eq (suc zero) (suc (suc y)) hx hy e = absurd (omega arith)
-digit-eq (suc (suc x)) y hx hy e = absurd (omega arith)
-
-bit-low : (a b : ℕ) → bit a 0 ≡ bit b 0 → a % 2 ≡ b % 2
-unfolding bit
-bit-low a b e = let d = digit-eq (a / 2 ^ 0 % 2) (b / 2 ^ 0 % 2) (mod-lt _ (zero-lt-suc 1)) (mod-lt _ (zero-lt-suc 1)) e in omega arith
-
-pub same-bits : (n a b : ℕ) → a < 2 ^ n → b < 2 ^ n → ((k : ℕ) → k < n → bit a k ≡ bit b k) → a ≡ b
-same-bits zero a b ha hb h = omega arith
-same-bits (suc n) a b ha hb h =
-    let low = bit-low a b (h 0 (omega arith)) in
-    let high : a / 2 ≡ b / 2 =
-    same-bits n (a / 2) (b / 2) (omega (arith, two-pow-succ n)) (omega (arith, two-pow-succ n))
-    (λ k l. sym (bit-suc a k) ∙ h (suc k) (omega arith) ∙ bit-suc b k) in
-    omega arith
 
 -- equal slots, equal bytes
 pub same-slots : (n : ℕ) (A B : List ℕ) → length A ≡ n → length B ≡ n → ((k : ℕ) → getD A k 0 < 256) → ((k : ℕ) → getD B k 0 < 256)

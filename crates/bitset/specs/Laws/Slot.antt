@@ -1,6 +1,6 @@
 -- One slot put in or taken out: `inserted` and `removed`, slot by slot.
 use mathlib.Core.Path.{_≡_, refl, sym, _∙_, ap}
-use mathlib.Core.Bool.{Bool, true, false, not, _&&_, _||_, Bool·beq}
+use mathlib.Core.Bool.{Bool, true, false, not, _&&_, _||_}
 use mathlib.Core.List.{List}
 use Prim.Native.Nat.{ℕ, _-_, _*_, _/_, _%_, _^_, _<_}
 use native.Mathlib.Nat.{mod-lt, zero-lt-suc, one-mul, mod-eq-of-lt}
@@ -9,7 +9,8 @@ use lib.Pow.{pow-lt}
 use lib.ListN.{length, getD, set, length-set}
 use lib.Seq.{getD-set-same, getD-set-other}
 use Rattle.finite.specs.Tests.{bit, same}
-use Rattle.finite.specs.Laws.Bits.{allb, beq-eq, all-below, bit-or, bit-and, bit-not}
+use Rattle.finite.specs.Laws.Bits.{bit-or, bit-and, bit-not}
+use Rattle.finite.specs.Laws.Weights.{bit-weight}
 use Rattle.finite.specs.Laws.Bools.{either, both}
 use Rattle.finite.specs.Laws.Below.{equal?, same-eq, eq-same, ne-same}
 use Rattle.bitset.specs.Set.{has, inserted, removed}
@@ -17,11 +18,6 @@ use Rattle.bitset.specs.Set.{has, inserted, removed}
 -- the weight of a slot, as the code computes it
 pub weight : (s : ℕ) → (1 * 2 ^ (s % 8)) % 256 ≡ 2 ^ (s % 8)
 weight s = rw one-mul (mod-eq-of-lt (pow-lt (mod-lt s (zero-lt-suc 7))))
-
-bit-weight : (j k : ℕ) → j < 8 → k < 8 → bit (2 ^ j) k ≡ same k j
-unfolding bit same
-bit-weight j k hj hk =
-    beq-eq _ _ (all-below (λ k. Bool·beq (bit (2 ^ j) k) (same k j)) 8 (all-below (λ j. allb (λ k. Bool·beq (bit (2 ^ j) k) (same k j)) 8) 8 tt j hj) k hk)
 
 -- the byte of slot s becomes v, which is g of what it was and the slot's weight
 slot-set : (g : Bool → Bool → Bool) → ((b : Bool) → g b false ≡ b) → (S : List ℕ) (s v t : ℕ) → s / 8 < length S
@@ -31,10 +27,10 @@ unfolding has
 slot-set g keep S s v t h law =
     either
     (equal? (t / 8) (s / 8))
-    (λ e. rw (e, getD-set-same S (s / 8) v 0 h, law (t % 8) (omega arith), bit-weight (s % 8) (t % 8) (omega arith) (omega arith), slot e))
+    (λ e. rw (e, getD-set-same S (s / 8) v 0 h, law (t % 8) (omega arith), bit-weight (s % 8) (t % 8), slot e))
     (λ n. rw (getD-set-other S (s / 8) (t / 8) v 0 n, ne-same (λ q. n (ap (λ (x : ℕ). x / 8) q))) (sym (keep (bit (getD S (t / 8) 0) (t % 8)))))
   where
-    slot : t / 8 ≡ s / 8 → same (t % 8) (s % 8) ≡ same t s
+    slot : t / 8 ≡ s / 8 → same (s % 8) (t % 8) ≡ same t s
     slot e = both (λ p. let q = same-eq p in eq-same (omega arith)) (λ p. let q = same-eq p in eq-same (omega arith))
 
 pub has-inserted : (S : List ℕ) (s t : ℕ) → s / 8 < length S → has (inserted S s) t ≡ (has S t || same t s)

@@ -71,6 +71,7 @@ list-accepts setLen workLen site table e =
 
 -- ---- no item has the number 0, so the reason 0 says that the inputs are accepted
 
+-- v refuses with no item 0
 unfoldable pub Numbered : Verdict → Type 0
 Numbered v = reasonOf v ≡ 0 → v ≡ Accepted
 

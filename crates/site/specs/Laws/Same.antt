@@ -7,7 +7,8 @@ use native.Mathlib.Decide.{decLt}
 use lib.ListN.{length, getD}
 use lib.Seq.{ext-getD}
 use Rattle.bitset.specs.Set.{setBytes, setSlots, has}
-use Rattle.bitset.specs.Laws.Bytes.{has-byte, same-bits}
+use Rattle.finite.specs.Laws.Weights.{same-bits}
+use Rattle.bitset.specs.Laws.Bytes.{has-byte}
 use Rattle.semantics.specs.Form.{slots, labels, names, links}
 use Rattle.semantics.specs.Holds.{Model}
 use Rattle.semantics.specs.Edit.{target}
