@@ -3,6 +3,7 @@
 // the node has moved.
 ghost use mathlib.Core.Path.{_≡_};
 ghost use mathlib.Core.Logic.{_⊎_};
+ghost use mathlib.Core.Bool.{true, false};
 ghost use Prim.Native.Nat.{_+_, _*_, _≤_};
 ghost use lib.ListN.{length, replicate};
 ghost use Rattle.bitset.specs.Set.{setBytes};
@@ -13,10 +14,19 @@ ghost use Rattle.condition.specs.Refusal.{conditionVerdict};
 ghost use Rattle.even_rule.specs.Free.{FreeRows};
 ghost use Rattle.listing.specs.Listed.{Listed};
 ghost use Rattle.listing.specs.State.{Ready, Done};
+use bitset::SET_BYTES;
 use bitset::SET_SLOTS;
 
 // Node i's set, written at its place, unless it stands there.
-pub fn eval(site: &[u8], table: &[u8], free: &[u16], env: &mut [u8], fresh: &mut [u8], work: &mut [u8], i: usize)
+pub fn eval(
+    site: &[u8],
+    table: &[u8],
+    free: &[u16],
+    env: &mut [u8],
+    fresh: &mut [u8],
+    work: &mut [u8],
+    i: usize,
+)
     requires { ⌜ Ready (now site) (now table) (now free) (now env) (now fresh) (now work) ⌝ }
     requires { ⌜ 6 * i + 6 ≤ length (now table) ⌝ }
     ensures { λ _. ⌜ Done (now (site .entry)) (now (table .entry)) (now (env .entry)) (now (env .exit)) (now (fresh .exit)) (now (work .exit)) i ⌝ }
@@ -29,7 +39,15 @@ pub fn eval(site: &[u8], table: &[u8], free: &[u16], env: &mut [u8], fresh: &mut
 }
 
 // The same, with no look at the flag.
-fn compute(site: &[u8], table: &[u8], free: &[u16], env: &mut [u8], fresh: &mut [u8], work: &mut [u8], i: usize)
+fn compute(
+    site: &[u8],
+    table: &[u8],
+    free: &[u16],
+    env: &mut [u8],
+    fresh: &mut [u8],
+    work: &mut [u8],
+    i: usize,
+)
     requires { ⌜ Ready (now site) (now table) (now free) (now env) (now fresh) (now work) ⌝ }
     requires { ⌜ 6 * i + 6 ≤ length (now table) ⌝ }
     ensures { λ _. ⌜ Done (now (site .entry)) (now (table .entry)) (now (env .entry)) (now (env .exit)) (now (fresh .exit)) (now (work .exit)) i ⌝ }
@@ -44,7 +62,15 @@ fn compute(site: &[u8], table: &[u8], free: &[u16], env: &mut [u8], fresh: &mut 
 }
 
 // A not, diamond or box.
-fn unary(site: &[u8], table: &[u8], free: &[u16], env: &mut [u8], fresh: &mut [u8], work: &mut [u8], i: usize)
+fn unary(
+    site: &[u8],
+    table: &[u8],
+    free: &[u16],
+    env: &mut [u8],
+    fresh: &mut [u8],
+    work: &mut [u8],
+    i: usize,
+)
     requires { ⌜ Ready (now site) (now table) (now free) (now env) (now fresh) (now work) ⌝ }
     requires { ⌜ 6 * i + 6 ≤ length (now table) ⌝ }
     requires { ⌜ (nodeAt (now table) i .kind ≡ 5) ⊎ ((nodeAt (now table) i .kind ≡ 8) ⊎ (nodeAt (now table) i .kind ≡ 9)) ⌝ }
@@ -58,7 +84,15 @@ fn unary(site: &[u8], table: &[u8], free: &[u16], env: &mut [u8], fresh: &mut [u
 
 // An or, or an and. The left set is taken out before the right child is evaluated: a loop below the right child may give a shared
 // node another set.
-fn binary(site: &[u8], table: &[u8], free: &[u16], env: &mut [u8], fresh: &mut [u8], work: &mut [u8], i: usize)
+fn binary(
+    site: &[u8],
+    table: &[u8],
+    free: &[u16],
+    env: &mut [u8],
+    fresh: &mut [u8],
+    work: &mut [u8],
+    i: usize,
+)
     requires { ⌜ Ready (now site) (now table) (now free) (now env) (now fresh) (now work) ⌝ }
     requires { ⌜ 6 * i + 6 ≤ length (now table) ⌝ }
     requires { ⌜ (6 ≤ nodeAt (now table) i .kind) × (nodeAt (now table) i .kind ≤ 7) ⌝ }
@@ -73,8 +107,23 @@ fn binary(site: &[u8], table: &[u8], free: &[u16], env: &mut [u8], fresh: &mut [
     listing_sets::put_binary(table, work, i, left, right);
 }
 
+// Are the two sets the same?
+fn same_set(a: [u8; SET_BYTES], b: [u8; SET_BYTES]) -> bool
+    ensures { λ r. ⌜ (r ≡ true → a ≡ b) × (r ≡ false → a ≡ b → ⊥) ⌝ }
+{
+    bitset::equal(&a, &b)
+}
+
 // A mu or nu: rounds from the empty or the full set until one gives back its set, 256 at most. The variable then has its old set again.
-fn fixpoint(site: &[u8], table: &[u8], free: &[u16], env: &mut [u8], fresh: &mut [u8], work: &mut [u8], i: usize)
+fn fixpoint(
+    site: &[u8],
+    table: &[u8],
+    free: &[u16],
+    env: &mut [u8],
+    fresh: &mut [u8],
+    work: &mut [u8],
+    i: usize,
+)
     requires { ⌜ Ready (now site) (now table) (now free) (now env) (now fresh) (now work) ⌝ }
     requires { ⌜ 6 * i + 6 ≤ length (now table) ⌝ }
     requires { ⌜ (10 ≤ nodeAt (now table) i .kind) × (nodeAt (now table) i .kind ≤ 11) ⌝ }
@@ -91,7 +140,7 @@ fn fixpoint(site: &[u8], table: &[u8], free: &[u16], env: &mut [u8], fresh: &mut
         listing_sets::assign(free, env, fresh, n, x, set);
         eval(site, table, free, env, fresh, work, b);
         let next = listing_sets::load(work, b);
-        moved = !listing_sets::same_set(set, next);
+        moved = !same_set(set, next);
         set = next;
         rounds += 1;
     }

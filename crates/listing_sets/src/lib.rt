@@ -2,7 +2,7 @@
 // an operation on sets, and says what the whole buffer becomes.
 ghost use mathlib.Core.Path.{_≡_};
 ghost use mathlib.Core.Logic.{_⊎_};
-ghost use mathlib.Core.Bool.{true, false, not, _&&_, _||_};
+ghost use mathlib.Core.Bool.{true, not, _&&_, _||_};
 ghost use Prim.Native.Nat.{_+_, _*_, _≤_, _<_};
 ghost use lib.ListN.{length, getD};
 ghost use Rattle.finite.specs.Tests.{same, bit};
@@ -19,7 +19,7 @@ ghost use Rattle.listing_sets.specs.Places.{setAt, Written, Cleared};
 ghost use Rattle.listing_sets.specs.Nodes.{startOf, applied};
 use bitset::SET_BYTES;
 
-pub fn copy(dst: &mut [u8], src: &[u8])
+fn copy(dst: &mut [u8], src: &[u8])
     requires { ⌜ (length (now dst) ≡ setBytes) × (length (now src) ≡ setBytes) ⌝ }
     ensures { λ _. ⌜ Is (now (dst .exit)) (has (now (src .entry))) ⌝ }
 {
@@ -51,7 +51,7 @@ pub fn store(buf: &mut [u8], j: usize, set: [u8; SET_BYTES])
 }
 
 // Its complement.
-pub fn invert(buf: &mut [u8], j: usize)
+fn invert(buf: &mut [u8], j: usize)
     requires { ⌜ setBytes * j + setBytes ≤ length (now buf) ⌝ }
     ensures { λ _. ⌜ Written (now (buf .entry)) (now (buf .exit)) j (λ s. not (setAt (now (buf .entry)) j s)) ⌝ }
 {
@@ -61,7 +61,7 @@ pub fn invert(buf: &mut [u8], j: usize)
 }
 
 // Its union with `set`.
-pub fn unite(buf: &mut [u8], j: usize, set: [u8; SET_BYTES])
+fn unite(buf: &mut [u8], j: usize, set: [u8; SET_BYTES])
     requires { ⌜ setBytes * j + setBytes ≤ length (now buf) ⌝ }
     ensures { λ _. ⌜ Written (now (buf .entry)) (now (buf .exit)) j (λ s. setAt (now (buf .entry)) j s || has set s) ⌝ }
 {
@@ -71,7 +71,7 @@ pub fn unite(buf: &mut [u8], j: usize, set: [u8; SET_BYTES])
 }
 
 // Its slots that are in `set` too.
-pub fn meet(buf: &mut [u8], j: usize, set: [u8; SET_BYTES])
+fn meet(buf: &mut [u8], j: usize, set: [u8; SET_BYTES])
     requires { ⌜ setBytes * j + setBytes ≤ length (now buf) ⌝ }
     ensures { λ _. ⌜ Written (now (buf .entry)) (now (buf .exit)) j (λ s. setAt (now (buf .entry)) j s && has set s) ⌝ }
 {
@@ -80,15 +80,8 @@ pub fn meet(buf: &mut [u8], j: usize, set: [u8; SET_BYTES])
     bitset::meet_with(&mut buf[a..e], &set);
 }
 
-// Are the two sets, given by value, the same bytes?
-pub fn same_set(a: [u8; SET_BYTES], b: [u8; SET_BYTES]) -> bool
-    ensures { λ r. ⌜ (r ≡ true → a ≡ b) × (r ≡ false → a ≡ b → ⊥) ⌝ }
-{
-    bitset::equal(&a, &b)
-}
-
 // The set of slot s alone.
-pub fn single(s: usize) -> [u8; SET_BYTES]
+fn single(s: usize) -> [u8; SET_BYTES]
     requires { ⌜ s < setSlots ⌝ }
     ensures { λ r. ⌜ Is r (λ t. same t s) ⌝ }
 {
@@ -106,7 +99,7 @@ fn depends(free: &[u16], j: usize, x: usize) -> bool
 }
 
 // Clears the flag of each of the first n nodes in which the variable x is free.
-pub fn stale(free: &[u16], fresh: &mut [u8], n: usize, x: usize)
+fn stale(free: &[u16], fresh: &mut [u8], n: usize, x: usize)
     requires { ⌜ (n ≤ 2048) × (x < 16) × (length (now free) ≡ 2048) × (length (now fresh) ≡ 2048) ⌝ }
     ensures { λ _. ⌜ Cleared (now (free .entry)) (now (fresh .entry)) (now (fresh .exit)) n x ⌝ }
 {
@@ -120,7 +113,14 @@ pub fn stale(free: &[u16], fresh: &mut [u8], n: usize, x: usize)
 }
 
 // The variable x gets `set`, so that the sets of the nodes in which it is free are not known any more.
-pub fn assign(free: &[u16], env: &mut [u8], fresh: &mut [u8], n: usize, x: usize, set: [u8; SET_BYTES])
+pub fn assign(
+    free: &[u16],
+    env: &mut [u8],
+    fresh: &mut [u8],
+    n: usize,
+    x: usize,
+    set: [u8; SET_BYTES],
+)
     requires { ⌜ (n ≤ 2048) × (x < 16) × (length (now free) ≡ 2048) × (length (now env) ≡ 512) × (length (now fresh) ≡ 2048) ⌝ }
     ensures { λ _. ⌜ Written (now (env .entry)) (now (env .exit)) x (has set) × Cleared (now (free .entry)) (now (fresh .entry)) (now (fresh .exit)) n x ⌝ }
 {
@@ -188,7 +188,13 @@ pub fn put_leaf(site: &[u8], table: &[u8], env: &[u8], work: &mut [u8], i: usize
 }
 
 // Writes the set of node i, an or or an and, from its children's.
-pub fn put_binary(table: &[u8], work: &mut [u8], i: usize, left: [u8; SET_BYTES], right: [u8; SET_BYTES])
+pub fn put_binary(
+    table: &[u8],
+    work: &mut [u8],
+    i: usize,
+    left: [u8; SET_BYTES],
+    right: [u8; SET_BYTES],
+)
     requires { ⌜ 6 * i + 6 ≤ length (now table) ⌝ }
     requires { ⌜ setBytes * i + setBytes ≤ length (now work) ⌝ }
     requires { ⌜ (6 ≤ nodeAt (now table) i .kind) × (nodeAt (now table) i .kind ≤ 7) ⌝ }

@@ -45,7 +45,7 @@ use Rattle.listing_sets.proofs.load.Reads as load-reads
 use Rattle.listing_sets.proofs.put_binary.Reads as put-binary-reads
 use Rattle.listing_sets.proofs.put_leaf.Reads as put-leaf-reads
 use Rattle.listing_sets.proofs.put_unary.Reads as put-unary-reads
-use Rattle.listing_sets.proofs.same_set.Reads as same-set-reads
+use Rattle.listing.proofs.same_set.Reads as same-set-reads
 use Rattle.listing_sets.proofs.start.Reads as start-reads
 use Rattle.listing_sets.proofs.store.Reads as store-reads
 use Rattle.listing.proofs.+binary+compute+eval+fixpoint+unary.{statement}
@@ -113,10 +113,13 @@ binary-right-child-requires : (t : ℕ) → binary-lts.Need-right-child-requires
 binary-right-child-requires t c κs = let p = c .before .before .before .before .before .before .before .before .before .before .before .before .before .before .before .before .before .before .before .pre .1 in (p .0 .fits, (p .1 .0, p .1 .1))
 
 binary-eval-requires-2 : (t : ℕ) → binary-lts.Need-eval-requires-2 (binary-calls t) (binary-at t) binary.Post
-binary-eval-requires-2 t c κs = let a = c .before .before .before .before .before .before .before .before .before .before .before .before .before .before .before .before .before .before .before .before .before .before .before .args in let p = c .before .before .before .before .before .before .before .before .before .before .before .before .before .before .before .before .before .before .before .before .before .before .before .pre .1 in let e = c .before .before .before .before .before .before .before .before .before .before .before .before .eval .last .1 .1 .1 in let q = c .before .before .before .before .before .before .before .before .before .before .before .before .eval .kept .1 .1 .1 in
-    (omega (arith, c .before .before .before .before .before .before .before .before .before .before .before .before .before .before .before .before .before .before .before .before .before .before .before .pre, c .before .before .before .right-child .ensures),
-    (again (a .site .now) (a .table .now) (a .free .now) (a .env .now) (e .0) (a .fresh .now) (e .1 .0) (a .work .now) (e .1 .1 .0) (c .before .before .before .before .before .before .before .before .before .before .before .before .before .before .before .before .left-child .result) (p .0) (c .before .before .before .before .before .before .before .before .before .before .before .before .eval .ensures) (q .0) (q .1 .0) (q .1 .1 .0),
-    omega (arith, p .1 .0, c .before .before .before .right-child .ensures)))
+binary-eval-requires-2 t c κs = let a = c .before .before .before .before .before .before .before .before .before .before .before .before .before .before .before .before .before .before .before .before .before .before .before .args in let p = c .before .before .before .before .before .before .before .before .before .before .before .before .before .before .before .before .before .before .before .before .before .before .before .pre .1 in let e = c .before .before .before .before .before .before .before .before .before .before .before .before .eval .last .1 .1 .1 in let q = c .before .before .before .before .before .before .before .before .before .before .before .before .eval .kept .1 .1 .1 in (
+  omega (arith, c .before .before .before .before .before .before .before .before .before .before .before .before .before .before .before .before .before .before .before .before .before .before .before .pre, c .before .before .before .right-child .ensures),
+  (
+    again (a .site .now) (a .table .now) (a .free .now) (a .env .now) (e .0) (a .fresh .now) (e .1 .0) (a .work .now) (e .1 .1 .0) (c .before .before .before .before .before .before .before .before .before .before .before .before .before .before .before .before .left-child .result) (p .0) (c .before .before .before .before .before .before .before .before .before .before .before .before .eval .ensures) (q .0) (q .1 .0) (q .1 .1 .0),
+    omega (arith, p .1 .0, c .before .before .before .right-child .ensures),
+  ),
+)
 
 binary-load-requires-2 : (t : ℕ) → binary-lts.Need-load-requires-2 (binary-calls t) (binary-at t) binary.Post
 binary-load-requires-2 t c κs = omega (arith, c .before .before .before .before .before .before .before .before .before .before .before .before .before .before .before .before .before .before .before .before .before .before .before .before .before .before .before .before .before .before .before .pre, c .before .before .before .before .before .before .before .before .before .before .before .right-child .ensures, c .before .before .before .before .before .before .before .before .before .before .before .before .before .before .before .before .before .before .before .before .eval .kept, c .before .before .before .before .before .before .before .eval2 .kept)
@@ -157,9 +160,17 @@ compute-fixpoint-requires : (t : ℕ) → compute-lts.Need-fixpoint-requires (co
 compute-fixpoint-requires t c κs = let p = c .before .before .before .before .before .before .before .before .before .before .before .before .before .before .before .pre .1 in (omega (arith, c .before .before .before .before .before .before .before .before .before .before .before .before .before .before .before .pre), (p .0, (p .1, (omega (arith, c .before .before .before .before .before .before .before .before .kind .ensures, c .before .before .before .before .if3 .left), omega (arith, c .before .before .before .before .before .before .before .before .kind .ensures, c .before .before .before .if4 .taken)))))
 
 compute-put-leaf-requires : (t : ℕ) → compute-lts.Need-put-leaf-requires (compute-calls t) (compute-at t) compute.Post
-compute-put-leaf-requires t c κs = let p = c .before .before .before .before .before .before .before .before .before .before .before .pre .1 in
-    ((p .0 .site-size, p .0 .env-size, omega (arith, c .before .before .before .before .before .before .before .before .before .before .before .pre)), (p .0 .fits, (p .1, λ h l.
-    either (c .before .before .if1 .came) (λ u. omega (arith, c .before .before .before .before .kind .ensures, u .taken)) (λ u. omega (arith, c .before .before .before .before .kind .ensures, u .3 .left)))))
+compute-put-leaf-requires t c κs = let p = c .before .before .before .before .before .before .before .before .before .before .before .pre .1 in (
+  (p .0 .site-size, p .0 .env-size, omega (arith, c .before .before .before .before .before .before .before .before .before .before .before .pre)),
+  (
+    p .0 .fits,
+    (
+      p .1,
+      λ h l.
+          either (c .before .before .if1 .came) (λ u. omega (arith, c .before .before .before .before .kind .ensures, u .taken)) (λ u. omega (arith, c .before .before .before .before .kind .ensures, u .3 .left)),
+    ),
+  ),
+)
 
 compute-unary-requires : (t : ℕ) → compute-lts.Need-unary-requires (compute-calls t) (compute-at t) compute.Post
 compute-unary-requires t c κs = let a = c .before .before .before .before .before .before .before .before .before .before .before .args in let p = c .before .before .before .before .before .before .before .before .before .before .before .pre .1 in
@@ -283,11 +294,14 @@ fixpoint-assign-requires : (t : ℕ) → fixpoint-lts.Need-assign-requires (fixp
 fixpoint-assign-requires t c κs = omega (arith, c .before .before .before .before .before .before .before .before .before .before .before .before .before .before .before .before .before .pre, c .before .before .before .before .before .before .before .before .before .before .number .ensures, c .before .before .before .before .loop .inv)
 
 fixpoint-eval-requires : (t : ℕ) → fixpoint-lts.Need-eval-requires (fixpoint-calls t) (fixpoint-at t) fixpoint.Post fixpoint-Inv-loop fixpoint-μ-loop
-fixpoint-eval-requires t c κs = let a = c .before .before .before .before .before .before .before .before .before .before .before .before .before .before .before .before .before .before .before .before .before .before .before .before .before .args in let p = c .before .before .before .before .before .before .before .before .before .before .before .before .before .before .before .before .before .before .before .before .before .before .before .before .before .pre .1 in let l = c .before .before .before .before .before .before .before .before .before .before .before .before .loop in
-    (omega (arith, c .before .before .before .before .before .before .before .before .before .before .before .before .before .before .before .before .before .before .before .before .before .before .before .before .before .pre, c .before .before .before .before .before .before .before .before .before .before .before .before .before .before .before .before .before .left-child .ensures),
-    (assigned (a .site .now) (a .table .now) (a .env .now) (l .env) (l .fresh) (l .work) (nodeAt (a .table .now) (a .i) .kind) (c .before .before .before .before .before .before .before .before .before .before .before .before .before .before .before .before .before .before .number .result) (c .before .before .before .before .before .before .before .before .before .before .before .before .before .before .before .before .before .left-child .result) (l .set) (l .rounds) (l .moved) (l .inv)
-    (c .before .before .before .before .before .before .before .assign .last .1 .0) (c .before .before .before .before .before .before .before .assign .ensures .0) (a .free .now) (a .fresh .now) (a .work .now) (c .before .before .before .before .before .before .before .assign .last .1 .1 .0) (length (a .table .now) / 6) (p .0) (c .before .before .before .before .before .before .before .before .before .before .before .before .before .before .before .before .before .before .number .ensures .1) (omega arith) (c .before .before .before .before .before .before .before .assign .kept .1 .0) (c .before .before .before .before .before .before .before .assign .ensures .1) (c .before .before .before .before .before .before .before .assign .kept .1 .1 .0),
-    omega (arith, p .1 .0, c .before .before .before .before .before .before .before .before .before .before .before .before .before .before .before .before .before .left-child .ensures)))
+fixpoint-eval-requires t c κs = let a = c .before .before .before .before .before .before .before .before .before .before .before .before .before .before .before .before .before .before .before .before .before .before .before .before .before .args in let p = c .before .before .before .before .before .before .before .before .before .before .before .before .before .before .before .before .before .before .before .before .before .before .before .before .before .pre .1 in let l = c .before .before .before .before .before .before .before .before .before .before .before .before .loop in (
+  omega (arith, c .before .before .before .before .before .before .before .before .before .before .before .before .before .before .before .before .before .before .before .before .before .before .before .before .before .pre, c .before .before .before .before .before .before .before .before .before .before .before .before .before .before .before .before .before .left-child .ensures),
+  (
+    assigned (a .site .now) (a .table .now) (a .env .now) (l .env) (l .fresh) (l .work) (nodeAt (a .table .now) (a .i) .kind) (c .before .before .before .before .before .before .before .before .before .before .before .before .before .before .before .before .before .before .number .result) (c .before .before .before .before .before .before .before .before .before .before .before .before .before .before .before .before .before .left-child .result) (l .set) (l .rounds) (l .moved) (l .inv)
+        (c .before .before .before .before .before .before .before .assign .last .1 .0) (c .before .before .before .before .before .before .before .assign .ensures .0) (a .free .now) (a .fresh .now) (a .work .now) (c .before .before .before .before .before .before .before .assign .last .1 .1 .0) (length (a .table .now) / 6) (p .0) (c .before .before .before .before .before .before .before .before .before .before .before .before .before .before .before .before .before .before .number .ensures .1) (omega arith) (c .before .before .before .before .before .before .before .assign .kept .1 .0) (c .before .before .before .before .before .before .before .assign .ensures .1) (c .before .before .before .before .before .before .before .assign .kept .1 .1 .0),
+    omega (arith, p .1 .0, c .before .before .before .before .before .before .before .before .before .before .before .before .before .before .before .before .before .left-child .ensures),
+  ),
+)
 
 fixpoint-load-requires-2 : (t : ℕ) → fixpoint-lts.Need-load-requires-2 (fixpoint-calls t) (fixpoint-at t) fixpoint.Post fixpoint-Inv-loop fixpoint-μ-loop
 fixpoint-load-requires-2 t c κs = omega (arith, c .before .before .before .before .before .before .before .before .before .before .before .before .before .before .before .before .before .before .before .before .before .before .before .before .before .before .before .before .before .before .before .before .before .pre, c .before .before .before .before .before .before .before .before .before .before .before .before .before .before .before .before .before .before .before .before .before .before .before .before .before .left-child .ensures, c .before .before .before .before .before .before .before .before .before .before .before .before .before .before .before .before .before .before .before .before .loop .inv, c .before .before .before .before .before .before .before .eval .kept)

@@ -51,7 +51,7 @@ unfolding slots
 returns c = let a = c .before .before .before .before .before .before .before .before .before .before .before .before .before .before .before .before .before .before .before .before .before .before .before .before .before .before .before .args in let p = c .before .before .before .before .before .before .before .before .before .before .before .before .before .before .before .before .before .before .before .before .before .before .before .before .before .before .before .pre in let s = accepted-sound (a .table .now) (p .1 .0) in let e = c .before .before .before .before .before .before .before .before .before .before .before .before .before .before .before .before .eval .last .1 .1 .1 in
     record {
       set = answer (a .site .now) (a .table .now) _ (e .0) (e .1 .0) (e .1 .1 .0) (c .before .before .before .before .before .before .before .before .store .last .0) (length (a .table .now) / 6 - 1) s refl (c .before .before .before .before .before .before .before .before .before .before .before .before .before .before .before .before .eval .ensures)
-        (λ t h. whole (a .set .now) (c .before .before .before .before .before .before .before .before .store .last .0) (c .before .before .before .before .before .before .before .before .before .before .load .result) (c .before .before .before .before .before .before .before .before .store .ensures) t h ∙ c .before .before .before .before .before .before .before .before .before .before .load .ensures t h);
+          (λ t h. whole (a .set .now) (c .before .before .before .before .before .before .before .before .store .last .0) (c .before .before .before .before .before .before .before .before .before .before .load .result) (c .before .before .before .before .before .before .before .before .store .ensures) t h ∙ c .before .before .before .before .before .before .before .before .before .before .load .ensures t h);
       count = c .count .ensures;
       work = c .before .before .before .before .zero .ensures ∙ ap (λ (n : ℕ). replicate n 0) (c .before .before .before .before .before .before .before .before .before .before .before .before .before .before .before .before .eval .kept .1 .1 .1 .1 .1 .0 ∙ p .1 .1 .1 .2);
     }

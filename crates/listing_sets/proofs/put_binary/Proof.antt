@@ -24,7 +24,7 @@ returns : tie.Need-returns
 returns c = λ M. let a = c .before .before .before .before .before .before .before .before .before .before .before .before .args in
     record {
       here = λ s h. c .before .before .unite .ensures .here s h ∙ ap (λ (b : Bool). b || has (a .right) s) (c .before .before .before .before .before .before .before .before .store .ensures .here s h)
-        ∙ sym (makes-or M (nodeAt (a .table .now) (a .i)) (has (a .left)) (has (a .right)) s (omega arith));
+          ∙ sym (makes-or M (nodeAt (a .table .now) (a .i)) (has (a .left)) (has (a .right)) s (omega arith));
       others = λ k n s h. c .before .before .unite .ensures .others k n s h ∙ c .before .before .before .before .before .before .before .before .store .ensures .others k n s h;
     }
 
@@ -38,7 +38,7 @@ returns-2 : tie.Need-returns-2
 returns-2 c = λ M. let a = c .before .before .before .before .before .before .before .before .before .before .before .before .args in
     record {
       here = λ s h. c .before .before .meet .ensures .here s h ∙ ap (λ (b : Bool). b && has (a .right) s) (c .before .before .before .before .before .before .before .before .store .ensures .here s h)
-        ∙ sym (makes-and M (nodeAt (a .table .now) (a .i)) (has (a .left)) (has (a .right)) s (omega arith));
+          ∙ sym (makes-and M (nodeAt (a .table .now) (a .i)) (has (a .left)) (has (a .right)) s (omega arith));
       others = λ k n s h. c .before .before .meet .ensures .others k n s h ∙ c .before .before .before .before .before .before .before .before .store .ensures .others k n s h;
     }
 

@@ -32,7 +32,7 @@ returns : tie.Need-returns
 returns c = let a = c .before .before .before .before .before .before .before .before .before .before .before .before .before .args in
     record {
       here = λ s h. c .before .before .invert .ensures .here s h ∙ ap not (c .before .before .before .before .before .before .store .ensures .here s h)
-        ∙ sym (makes-not (siteOf (a .site .now)) (nodeAt (a .table .now) (a .i)) (has (a .set)) (has (a .set)) s (omega arith));
+          ∙ sym (makes-not (siteOf (a .site .now)) (nodeAt (a .table .now) (a .i)) (has (a .set)) (has (a .set)) s (omega arith));
       others = λ k n s h. c .before .before .invert .ensures .others k n s h ∙ c .before .before .before .before .before .before .store .ensures .others k n s h;
     }
 
@@ -52,8 +52,8 @@ returns-2 : tie.Need-returns-2
 returns-2 c = let a = c .before .before .before .before .before .before .before .before .before .before .before .before .args in let M = siteOf (a .site .now) in
     record {
       here = λ s h. c .before .before .store2 .ensures .here s h ∙ c .before .before .before .before .diamond .ensures s (slot-in h)
-        ∙ ap (λ (w : ℕ). any slots (λ t. step M (wayOf w) s t && has (a .set) t)) (c .before .before .before .before .before .before .param .ensures)
-        ∙ sym (makes-diamond M (nodeAt (a .table .now) (a .i)) (has (a .set)) (has (a .set)) s (omega arith));
+          ∙ ap (λ (w : ℕ). any slots (λ t. step M (wayOf w) s t && has (a .set) t)) (c .before .before .before .before .before .before .param .ensures)
+          ∙ sym (makes-diamond M (nodeAt (a .table .now) (a .i)) (has (a .set)) (has (a .set)) s (omega arith));
       others = c .before .before .store2 .ensures .others;
     }
 
@@ -72,8 +72,8 @@ returns-3 c = let a = c .before .before .before .before .before .before .before 
     either (c .before .before .before .before .before .before .before .before .before .before .before .before .pre .1 .1 .1) (λ p. absurd (c .before .before .before .before .before .before .before .if1 .left (c .before .before .before .before .before .before .before .before .kind .ensures ∙ p))) (λ q. either q (λ p. absurd (c .before .before .before .before .before .if2 .left (c .before .before .before .before .before .before .before .before .kind .ensures ∙ p))) (λ p. p)) in
     record {
       here = λ s h. c .before .before .store3 .ensures .here s h ∙ c .before .before .before .before .boxed .ensures s (slot-in h)
-        ∙ ap (λ (w : ℕ). all slots (λ t. not (step M (wayOf w) s t) || has (a .set) t)) (c .before .before .before .before .before .before .param .ensures)
-        ∙ sym (makes-box M (nodeAt (a .table .now) (a .i)) (has (a .set)) (has (a .set)) s e);
+          ∙ ap (λ (w : ℕ). all slots (λ t. not (step M (wayOf w) s t) || has (a .set) t)) (c .before .before .before .before .before .before .param .ensures)
+          ∙ sym (makes-box M (nodeAt (a .table .now) (a .i)) (has (a .set)) (has (a .set)) s e);
       others = c .before .before .store3 .ensures .others;
     }
 
