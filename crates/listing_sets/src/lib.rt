@@ -33,10 +33,10 @@ pub fn load(buf: &[u8], j: usize) -> [u8; SET_BYTES]
     requires { ⌜ setBytes * j + setBytes ≤ length (now buf) ⌝ }
     ensures { λ r. ⌜ has r ≐ setAt (now (buf .entry)) j ⌝ }
 {
-    let a = SET_BYTES * j;
-    let e = a + SET_BYTES;
+    let from = SET_BYTES * j;
+    let to = from + SET_BYTES;
     let mut set = [0u8; SET_BYTES];
-    copy(&mut set, &buf[a..e]);
+    copy(&mut set, &buf[from..to]);
     set
 }
 
@@ -45,9 +45,9 @@ pub fn store(buf: &mut [u8], j: usize, set: [u8; SET_BYTES])
     requires { ⌜ setBytes * j + setBytes ≤ length (now buf) ⌝ }
     ensures { λ _. ⌜ Written (now (buf .entry)) (now (buf .exit)) j (has set) ⌝ }
 {
-    let a = SET_BYTES * j;
-    let e = a + SET_BYTES;
-    copy(&mut buf[a..e], &set);
+    let at = SET_BYTES * j;
+    let end = at + SET_BYTES;
+    copy(&mut buf[at..end], &set);
 }
 
 // Its complement.

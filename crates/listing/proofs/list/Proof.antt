@@ -1,11 +1,12 @@
-use Rattle.listing.specs.Laws.Answer.{none-known, whole, answer}
-use Rattle.condition.specs.Laws.Verdict.{accepted-sound}
-use Rattle.semantics.specs.Form.{slots}
-use lib.ListN.{length, replicate}
-use native.Mathlib.Omega.{arith}
-use Prim.Native.Nat.{ℕ, _-_, _/_}
+-- The evaluator's contract for the last node, with no flag set at the start.
 use mathlib.Core.Path.{refl, _∙_, ap}
+use Prim.Native.Nat.{ℕ, _-_, _/_}
+use native.Mathlib.Omega.{arith}
+use lib.ListN.{length, replicate}
 use borrow.Author.Needs.{needs}
+use Rattle.semantics.specs.Form.{slots}
+use Rattle.condition.specs.Laws.Verdict.{accepted-sound}
+use Rattle.listing.specs.Laws.Answer.{none-known, whole, answer}
 use Rattle.listing.proofs.list.Statement.{statement}
 use Rattle.listing.proofs.list.Tie as tie
 
