@@ -3,6 +3,7 @@
 // the node has moved.
 ghost use mathlib.Core.Path.{_≡_};
 ghost use mathlib.Core.Logic.{_⊎_};
+ghost use mathlib.Core.Bool.{true, false};
 ghost use Prim.Native.Nat.{_+_, _*_, _≤_};
 ghost use lib.ListN.{length, replicate};
 ghost use Rattle.bitset.specs.Set.{setBytes};
@@ -15,6 +16,7 @@ ghost use Rattle.condition.specs.Refusal.{conditionVerdict};
 ghost use Rattle.even_rule.specs.Free.{FreeRows};
 ghost use Rattle.listing.specs.Listed.{Listed};
 ghost use Rattle.listing.specs.State.{Ready, Done};
+use bitset::SET_BYTES;
 use bitset::SET_SLOTS;
 
 // Node i's set, written at its place, unless it stands there.
@@ -107,6 +109,13 @@ fn binary(
     listing_sets::put_binary(table, work, i, left, right);
 }
 
+// Are the two sets the same?
+fn same_set(a: [u8; SET_BYTES], b: [u8; SET_BYTES]) -> bool
+    ensures { λ r. ⌜ (r ≡ true → a ≡ b) × (r ≡ false → a ≡ b → ⊥) ⌝ }
+{
+    bitset::equal(&a, &b)
+}
+
 // A mu or nu: rounds from the empty or the full set until one gives back its set, 256 at most. The variable then has its old set again.
 fn fixpoint(
     site: &[u8],
@@ -133,7 +142,7 @@ fn fixpoint(
         listing_sets::assign(free, env, fresh, n, x, set);
         eval(site, table, free, env, fresh, work, b);
         let next = listing_sets::load(work, b);
-        moved = !listing_sets::same_set(set, next);
+        moved = !same_set(set, next);
         set = next;
         rounds += 1;
     }

@@ -2,7 +2,7 @@
 // an operation on sets, and says what the whole buffer becomes.
 ghost use mathlib.Core.Path.{_≡_};
 ghost use mathlib.Core.Logic.{_⊎_};
-ghost use mathlib.Core.Bool.{true, false, not, _&&_, _||_};
+ghost use mathlib.Core.Bool.{true, not, _&&_, _||_};
 ghost use Prim.Native.Nat.{_+_, _*_, _≤_, _<_};
 ghost use lib.ListN.{length, getD};
 ghost use Rattle.finite.specs.Tests.{same, bit};
@@ -19,7 +19,7 @@ ghost use Rattle.listing_sets.specs.Places.{setAt, Written, Cleared};
 ghost use Rattle.listing_sets.specs.Nodes.{startOf, applied};
 use bitset::SET_BYTES;
 
-pub fn copy(dst: &mut [u8], src: &[u8])
+fn copy(dst: &mut [u8], src: &[u8])
     requires { ⌜ (length (now dst) ≡ setBytes) × (length (now src) ≡ setBytes) ⌝ }
     ensures { λ _. ⌜ Is (now (dst .exit)) (has (now (src .entry))) ⌝ }
 {
@@ -33,10 +33,10 @@ pub fn load(buf: &[u8], j: usize) -> [u8; SET_BYTES]
     requires { ⌜ setBytes * j + setBytes ≤ length (now buf) ⌝ }
     ensures { λ r. ⌜ has r ≐ setAt (now (buf .entry)) j ⌝ }
 {
-    let a = SET_BYTES * j;
-    let e = a + SET_BYTES;
+    let from = SET_BYTES * j;
+    let to = from + SET_BYTES;
     let mut set = [0u8; SET_BYTES];
-    copy(&mut set, &buf[a..e]);
+    copy(&mut set, &buf[from..to]);
     set
 }
 
@@ -45,13 +45,13 @@ pub fn store(buf: &mut [u8], j: usize, set: [u8; SET_BYTES])
     requires { ⌜ setBytes * j + setBytes ≤ length (now buf) ⌝ }
     ensures { λ _. ⌜ Written (now (buf .entry)) (now (buf .exit)) j (has set) ⌝ }
 {
-    let a = SET_BYTES * j;
-    let e = a + SET_BYTES;
-    copy(&mut buf[a..e], &set);
+    let at = SET_BYTES * j;
+    let end = at + SET_BYTES;
+    copy(&mut buf[at..end], &set);
 }
 
 // Its complement.
-pub fn invert(buf: &mut [u8], j: usize)
+fn invert(buf: &mut [u8], j: usize)
     requires { ⌜ setBytes * j + setBytes ≤ length (now buf) ⌝ }
     ensures { λ _. ⌜ Written (now (buf .entry)) (now (buf .exit)) j (λ s. not (setAt (now (buf .entry)) j s)) ⌝ }
 {
@@ -61,7 +61,7 @@ pub fn invert(buf: &mut [u8], j: usize)
 }
 
 // Its union with `set`.
-pub fn unite(buf: &mut [u8], j: usize, set: [u8; SET_BYTES])
+fn unite(buf: &mut [u8], j: usize, set: [u8; SET_BYTES])
     requires { ⌜ setBytes * j + setBytes ≤ length (now buf) ⌝ }
     ensures { λ _. ⌜ Written (now (buf .entry)) (now (buf .exit)) j (λ s. setAt (now (buf .entry)) j s || has set s) ⌝ }
 {
@@ -71,7 +71,7 @@ pub fn unite(buf: &mut [u8], j: usize, set: [u8; SET_BYTES])
 }
 
 // Its slots that are in `set` too.
-pub fn meet(buf: &mut [u8], j: usize, set: [u8; SET_BYTES])
+fn meet(buf: &mut [u8], j: usize, set: [u8; SET_BYTES])
     requires { ⌜ setBytes * j + setBytes ≤ length (now buf) ⌝ }
     ensures { λ _. ⌜ Written (now (buf .entry)) (now (buf .exit)) j (λ s. setAt (now (buf .entry)) j s && has set s) ⌝ }
 {
@@ -80,15 +80,8 @@ pub fn meet(buf: &mut [u8], j: usize, set: [u8; SET_BYTES])
     bitset::meet_with(&mut buf[a..e], &set);
 }
 
-// Are the two sets, given by value, the same bytes?
-pub fn same_set(a: [u8; SET_BYTES], b: [u8; SET_BYTES]) -> bool
-    ensures { λ r. ⌜ (r ≡ true → a ≡ b) × (r ≡ false → a ≡ b → ⊥) ⌝ }
-{
-    bitset::equal(&a, &b)
-}
-
 // The set of slot s alone.
-pub fn single(s: usize) -> [u8; SET_BYTES]
+fn single(s: usize) -> [u8; SET_BYTES]
     requires { ⌜ s < setSlots ⌝ }
     ensures { λ r. ⌜ Is r (λ t. same t s) ⌝ }
 {
@@ -106,7 +99,7 @@ fn depends(free: &[u16], j: usize, x: usize) -> bool
 }
 
 // Clears the flag of each of the first n nodes in which the variable x is free.
-pub fn stale(free: &[u16], fresh: &mut [u8], n: usize, x: usize)
+fn stale(free: &[u16], fresh: &mut [u8], n: usize, x: usize)
     requires { ⌜ (n ≤ 2048) × (x < 16) × (length (now free) ≡ 2048) × (length (now fresh) ≡ 2048) ⌝ }
     ensures { λ _. ⌜ Cleared (now (free .entry)) (now (fresh .entry)) (now (fresh .exit)) n x ⌝ }
 {

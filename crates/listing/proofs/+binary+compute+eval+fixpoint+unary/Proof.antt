@@ -1,26 +1,26 @@
-use Rattle.listing.specs.Laws.Rounds.{Rounds, rounds-none, assigned, rounds-more, rounds-done, restored}
-use Rattle.listing.specs.Laws.Memo.{good-moved, finish, was-known, flagged, again, since, child}
-use Rattle.listing.specs.Laws.Kinds.{unary-left, modal-in}
-use Rattle.listing.specs.State.{Done}
-use Rattle.listing_sets.specs.Laws.Nodes.{is-unary, is-binary, is-loop}
-use Rattle.listing_sets.specs.Nodes.{startOf}
-use Rattle.listing_sets.specs.Places.{setAt}
-use Rattle.semantics.specs.Laws.Agree.{_≐_}
-use Rattle.condition.specs.Laws.Limits.{limit-loop}
-use Rattle.condition.specs.Bytes.{nodeAt}
-use Rattle.site.specs.Site.{siteOf}
-use Rattle.bitset.specs.Set.{setSlots, has}
-use Rattle.finite.specs.Laws.Bools.{either}
-use borrow.Author.Tests.{ltb-true, ltb-false}
-use lib.ListN.{length, length-set}
-use native.Mathlib.Omega.{arith}
-use Prim.Native.Nat.{_+_, _-_, _*_, _/_, _≤_}
+-- The evaluator, a cycle of calls. The measure: three times the node's number, 1 more for `compute` and 2 more for `eval`.
 use mathlib.Core.Bool.{false}
 use mathlib.Core.Logic.{_⊎_, ⊎-elim, inl, inr}
 use mathlib.Core.Path.{_≡_, refl, sym, _∙_, subst}
-use Prim.Native.Nat.{ℕ, _<_}
+use Prim.Native.Nat.{_+_, _-_, _*_, _/_, _≤_, ℕ, _<_}
+use native.Mathlib.Omega.{arith}
+use lib.ListN.{length, length-set}
+use borrow.Author.Tests.{ltb-true, ltb-false}
 use borrow.Fn.Kinds.{In}
 use borrow.Fn.PlainCycle.{Measures, is, falls, and}
+use Rattle.finite.specs.Laws.Bools.{either}
+use Rattle.bitset.specs.Set.{setSlots, has}
+use Rattle.semantics.specs.Laws.Agree.{_≐_}
+use Rattle.site.specs.Site.{siteOf}
+use Rattle.condition.specs.Laws.Limits.{limit-loop}
+use Rattle.condition.specs.Bytes.{nodeAt}
+use Rattle.listing_sets.specs.Laws.Nodes.{is-unary, is-binary, is-loop}
+use Rattle.listing_sets.specs.Nodes.{startOf}
+use Rattle.listing_sets.specs.Places.{setAt}
+use Rattle.listing.specs.Laws.Rounds.{Rounds, rounds-none, assigned, rounds-more, rounds-done, restored}
+use Rattle.listing.specs.Laws.Memo.{good-moved, finish, was-known, leaf-done, flagged, again, since, child}
+use Rattle.listing.specs.Laws.Kinds.{unary-left, modal-in}
+use Rattle.listing.specs.State.{Done}
 use Rattle.listing.proofs.binary.Reads as binary
 use Rattle.listing.proofs.binary.Kinds as binary-kinds
 use Rattle.listing.proofs.+binary+compute+eval+fixpoint+unary.Lts-binary as binary-lts
@@ -45,7 +45,7 @@ use Rattle.listing_sets.proofs.load.Reads as load-reads
 use Rattle.listing_sets.proofs.put_binary.Reads as put-binary-reads
 use Rattle.listing_sets.proofs.put_leaf.Reads as put-leaf-reads
 use Rattle.listing_sets.proofs.put_unary.Reads as put-unary-reads
-use Rattle.listing_sets.proofs.same_set.Reads as same-set-reads
+use Rattle.listing.proofs.same_set.Reads as same-set-reads
 use Rattle.listing_sets.proofs.start.Reads as start-reads
 use Rattle.listing_sets.proofs.store.Reads as store-reads
 use Rattle.listing.proofs.+binary+compute+eval+fixpoint+unary.{statement}
@@ -210,8 +210,9 @@ compute-same-length-8 : (t : ℕ) → compute-lts.Need-same-length-8 (compute-ca
 compute-same-length-8 t c = omega (arith, c .before .before .put-leaf .kept)
 
 compute-returns-3 : (t : ℕ) → compute-lts.Need-returns-3 (compute-calls t) (compute-at t) compute.Post
-compute-returns-3 t c = let a = c .before .before .before .before .before .before .before .before .before .before .before .before .before .before .args in let p = c .before .before .before .before .before .before .before .before .before .before .before .before .before .before .pre .1 in
-    finish (a .site .now) (a .table .now) (a .env .now) (a .env .now) (a .fresh .now) (a .work .now) (c .before .before .put-leaf .last .1 .1 .1 .0) (a .i) _ (λ v s k. refl) (p .0 .good) (c .before .before .put-leaf .ensures) (λ s k. refl)
+compute-returns-3 t c =
+    let a = c .before .before .before .before .before .before .before .before .before .before .before .before .before .before .args in
+    leaf-done (a .site .now) (a .table .now) (a .free .now) (a .env .now) (a .fresh .now) (a .work .now) (c .before .before .put-leaf .last .1 .1 .1 .0) (a .i) (c .before .before .before .before .before .before .before .before .before .before .before .before .before .before .pre .1 .0) (c .before .before .put-leaf .ensures)
 
 compute-same-length-9 : (t : ℕ) → compute-lts.Need-same-length-9 (compute-calls t) (compute-at t) compute.Post
 compute-same-length-9 t c = omega (arith, c .before .before .before .before .before .before .unary .kept)

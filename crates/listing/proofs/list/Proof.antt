@@ -1,11 +1,12 @@
-use Rattle.listing.specs.Laws.Answer.{none-known, whole, answer}
-use Rattle.condition.specs.Laws.Verdict.{accepted-sound}
-use Rattle.semantics.specs.Form.{slots}
-use lib.ListN.{length, replicate}
-use native.Mathlib.Omega.{arith}
-use Prim.Native.Nat.{ℕ, _-_, _/_}
+-- The evaluator's contract for the last node, with no flag set at the start.
 use mathlib.Core.Path.{refl, _∙_, ap}
+use Prim.Native.Nat.{ℕ, _-_, _/_}
+use native.Mathlib.Omega.{arith}
+use lib.ListN.{length, replicate}
 use borrow.Author.Needs.{needs}
+use Rattle.semantics.specs.Form.{slots}
+use Rattle.condition.specs.Laws.Verdict.{accepted-sound}
+use Rattle.listing.specs.Laws.Answer.{none-known, whole, answer}
 use Rattle.listing.proofs.list.Statement.{statement}
 use Rattle.listing.proofs.list.Tie as tie
 
@@ -48,14 +49,22 @@ same-length-2 c = search needs
 
 returns : tie.Need-returns
 unfolding slots
-returns c = let a = c .before .before .before .before .before .before .before .before .before .before .before .before .before .before .before .before .before .before .before .before .before .before .before .before .before .before .before .args in let p = c .before .before .before .before .before .before .before .before .before .before .before .before .before .before .before .before .before .before .before .before .before .before .before .before .before .before .before .pre in let s = accepted-sound (a .table .now) (p .1 .0) in let e = c .before .before .before .before .before .before .before .before .before .before .before .before .before .before .before .before .eval .last .1 .1 .1 in (
-  record {
-    listed = answer (a .site .now) (a .table .now) _ (e .0) (e .1 .0) (e .1 .1 .0) (c .before .before .before .before .before .before .before .before .store .last .0) (length (a .table .now) / 6 - 1) s refl (c .before .before .before .before .before .before .before .before .before .before .before .before .before .before .before .before .eval .ensures)
-        (λ t h. whole (a .set .now) (c .before .before .before .before .before .before .before .before .store .last .0) (c .before .before .before .before .before .before .before .before .before .before .load .result) (c .before .before .before .before .before .before .before .before .store .ensures) t h ∙ c .before .before .before .before .before .before .before .before .before .before .load .ensures t h);
-    counted = c .count .ensures;
-  },
-  c .before .before .before .before .zero .ensures ∙ ap (λ (n : ℕ). replicate n 0) (c .before .before .before .before .before .before .before .before .before .before .before .before .before .before .before .before .eval .kept .1 .1 .1 .1 .1 .0 ∙ p .1 .1 .1 .1),
-)
+returns c =
+    let start = c .before .before .before .before .before .before .before .before .before .before .before .before .before .before .before .before .before .before .before .before .before .before .before .before .before .before .before in
+    let ev = c .before .before .before .before .before .before .before .before .before .before .before .before .before .before .before .before .eval in
+    let ld = c .before .before .before .before .before .before .before .before .before .before .load in
+    let st = c .before .before .before .before .before .before .before .before .store in
+    let a = start .args in
+    let p = start .pre in
+    let s = accepted-sound (a .table .now) (p .1 .0) in
+    let e = ev .last .1 .1 .1 in (
+      record {
+        listed = answer (a .site .now) (a .table .now) _ (e .0) (e .1 .0) (e .1 .1 .0) (st .last .0) (length (a .table .now) / 6 - 1) s refl (ev .ensures)
+            (λ t h. whole (a .set .now) (st .last .0) (ld .result) (st .ensures) t h ∙ ld .ensures t h);
+        counted = c .count .ensures;
+      },
+      c .before .before .before .before .zero .ensures ∙ ap (λ (n : ℕ). replicate n 0) (ev .kept .1 .1 .1 .1 .1 .0 ∙ p .1 .1 .1 .1),
+    )
 
 pub list-spec : {M : Type 1} → statement M
 list-spec =

@@ -64,6 +64,12 @@ pub was-known : (site S rows env fresh work : List ℕ) (i : ℕ) → Ready site
 unfolding Good
 was-known site S rows env fresh work i r h e = record { kept = λ v s k. refl; good = r .good; here = r .good i h e }
 
+-- a leaf's set is written
+pub leaf-done : (site S rows env fresh work work′ : List ℕ) (i : ℕ) → Ready site S rows env fresh work
+    → Written work work′ i (nodeSet site S (setAt env) i) → Done site S env env fresh work′ i
+leaf-done site S rows env fresh work work′ i r w =
+    finish site S env env fresh work work′ i (nodeSet site S (setAt env) i) (λ v s k. refl) (r .good) w (λ s k. refl)
+
 -- and its flag is set
 pub flagged : (site S env env′ fresh work : List ℕ) (i : ℕ) → Done site S env env′ fresh work i → Done site S env env′ (set fresh i 1) work i
 unfolding Good

@@ -1,20 +1,22 @@
-use Rattle.finite.specs.Tests.{bit}
+-- Digit x of node j's mask.
 use mathlib.Core.Path.{refl}
+use native.Mathlib.Omega.{arith}
 use borrow.Author.Needs.{needs}
+use Rattle.finite.specs.Tests.{bit}
 use Rattle.listing_sets.proofs.depends.Statement.{statement}
 use Rattle.listing_sets.proofs.depends.Tie as tie
 
 mul-result : tie.Need-mul-result
-mul-result c = search needs
+mul-result c = omega arith
 
 shared-slice-read-result : tie.Need-shared-slice-read-result
 shared-slice-read-result c = search needs
 
 cast-result : tie.Need-cast-result
-cast-result c = search needs
+cast-result c = omega arith
 
 shr-result : tie.Need-shr-result
-shr-result c = search needs
+shr-result c = omega arith
 
 returns : tie.Need-returns
 unfolding bit

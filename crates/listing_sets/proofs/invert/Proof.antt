@@ -1,26 +1,27 @@
-use Rattle.listing_sets.specs.Laws.Places.{part-set, written}
-use Rattle.semantics.specs.Form.{slots}
-use native.Mathlib.Omega.{arith}
+-- The complement of the part that is lent.
 use mathlib.Core.Bool.{not}
 use mathlib.Core.Path.{_∙_, ap}
+use native.Mathlib.Omega.{arith}
 use borrow.Author.Needs.{needs}
+use Rattle.semantics.specs.Form.{slots}
+use Rattle.listing_sets.specs.Laws.Places.{part-set, written}
 use Rattle.listing_sets.proofs.invert.Statement.{statement}
 use Rattle.listing_sets.proofs.invert.Tie as tie
 
 mul-a : tie.Need-mul-a
-mul-a c = search needs
+mul-a c = omega arith
 
 add-e : tie.Need-add-e
-add-e c = search needs
+add-e c = omega arith
 
 sub-complement : tie.Need-sub-complement
-sub-complement c = search needs
+sub-complement c = omega arith
 
 part-complement-start : tie.Need-part-complement-start
-part-complement-start c = search needs
+part-complement-start c = omega arith
 
 part-complement-end : tie.Need-part-complement-end
-part-complement-end c = search needs
+part-complement-end c = omega arith
 
 complement-requires : tie.Need-complement-requires
 complement-requires c κs = search needs

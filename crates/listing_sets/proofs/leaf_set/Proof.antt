@@ -1,16 +1,16 @@
+-- Each kind of leaf by the law of its set.
+use mathlib.Core.Path.{sym, _∙_, ap}
 use Prim.Native.Nat.{ℕ, _<_}
-use Rattle.listing_sets.specs.Laws.Nodes.{here-set, label-set, is-true, is-here, is-label, is-name, is-variable, is-slot}
-use Rattle.listing_sets.specs.Places.{setAt}
-use Rattle.condition.specs.Laws.Limits.{limit-name}
-use Rattle.condition.specs.Bytes.{nodeAt}
-use Rattle.site.specs.Site.{siteOf}
+use native.Mathlib.Omega.{arith}
+use borrow.Author.Needs.{needs}
+use Rattle.finite.specs.Tests.{same}
 use Rattle.semantics.specs.Laws.FixedPoint.{full}
 use Rattle.semantics.specs.Form.{slots}
-use Rattle.finite.specs.Tests.{same}
-use native.Mathlib.Omega.{arith}
-use Prim.Native.Nat.{ℕ}
-use mathlib.Core.Path.{sym, _∙_, ap}
-use borrow.Author.Needs.{needs}
+use Rattle.site.specs.Site.{siteOf}
+use Rattle.condition.specs.Laws.Limits.{limit-name}
+use Rattle.condition.specs.Bytes.{nodeAt}
+use Rattle.listing_sets.specs.Laws.Nodes.{here-set, label-set, is-true, is-here, is-label, is-name, is-variable, is-slot}
+use Rattle.listing_sets.specs.Places.{setAt}
 use Rattle.listing_sets.proofs.leaf_set.Statement.{statement}
 use Rattle.listing_sets.proofs.leaf_set.Tie as tie
 
@@ -27,7 +27,7 @@ number-requires : tie.Need-number-requires
 number-requires c κs = let a = c .before .before .before .before .before .args in let p = c .before .before .before .before .before .pre in (p .1 .0, (p .1 .1 .0, limit-name (nodeAt (a .table .now) (a .i) .kind) (omega arith) (omega arith)))
 
 add-load : tie.Need-add-load
-add-load c = search needs
+add-load c = omega arith
 
 load-requires-2 : tie.Need-load-requires-2
 load-requires-2 c κs = search needs

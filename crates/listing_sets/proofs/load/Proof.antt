@@ -1,27 +1,29 @@
-use Rattle.listing_sets.specs.Laws.Places.{part-set}
-use Rattle.semantics.specs.Form.{slots}
+-- The part at place j, copied.
 use mathlib.Core.Path.{_∙_}
+use native.Mathlib.Omega.{arith}
 use borrow.Author.Needs.{needs}
+use Rattle.semantics.specs.Form.{slots}
+use Rattle.listing_sets.specs.Laws.Places.{part-set}
 use Rattle.listing_sets.proofs.load.Statement.{statement}
 use Rattle.listing_sets.proofs.load.Tie as tie
 
-mul-a : tie.Need-mul-a
-mul-a c = search needs
+mul-from : tie.Need-mul-from
+mul-from c = omega arith
 
-add-e : tie.Need-add-e
-add-e c = search needs
+add-to : tie.Need-add-to
+add-to c = omega arith
 
 slice-aggregate-copy : tie.Need-slice-aggregate-copy
 slice-aggregate-copy c = search needs
 
 sub-copy : tie.Need-sub-copy
-sub-copy c = search needs
+sub-copy c = omega arith
 
 part-copy-start : tie.Need-part-copy-start
-part-copy-start c = search needs
+part-copy-start c = omega arith
 
 part-copy-end : tie.Need-part-copy-end
-part-copy-end c = search needs
+part-copy-end c = omega arith
 
 copy-requires : tie.Need-copy-requires
 copy-requires c κs = search needs
@@ -34,8 +36,8 @@ pub load-spec : {M : Type 1} → statement M
 load-spec =
     tie.close
     (tie.spec
-    mul-a
-    add-e
+    mul-from
+    add-to
     slice-aggregate-copy
     sub-copy
     part-copy-start

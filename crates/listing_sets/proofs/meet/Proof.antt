@@ -1,27 +1,28 @@
-use Rattle.listing_sets.specs.Laws.Places.{part-set, written}
-use Rattle.semantics.specs.Form.{slots}
-use Rattle.bitset.specs.Set.{has}
-use native.Mathlib.Omega.{arith}
+-- The meet of the part that is lent with the set.
 use mathlib.Core.Bool.{Bool, _&&_}
 use mathlib.Core.Path.{_∙_, ap}
+use native.Mathlib.Omega.{arith}
 use borrow.Author.Needs.{needs}
+use Rattle.bitset.specs.Set.{has}
+use Rattle.semantics.specs.Form.{slots}
+use Rattle.listing_sets.specs.Laws.Places.{part-set, written}
 use Rattle.listing_sets.proofs.meet.Statement.{statement}
 use Rattle.listing_sets.proofs.meet.Tie as tie
 
 mul-a : tie.Need-mul-a
-mul-a c = search needs
+mul-a c = omega arith
 
 add-e : tie.Need-add-e
-add-e c = search needs
+add-e c = omega arith
 
 sub-meet-with : tie.Need-sub-meet-with
-sub-meet-with c = search needs
+sub-meet-with c = omega arith
 
 part-meet-with-start : tie.Need-part-meet-with-start
-part-meet-with-start c = search needs
+part-meet-with-start c = omega arith
 
 part-meet-with-end : tie.Need-part-meet-with-end
-part-meet-with-end c = search needs
+part-meet-with-end c = omega arith
 
 slice-aggregate-meet-with : tie.Need-slice-aggregate-meet-with
 slice-aggregate-meet-with c = search needs

@@ -1,10 +1,11 @@
-use Rattle.listing_sets.specs.Laws.Nodes.{makes-or, makes-and}
-use Rattle.condition.specs.Bytes.{nodeAt}
-use Rattle.bitset.specs.Set.{has}
-use native.Mathlib.Omega.{arith}
+-- The left set is stored, then united or met with the right one.
 use mathlib.Core.Bool.{Bool, _&&_, _||_}
 use mathlib.Core.Path.{sym, _∙_, ap}
+use native.Mathlib.Omega.{arith}
 use borrow.Author.Needs.{needs}
+use Rattle.bitset.specs.Set.{has}
+use Rattle.condition.specs.Bytes.{nodeAt}
+use Rattle.listing_sets.specs.Laws.Nodes.{makes-or, makes-and}
 use Rattle.listing_sets.proofs.put_binary.Statement.{statement}
 use Rattle.listing_sets.proofs.put_binary.Tie as tie
 

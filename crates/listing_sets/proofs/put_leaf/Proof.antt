@@ -1,3 +1,4 @@
+-- The leaf's set is stored.
 use mathlib.Core.Path.{_∙_}
 use borrow.Author.Needs.{needs}
 use Rattle.listing_sets.proofs.put_leaf.Statement.{statement}

@@ -1,18 +1,19 @@
-use Rattle.listing_sets.specs.Laws.Nodes.{makes-not, makes-diamond, makes-box}
-use Rattle.listing_sets.specs.Laws.Places.{slot-in}
-use Rattle.condition.specs.Bytes.{nodeAt}
-use Rattle.site.specs.Site.{siteOf}
+-- The child's set is stored and inverted, or its diamond or box is stored.
+use mathlib.Core.Bool.{not, _&&_, _||_}
+use mathlib.Core.Path.{_≡_, sym, _∙_, ap}
+use Prim.Native.Nat.{ℕ}
+use native.Mathlib.Omega.{arith}
+use borrow.Author.Needs.{needs}
+use Rattle.finite.specs.Laws.Bools.{either}
+use Rattle.finite.specs.Tests.{any, all}
+use Rattle.bitset.specs.Set.{has}
 use Rattle.semantics.specs.Table.{wayOf}
 use Rattle.semantics.specs.Holds.{step}
 use Rattle.semantics.specs.Form.{slots}
-use Rattle.bitset.specs.Set.{has}
-use Rattle.finite.specs.Laws.Bools.{either}
-use Rattle.finite.specs.Tests.{any, all}
-use native.Mathlib.Omega.{arith}
-use Prim.Native.Nat.{ℕ}
-use mathlib.Core.Bool.{not, _&&_, _||_}
-use mathlib.Core.Path.{_≡_, sym, _∙_, ap}
-use borrow.Author.Needs.{needs}
+use Rattle.site.specs.Site.{siteOf}
+use Rattle.condition.specs.Bytes.{nodeAt}
+use Rattle.listing_sets.specs.Laws.Nodes.{makes-not, makes-diamond, makes-box}
+use Rattle.listing_sets.specs.Laws.Places.{slot-in}
 use Rattle.listing_sets.proofs.put_unary.Statement.{statement}
 use Rattle.listing_sets.proofs.put_unary.Tie as tie
 

@@ -1,14 +1,15 @@
-use Rattle.bitset.specs.Laws.Slot.{has-inserted}
-use Rattle.bitset.specs.Laws.Bytes.{has-empty}
-use Rattle.bitset.specs.Set.{setBytes, has}
-use Rattle.finite.specs.Tests.{same}
-use native.Mathlib.Omega.{arith}
-use lib.ListN.{replicate}
-use Prim.Native.Nat.{ℕ}
+-- The empty set with slot s put in.
 use mathlib.Core.Bool.{Bool, _||_}
 use mathlib.Core.List.{List}
 use mathlib.Core.Path.{_∙_, ap}
+use Prim.Native.Nat.{ℕ}
+use native.Mathlib.Omega.{arith}
+use lib.ListN.{replicate}
 use borrow.Author.Needs.{needs}
+use Rattle.finite.specs.Tests.{same}
+use Rattle.bitset.specs.Laws.Slot.{has-inserted}
+use Rattle.bitset.specs.Laws.Bytes.{has-empty}
+use Rattle.bitset.specs.Set.{setBytes, has}
 use Rattle.listing_sets.proofs.single.Statement.{statement}
 use Rattle.listing_sets.proofs.single.Tie as tie
 

@@ -1,10 +1,11 @@
+-- The flags of the first j nodes are done.
 use mathlib.Core.Path.{_≡_, sym, _∙_, ap}
+use mathlib.Core.Logic.{⊎-elim}
+use Prim.Native.Nat.{_-_, _≤_}
+use native.Mathlib.Omega.{arith}
+use lib.ListN.{length, length-set}
 use Rattle.listing_sets.specs.Laws.Places.{cleared-none, cleared-node, cleared-other}
 use Rattle.listing_sets.specs.Places.{Cleared}
-use lib.ListN.{length, length-set}
-use native.Mathlib.Omega.{arith}
-use Prim.Native.Nat.{_-_, _≤_}
-use mathlib.Core.Logic.{⊎-elim}
 use Rattle.listing_sets.proofs.stale.Statement.{statement}
 use Rattle.listing_sets.proofs.stale.Tie as tie
 

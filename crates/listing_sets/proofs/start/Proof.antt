@@ -1,6 +1,7 @@
-use Rattle.listing_sets.specs.Nodes.{startOf}
-use Rattle.finite.specs.Laws.Below.{eq-same, ne-same}
+-- By the kind.
 use borrow.Author.Needs.{needs}
+use Rattle.finite.specs.Laws.Below.{eq-same, ne-same}
+use Rattle.listing_sets.specs.Nodes.{startOf}
 use Rattle.listing_sets.proofs.start.Statement.{statement}
 use Rattle.listing_sets.proofs.start.Tie as tie
 

@@ -1,24 +1,25 @@
-use Rattle.listing_sets.specs.Laws.Places.{written}
-use Rattle.semantics.specs.Form.{slots}
+-- The set, copied into the part that is lent.
 use native.Mathlib.Omega.{arith}
 use borrow.Author.Needs.{needs}
+use Rattle.semantics.specs.Form.{slots}
+use Rattle.listing_sets.specs.Laws.Places.{written}
 use Rattle.listing_sets.proofs.store.Statement.{statement}
 use Rattle.listing_sets.proofs.store.Tie as tie
 
-mul-a : tie.Need-mul-a
-mul-a c = search needs
+mul-at : tie.Need-mul-at
+mul-at c = omega arith
 
-add-e : tie.Need-add-e
-add-e c = search needs
+add-end : tie.Need-add-end
+add-end c = omega arith
 
 sub-copy : tie.Need-sub-copy
-sub-copy c = search needs
+sub-copy c = omega arith
 
 part-copy-start : tie.Need-part-copy-start
-part-copy-start c = search needs
+part-copy-start c = omega arith
 
 part-copy-end : tie.Need-part-copy-end
-part-copy-end c = search needs
+part-copy-end c = omega arith
 
 slice-aggregate-copy : tie.Need-slice-aggregate-copy
 slice-aggregate-copy c = search needs
@@ -38,8 +39,8 @@ pub store-spec : {M : Type 1} → statement M
 store-spec =
     tie.close
     (tie.spec
-    mul-a
-    add-e
+    mul-at
+    add-end
     sub-copy
     part-copy-start
     part-copy-end

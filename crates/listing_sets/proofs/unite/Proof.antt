@@ -1,27 +1,28 @@
-use Rattle.listing_sets.specs.Laws.Places.{part-set, written}
-use Rattle.semantics.specs.Form.{slots}
-use Rattle.bitset.specs.Set.{has}
-use native.Mathlib.Omega.{arith}
+-- The union of the part that is lent with the set.
 use mathlib.Core.Bool.{Bool, _||_}
 use mathlib.Core.Path.{_∙_, ap}
+use native.Mathlib.Omega.{arith}
 use borrow.Author.Needs.{needs}
+use Rattle.bitset.specs.Set.{has}
+use Rattle.semantics.specs.Form.{slots}
+use Rattle.listing_sets.specs.Laws.Places.{part-set, written}
 use Rattle.listing_sets.proofs.unite.Statement.{statement}
 use Rattle.listing_sets.proofs.unite.Tie as tie
 
 mul-a : tie.Need-mul-a
-mul-a c = search needs
+mul-a c = omega arith
 
 add-e : tie.Need-add-e
-add-e c = search needs
+add-e c = omega arith
 
 sub-union-with : tie.Need-sub-union-with
-sub-union-with c = search needs
+sub-union-with c = omega arith
 
 part-union-with-start : tie.Need-part-union-with-start
-part-union-with-start c = search needs
+part-union-with-start c = omega arith
 
 part-union-with-end : tie.Need-part-union-with-end
-part-union-with-end c = search needs
+part-union-with-end c = omega arith
 
 slice-aggregate-union-with : tie.Need-slice-aggregate-union-with
 slice-aggregate-union-with c = search needs
