@@ -1,7 +1,7 @@
 -- The evaluator, a cycle of calls. The measure: three times the node's number, 1 more for `compute` and 2 more for `eval`.
 use mathlib.Core.Bool.{false}
 use mathlib.Core.Logic.{_⊎_, ⊎-elim, inl, inr}
-use mathlib.Core.Path.{_≡_, refl, sym, _∙_, subst}
+use mathlib.Core.Path.{_≡_, sym, _∙_, subst}
 use Prim.Native.Nat.{_+_, _-_, _*_, _/_, _≤_, ℕ, _<_}
 use native.Mathlib.Omega.{arith}
 use lib.ListN.{length, length-set}
@@ -15,7 +15,7 @@ use Rattle.site.specs.Site.{siteOf}
 use Rattle.condition.specs.Laws.Limits.{limit-loop}
 use Rattle.condition.specs.Bytes.{nodeAt}
 use Rattle.listing_sets.specs.Laws.Nodes.{is-unary, is-binary, is-loop}
-use Rattle.listing_sets.specs.Nodes.{startOf}
+use Rattle.listing_sets.specs.Nodes.{applied, startOf}
 use Rattle.listing_sets.specs.Places.{setAt}
 use Rattle.listing.specs.Laws.Rounds.{Rounds, rounds-none, assigned, rounds-more, rounds-done, restored}
 use Rattle.listing.specs.Laws.Memo.{good-moved, finish, was-known, leaf-done, flagged, again, since, child}
@@ -376,7 +376,7 @@ unary-same-length-3 t c = omega (arith, c .before .before .before .before .befor
 unary-returns : (t : ℕ) → unary-lts.Need-returns (unary-calls t) (unary-at t) unary.Post
 unary-returns t c = let a = c .before .before .before .before .before .before .before .before .before .before .before .before .before .before .before .before .before .before .before .before .before .before .before .args in let p = c .before .before .before .before .before .before .before .before .before .before .before .before .before .before .before .before .before .before .before .before .before .before .before .pre .1 in let d = c .before .before .before .before .before .before .before .before .before .before .before .before .eval .ensures in let e = c .before .before .before .before .before .before .before .before .before .before .before .before .eval .last .1 .1 .1 in
     let S = a .table .now in let P = has (c .before .before .before .before .load .result) in
-    finish (a .site .now) S (a .env .now) (e .0) (e .1 .0) (e .1 .1 .0) (c .before .before .put-unary .last .1 .1 .0) (a .i) _ (d .kept) (d .good) (c .before .before .put-unary .ensures)
+    finish (a .site .now) S (a .env .now) (e .0) (e .1 .0) (e .1 .1 .0) (c .before .before .put-unary .last .1 .1 .0) (a .i) (applied (siteOf (a .site .now)) (nodeAt S (a .i)) P P) (d .kept) (d .good) (c .before .before .put-unary .ensures)
     (is-unary S (p .0 .fits) (a .i) (p .1 .0) (siteOf (a .site .now)) (setAt (a .env .now)) P P
     (child (a .site .now) S (a .env .now) (e .0) (e .1 .0) (e .1 .1 .0) (c .before .before .before .before .before .before .before .before .before .before .before .before .before .before .before .before .left-child .result) (nodeAt S (a .i) .left) P d (c .before .before .before .before .load .ensures) (c .before .before .before .before .before .before .before .before .before .before .before .before .before .before .before .before .left-child .ensures .0)) (p .1 .1))
 

@@ -1,7 +1,6 @@
 -- By the kind.
 use borrow.Author.Needs.{needs}
-use Rattle.finite.specs.Laws.Below.{eq-same, ne-same}
-use Rattle.listing_sets.specs.Nodes.{startOf}
+use Rattle.listing_sets.specs.Laws.Nodes.{mu-start, nu-start}
 use Rattle.listing_sets.proofs.start.Statement.{statement}
 use Rattle.listing_sets.proofs.start.Tie as tie
 
@@ -9,15 +8,13 @@ no-slots-requires : tie.Need-no-slots-requires
 no-slots-requires c κs = search needs
 
 returns : tie.Need-returns
-unfolding startOf
-returns c = rw (eq-same (c .before .if1 .taken)) (c .no-slots .ensures)
+returns c = rw (mu-start _ (c .before .if1 .taken)) (c .no-slots .ensures)
 
 all-slots-requires : tie.Need-all-slots-requires
 all-slots-requires c κs = search needs
 
 returns-2 : tie.Need-returns-2
-unfolding startOf
-returns-2 c = rw (ne-same (c .before .if1 .left)) (c .all-slots .ensures)
+returns-2 c = rw (nu-start _ (c .before .if1 .left)) (c .all-slots .ensures)
 
 pub start-spec : {M : Type 1} → statement M
 start-spec = tie.close (tie.spec no-slots-requires returns all-slots-requires returns-2)

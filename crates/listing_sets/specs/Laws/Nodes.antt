@@ -1,6 +1,6 @@
 -- The set of a node, from its kind and its children's sets.
 use mathlib.Core.Path.{_≡_, sym, _∙_, ap, ap₂}
-use mathlib.Core.Logic.{_⊎_, inl, inr}
+use mathlib.Core.Logic.{_⊎_, inl, inr, _≢_}
 use mathlib.Core.List.{List}
 use mathlib.Core.Bool.{true, not, _&&_, _||_, cond}
 use Prim.Native.Nat.{ℕ, _+_, _*_, _≤_, _<_}
@@ -13,7 +13,7 @@ use Rattle.bitset.specs.Set.{setSlots, has}
 use Rattle.semantics.specs.Form.{slots, labels, Form, var}
 use Rattle.semantics.specs.Holds.{Set, Env, put, Model, step}
 use Rattle.semantics.specs.Table.{kTrue, kHere, kLabel, kName, kVar, kSlot, kNot, kDia, kBox, kMu, kNu, kOr, kAnd, Kind, leaf, unary, binary, kindOf, wayOf, Node, atom, one, two, build, treeAt, nodesFit}
-use Rattle.semantics.specs.Laws.FixedPoint.{iter}
+use Rattle.semantics.specs.Laws.FixedPoint.{iter, none, full}
 use Rattle.semantics.specs.Laws.Eval.{eval}
 use Rattle.semantics.specs.Laws.Agree.{_≐_}
 use Rattle.site.specs.Site.{siteOf}
@@ -123,16 +123,25 @@ module _ (S : List ℕ) (f : nodesFit 0 (tableOf S) ≡ true) (i : ℕ) (h : 6 *
       let e : nodeAt S i .kind ≡ 7 = omega arith in
       makes-and M (nodeAt S i) P Q s e ∙ ap₂ _&&_ (l s k) (r s k) ∙ sym (node-eval S f i h M ρ (binary kAnd) (ap kindOf e) s))
 
+-- the rounds' start, by the kind's number
+pub mu-start : (k : ℕ) → k ≡ 10 → startOf k ≡ none
+unfolding startOf
+mu-start k e = rw (eq-same e)
+
+pub nu-start : (k : ℕ) → k ≢ 10 → startOf k ≡ full
+unfolding startOf
+nu-start k n = rw (ne-same n)
+
 -- and that of a mu or nu of the variable x and the body b is what the rounds come to
 module _ (S : List ℕ) (f : nodesFit 0 (tableOf S) ≡ true) (i : ℕ) (h : 6 * i + 6 ≤ length S) (M : Model) (ρ : Env) (x b : ℕ)
     (ex : x ≡ nodeAt S i .param) (eb : b ≡ nodeAt S i .left) where
   pub is-loop : 10 ≤ nodeAt S i .kind → nodeAt S i .kind ≤ 11
       → eval M ρ (treeAt (tableOf S) i) ≐ iter slots (λ P. eval M (put ρ x P) (treeAt (tableOf S) b)) (startOf (nodeAt S i .kind))
-  unfolding eval build one kindOf startOf
+  unfolding eval build one kindOf
   is-loop l u s k =
       either
       (equal? (nodeAt S i .kind) 10)
-      (λ e. rw (ex, eb, eq-same e) (node-eval S f i h M ρ (unary kMu) (ap kindOf e) s))
+      (λ e. rw (ex, eb, mu-start _ e) (node-eval S f i h M ρ (unary kMu) (ap kindOf e) s))
       (λ n.
       let e : nodeAt S i .kind ≡ 11 = omega arith in
-      rw (ex, eb, ne-same n) (node-eval S f i h M ρ (unary kNu) (ap kindOf e) s))
+      rw (ex, eb, nu-start _ n) (node-eval S f i h M ρ (unary kNu) (ap kindOf e) s))

@@ -33,6 +33,7 @@ module _ (S : List ℕ) (m s : ℕ) (hs : s < setSlots) where
     pub row-added : (R R′ : List ℕ) → Is R′ (λ t. has R t || has (take k (drop b S)) t) → Is R′ (λ t. has R t || siteOf S .link m s t)
     row-added R R′ i t h = i t h ∙ ap (λ (x : Bool). has R t || x) (row-has t h)
 
+  -- the target is v
   module _ (hg : generalLinks ≤ m) (hl : m < links) (v : ℕ) (e : v ≡ getD S (targetAt m s) 0) where
     at : (t : ℕ) → t < setSlots → siteOf S .link m s t ≡ (same v t && not (same t 0))
     unfolding slots

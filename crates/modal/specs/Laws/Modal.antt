@@ -15,7 +15,7 @@ use Rattle.semantics.specs.Holds.{Model, step}
 use Rattle.semantics.specs.Table.{wayOf}
 use Rattle.semantics.specs.Laws.Ways.{way-along, way-against}
 
--- the slots of a set that the full set meets
+-- a set meets the full one exactly if some slot is in it
 pub meets-full : (T : List ℕ) → any setSlots (λ t. has T t && has (replicate setBytes 255) t) ≡ any slots (λ t. has T t)
 unfolding slots
 meets-full T = any-cong setSlots _ _ (λ t h. rw (has-full t h) (and-true (has T t)))
