@@ -28,7 +28,8 @@ pub record Answered (site table set set′ work work′ : List ℕ) (v : Verdict
 pub record Returned (site table set set′ work work′ : List ℕ) (reason w n : ℕ) : Type 0 where
   pub reason-is : reason ≡ reasonOf (listVerdict (length set) (length work) site table)
   pub where-is : w ≡ whereOf (listVerdict (length set) (length work) site table)
-  pub answered : Answered site table set set′ work work′ (listVerdict (length set) (length work) site table) n
+  pub set-after : SetAfter (listVerdict (length set) (length work) site table) site table set set′ n
+  pub work-zero : work′ ≡ replicate (length work) 0
 
 -- the inputs are judged with the verdict v, and these masks of free variables are handed on
 pub record Judged (setLen workLen : ℕ) (site table masks : List ℕ) (v : Verdict) : Type 0 where

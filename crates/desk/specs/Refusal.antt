@@ -14,7 +14,7 @@ use Rattle.condition.specs.Refusal.{conditionVerdict}
 abbrev pub workBytes : ℕ
 workBytes = 65536
 
--- 1: a result or work buffer of this length has another one than stated
+-- 1: a result or work buffer has another length than stated
 unfoldable pub bufferVerdict : (len stated : ℕ) → Verdict
 bufferVerdict len stated = cond (not (same len stated)) (Refused 1 0) Accepted
 

@@ -59,7 +59,7 @@ pub record Visited (S done done′ evens′ odds′ : List ℕ) (i : ℕ) : Type
   pub here : getD done′ i 0 ≡ 1
 
 -- what the visit of its children leaves
-pub record Ripe (S done done′ evens′ odds′ : List ℕ) (i : ℕ) : Type 0 where
+pub record ChildrenVisited (S done done′ evens′ odds′ : List ℕ) (i : ℕ) : Type 0 where
   pub good : Good S done′ evens′ odds′
   pub kept : Kept done done′
   pub children : Children true S evens′ odds′ i

@@ -12,7 +12,7 @@ ghost use Rattle.semantics.specs.Table.{treeAt, nodesFit};
 ghost use Rattle.condition.specs.Bytes.{tableOf};
 ghost use Rattle.condition.specs.Refusal.{sizeFits, firstUneven};
 ghost use Rattle.even_rule.specs.Free.{Checked};
-ghost use Rattle.even_rule.specs.Masks.{Shows, Children, Rows, Odds, Fit, Ready, Visited, Ripe, United};
+ghost use Rattle.even_rule.specs.Masks.{Shows, Children, Rows, Odds, Fit, Ready, Visited, ChildrenVisited, United};
 
 // The mask of the variable v alone.
 fn single(v: usize) -> u16
@@ -100,7 +100,7 @@ fn visit(table: &[u8], done: &mut [u8], evens: &mut [u16], odds: &mut [u16], i: 
 fn descend(table: &[u8], done: &mut [u8], evens: &mut [u16], odds: &mut [u16], i: usize)
     requires { ⌜ Ready (now table) (now done) (now evens) (now odds) ⌝ }
     requires { ⌜ 6 * i + 6 ≤ length (now table) ⌝ }
-    ensures { λ _. ⌜ Ripe (now (table .entry)) (now (done .entry)) (now (done .exit)) (now (evens .exit)) (now (odds .exit)) i ⌝ }
+    ensures { λ _. ⌜ ChildrenVisited (now (table .entry)) (now (done .entry)) (now (done .exit)) (now (evens .exit)) (now (odds .exit)) i ⌝ }
 {
     let k = condition::kind(table, i);
     if k < 5 {

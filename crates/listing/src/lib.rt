@@ -20,7 +20,7 @@ use bitset::SET_BYTES;
 use bitset::SET_SLOTS;
 
 // Node i's set, written at its place, unless it stands there.
-pub fn eval(
+fn eval(
     site: &[u8],
     table: &[u8],
     free: &[u16],

@@ -1,5 +1,6 @@
 // Reads pairs of a site and a condition on standard input and prints for each what listing answers: the count and the set, two
-// hexadecimal digits a byte, or `refused N W`. The work buffer has to come back as zeros.
+// hexadecimal digits a byte, or `refused N W`. The work buffer has to come back as zeros, and so has the set of a refusal. Buffers of
+// other lengths have to be refused with 1 and come back as zeros too. What does not is said behind the answer.
 use desk::Listing;
 use libc::STDOUT_FILENO;
 
@@ -46,14 +47,42 @@ fn all_zero(work: &[u8]) -> bool {
     true
 }
 
+fn is_refused(answer: Listing) -> bool {
+    match answer {
+        Listing::Listed(_) => false,
+        Listing::Refused(_, _) => true,
+    }
+}
+
+fn is_item_1(answer: Listing) -> bool {
+    match answer {
+        Listing::Listed(_) => false,
+        Listing::Refused(item, w) => (item == 1) & (w == 0),
+    }
+}
+
+// Buffers that are a byte too short.
+fn short_is_refused(site: &[u8], cond: &[u8]) -> bool {
+    let mut set = [170u8; 31];
+    let mut work = [170u8; 65535];
+    let r = desk::list(site, cond, &mut set, &mut work);
+    is_item_1(r) & all_zero(&set) & all_zero(&work)
+}
+
+fn complain(fault: bool, text: &[u8]) {
+    if fault {
+        io::write_all(STDOUT_FILENO, text);
+    }
+}
+
 fn answer(site: &[u8], cond: &[u8]) {
     let mut set = [170u8; 32];
     let mut work = [170u8; 65536];
     let r = desk::list(site, cond, &mut set, &mut work);
     print_answer(r, &set);
-    if !all_zero(&work) {
-        io::write_all(STDOUT_FILENO, b" work left");
-    }
+    complain(!all_zero(&work), b" work left");
+    complain(is_refused(r) & !all_zero(&set), b" set left");
+    complain(!short_is_refused(site, cond), b" short buffers taken");
     io::write_all(STDOUT_FILENO, b"\n");
 }
 

@@ -1,4 +1,4 @@
--- What is proved of them.
+-- Laws of sheets as bytes, by topic.
 pub mod Read
 pub mod Fits
 pub mod Accepted

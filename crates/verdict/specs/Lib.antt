@@ -1,1 +1,4 @@
+-- The outcome of a check.
 pub mod Verdict
+-- what is proved of it
+pub mod Laws

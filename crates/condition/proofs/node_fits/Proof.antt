@@ -1,6 +1,6 @@
+-- `condition::node_fits` meets its contract.
 use native.Mathlib.Omega.{arith}
 use Prim.Native.Nat.{_≤_, _<_}
--- `condition::node_fits` meets its contract.
 use Rattle.condition.specs.Laws.Limits.{unfit-kind, unfit-param, unfit-left, fits-right}
 use Rattle.condition.specs.Bytes.{nodeAt}
 use mathlib.Core.Path.{sym, _∙_}

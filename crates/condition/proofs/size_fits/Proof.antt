@@ -1,6 +1,6 @@
+-- `condition::size_fits` meets its contract.
 use Prim.Native.Nat.{_%_}
 use native.Mathlib.Omega.{arith}
--- `condition::size_fits` meets its contract.
 use Rattle.condition.specs.Refusal.{sizeFits}
 use Rattle.finite.specs.Laws.Below.{eq-same, ne-same, below-in, below-not}
 use mathlib.Core.Path.{refl}

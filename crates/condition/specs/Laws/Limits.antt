@@ -98,9 +98,6 @@ number-limit =
 pub limit-name : (k : ℕ) → 2 ≤ k → k < 5 → paramLimit (kindOf k) ≡ 16
 limit-name k h l = rw (number-limit k, le-ltb k 2 h, lt-ltb k 5 l) refl
 
-pub limit-way : (k : ℕ) → 8 ≤ k → k < 10 → paramLimit (kindOf k) ≡ 17
-limit-way k h l = rw (number-limit k, le-ltb k 2 (omega arith), le-ltb k 5 (omega arith), le-ltb k 8 h, lt-ltb k 10 l) refl
-
 pub limit-loop : (k : ℕ) → 10 ≤ k → k < 12 → paramLimit (kindOf k) ≡ 16
 limit-loop k h l =
     rw (number-limit k, le-ltb k 2 (omega arith), le-ltb k 5 (omega arith), le-ltb k 8 (omega arith), le-ltb k 10 h, lt-ltb k 12 l) refl
@@ -122,9 +119,6 @@ right-limit i =
 module _ (i : ℕ) (x : Node) (f : nodeFits i x ≡ true) where
   inside : within i x (kindOf (x .kind)) ≡ true
   inside = and-r (below (x .kind) 13) _ (sym (node-limits i x) ∙ f)
-
-  pub kind-small : x .kind < 13
-  kind-small = below-out _ 13 (and-l _ (within i x (kindOf (x .kind))) (sym (node-limits i x) ∙ f))
 
   pub param-lower : x .param < paramLimit (kindOf (x .kind))
   unfolding within

@@ -79,7 +79,8 @@ module _ {site table set set′ work work′ : List ℕ} where
       record {
         reason-is = e ∙ ap reasonOf (a .verdict);
         where-is = f ∙ ap whereOf (a .verdict);
-        answered = rw (g, sym (a .verdict)) a;
+        set-after = rw (g, sym (a .verdict)) (a .set-after);
+        work-zero = a .work-zero;
       }
 
   -- the reason 0: the inputs are accepted, and the set is the one that the semantics give
@@ -92,4 +93,4 @@ module _ {site table set set′ work work′ : List ℕ} where
 
     pub lists : Listed (siteOf site) (formOf (tableOf table)) set′ n
     unfolding SetAfter
-    lists = rw accepted at (h .answered .set-after)
+    lists = rw accepted at (h .set-after)

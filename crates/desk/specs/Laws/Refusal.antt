@@ -9,6 +9,7 @@ use lib.ListN.{length}
 use Rattle.finite.specs.Tests.{same, below}
 use Rattle.finite.specs.Laws.Below.{same-eq, eq-same, ne-same}
 use Rattle.bitset.specs.Set.{setBytes}
+use Rattle.verdict.specs.Laws.{refused}
 use Rattle.verdict.specs.Verdict.{reasonOf, _then_}
 use Rattle.verdict.specs.declared.Verdict.{Verdict}
 use Rattle.verdict.specs.declared.Verdict.the-variants.{Accepted, Refused}
@@ -30,9 +31,6 @@ buffer-in e = rw (eq-same e)
 pub buffer-not : {len stated : ℕ} → len ≢ stated → bufferVerdict len stated ≡ Refused 1 0
 unfolding bufferVerdict
 buffer-not h = rw (ne-same h)
-
-refused : {A : Type 0} {n w : ℕ} → Refused n w ≡ Accepted → A
-refused p = let z : _≡_ {A = ℕ} 0 1 = cc in absurd (omega arith)
 
 pub buffer-out : (len stated : ℕ) → bufferVerdict len stated ≡ Accepted → len ≡ stated
 unfolding bufferVerdict

@@ -1,8 +1,7 @@
+-- `even_rule::descend` and `even_rule::visit`, a cycle of calls, meet their contracts. The measure: twice the node's number, and 1 more for `visit`.
 use mathlib.Core.Path.{_∙_}
 use lib.ListN.{length, length-set}
--- `even_rule::descend` and `even_rule::visit`, a cycle of calls, meet their contracts. The measure: twice the node's number, and 1 more for `visit`.
 use Rattle.even_rule.specs.Laws.Pass.{children-swap, was-done, no-child, again, one-child, two-children, finish}
-use lib.ListN.{length-set}
 use native.Mathlib.Omega.{arith}
 use Prim.Native.Nat.{_+_, _*_}
 use Prim.Native.Nat.{ℕ, _<_}

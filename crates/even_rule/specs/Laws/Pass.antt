@@ -11,7 +11,7 @@ use Rattle.finite.specs.Laws.Bools.{either}
 use Rattle.finite.specs.Laws.Below.{equal?}
 use Rattle.semantics.specs.Table.{treeAt}
 use Rattle.condition.specs.Bytes.{nodeAt, tableOf}
-use Rattle.even_rule.specs.Masks.{Shows, Row, Children, Good, Kept, Ready, Visited, Ripe}
+use Rattle.even_rule.specs.Masks.{Shows, Row, Children, Good, Kept, Ready, Visited, ChildrenVisited}
 
 -- the two parities are alike
 pub children-swap : (S evens odds : List ℕ) (i : ℕ) → Children true S evens odds i → Children false S odds evens i
@@ -29,7 +29,7 @@ module _ (S done evens odds : List ℕ) (R : Ready S done evens odds) (i : ℕ) 
   was-done d = record { good = R .good; kept = λ j e. e; here = d }
 
   -- a node without children
-  pub no-child : (5 ≤ nodeAt S i .kind → nodeAt S i .kind ≤ 11 → ⊥) → Ripe S done done evens odds i
+  pub no-child : (5 ≤ nodeAt S i .kind → nodeAt S i .kind ≤ 11 → ⊥) → ChildrenVisited S done done evens odds i
   unfolding Kept
   no-child n =
       record {
@@ -52,7 +52,7 @@ module _ (S done evens odds : List ℕ) (R : Ready S done evens odds) (i : ℕ) 
 
     module _ (h : 6 * j + 6 ≤ length S) (e : j ≡ nodeAt S i .left) where
       -- one child is visited
-      pub one-child : (6 ≤ nodeAt S i .kind → nodeAt S i .kind ≤ 7 → ⊥) → Ripe S done done₁ evens₁ odds₁ i
+      pub one-child : (6 ≤ nodeAt S i .kind → nodeAt S i .kind ≤ 7 → ⊥) → ChildrenVisited S done done₁ evens₁ odds₁ i
       unfolding Good
       one-child n =
           record {
@@ -66,7 +66,7 @@ module _ (S done evens odds : List ℕ) (R : Ready S done evens odds) (i : ℕ) 
 
       -- and the other
       pub two-children : (done₂ evens₂ odds₂ : List ℕ) (k : ℕ) → Visited S done₁ done₂ evens₂ odds₂ k → 6 * k + 6 ≤ length S
-          → k ≡ nodeAt S i .right → Ripe S done done₂ evens₂ odds₂ i
+          → k ≡ nodeAt S i .right → ChildrenVisited S done done₂ evens₂ odds₂ i
       unfolding Good Kept
       two-children done₂ evens₂ odds₂ k w g q =
           record {
@@ -79,7 +79,7 @@ module _ (S done evens odds : List ℕ) (R : Ready S done evens odds) (i : ℕ) 
           }
 
 -- the masks of node i are written, and it is done
-module _ (S done done₁ evens₁ odds₁ : List ℕ) (i : ℕ) (P : Ripe S done done₁ evens₁ odds₁ i) (x y : ℕ)
+module _ (S done done₁ evens₁ odds₁ : List ℕ) (i : ℕ) (P : ChildrenVisited S done done₁ evens₁ odds₁ i) (x y : ℕ)
     (ex : Shows true (treeAt (tableOf S) i) x) (oy : Shows false (treeAt (tableOf S) i) y) (a : i < length done₁) (b : i < length evens₁)
     (c : i < length odds₁) where
   row-at : (j : ℕ) → (j ≢ i → Row true S evens₁ odds₁ j) → Row true S (set evens₁ i x) (set odds₁ i y) j

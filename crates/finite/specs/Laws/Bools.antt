@@ -1,7 +1,7 @@
 -- What a Boolean's value says, and tests that pass together.
 use mathlib.Core.Path.{_≡_, refl, sym, _∙_}
 use mathlib.Core.Logic.{_⊎_, inl, inr}
-use mathlib.Core.Bool.{Bool, true, false, not, _&&_, _||_, true≢false}
+use mathlib.Core.Bool.{Bool, true, false, not, _&&_, _||_, Bool·beq, true≢false}
 
 -- by cases, what is split first: so that its type is known when the cases are read
 abbrev pub either {ℓ ℓ′ ℓ″} : {A : Type ℓ} {B : Type ℓ′} {C : Type ℓ″} → A ⊎ B → (A → C) → (B → C) → C
@@ -66,3 +66,14 @@ pub imp-and : (a b : Bool) → (not a || b) ≡ not (a && not b)
 imp-and true true = refl
 imp-and true false = refl
 imp-and false b = refl
+
+pub not-not : (a : Bool) → not (not a) ≡ a
+not-not true = refl
+not-not false = refl
+
+-- two Booleans that compare as equal
+pub beq-true : (a b : Bool) → Bool·beq a b ≡ true → a ≡ b
+beq-true true true p = refl
+beq-true true false p = clash p refl
+beq-true false true p = clash p refl
+beq-true false false p = refl

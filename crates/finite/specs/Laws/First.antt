@@ -1,12 +1,12 @@
 -- The lowest number that passes a test, and the loop over 0, 1, .. that looks for it.
-use mathlib.Core.Path.{_≡_, refl, sym, _∙_, subst}
+use mathlib.Core.Path.{_≡_, refl, sym, subst}
 use mathlib.Core.Bool.{Bool, true, false}
 use Prim.Native.Nat.{ℕ, zero, suc, _+_, _≤_, _<_}
 use native.Mathlib.Numerals.{add-one}
 use native.Mathlib.Omega.{arith}
-use Rattle.finite.specs.Tests.{below, any, first}
+use Rattle.finite.specs.Tests.{any, first}
 use Rattle.finite.specs.Laws.Bools.{either, look, clash, no-true, or-out}
-use Rattle.finite.specs.Laws.Below.{equal?, below-in, below-not, any-in, any-none, none-any}
+use Rattle.finite.specs.Laws.Below.{equal?, any-in, any-none, none-any}
 
 -- it passes, and none below it does
 pub first-is : (n : ℕ) (f : ℕ → Bool) (i : ℕ) → i < n → any i f ≡ false → f i ≡ true → first n f ≡ i
@@ -41,21 +41,6 @@ first-low n f t h p =
     let r = first-in n f (any-in n f t h p) in
     let no-lower : ¬ (t < first n f) = λ l. clash p (any-none (first n f) f (r .2) t l) in
     omega arith
-
--- it is below the bound exactly where some number passes
-pub first-below : (n : ℕ) (f : ℕ → Bool) → below (first n f) n ≡ any n f
-first-below n f =
-    either
-    (look (any n f))
-    (λ a. below-in (first n f) n (first-in n f a .0) ∙ sym a)
-    (λ a. below-not (first n f) n (let e = first-none n f a in omega arith) ∙ sym a)
-
-pub first-end : (n : ℕ) (f : ℕ → Bool) → first n f ≤ n
-first-end n f =
-    either
-    (look (any n f))
-    (λ a. let h = first-in n f a .0 in omega arith)
-    (λ a. let e = first-none n f a in omega arith)
 
 pub first-past : (n : ℕ) (f : ℕ → Bool) → n ≤ first n f → any n f ≡ false
 first-past n f h = no-true (λ p. absurd (omega (arith, first-in n f p .0)))

@@ -1,13 +1,13 @@
 -- A row that passes says what is expected of it; so each row of the table does.
-use mathlib.Core.Path.{_≡_, refl, sym, _∙_}
+use mathlib.Core.Path.{_≡_, sym, _∙_}
 use mathlib.Core.Logic.{_↔_}
 use mathlib.Core.List.{List, [], _∷_}
-use mathlib.Core.Bool.{Bool, true, false, _&&_, Bool·beq}
+use mathlib.Core.Bool.{true, _&&_}
 use Prim.Native.Nat.{ℕ, _-_, _<_}
 use native.Mathlib.Omega.{arith}
 use lib.ListN.{length, take}
 use Rattle.finite.specs.Tests.{same, below, count}
-use Rattle.finite.specs.Laws.Bools.{and-l, and-r, no-true, not-out}
+use Rattle.finite.specs.Laws.Bools.{and-l, and-r, no-true, not-out, beq-true}
 use Rattle.finite.specs.Laws.Below.{same-eq, below-out, all-out}
 use Rattle.semantics.specs.Form.{slots}
 use Rattle.semantics.specs.Holds.{Env, Model, Holds}
@@ -25,12 +25,6 @@ use Rattle.samples.specs.Laws.Site.{validSmall, small-valid}
 use Rattle.samples.specs.Laws.Quick.{quick-eval, fewSlots}
 use Rattle.samples.specs.Laws.Pass.{sameSet, listsSet, todayTest, soundTest, throughTest, setsTest, countsTest, stuckTest, passes, rowPasses, rows-pass}
 
-beq-eq : (a b : Bool) → Bool·beq a b ≡ true → a ≡ b
-beq-eq true true p = refl
-beq-eq true false p = sym p
-beq-eq false true p = p
-beq-eq false false p = refl
-
 -- a computed set is that of the slots where the condition of a table holds
 listed : (M : Model) → Valid M → fewSlots M ≡ true → (xs : List Node) → 0 < length xs → nodesFit 0 xs ≡ true → evenTable xs ≡ true
     → (S : Slots) → ((ρ : Env) → listsSet M ρ (formOf xs) S ≡ true)
@@ -39,7 +33,7 @@ unfolding listsSet sameSet formOf
 listed M v few xs h f e S p ρ s k =
     let i : ℕ = length xs - 1 in
     let φ = treeAt xs i in
-    let q : eval M ρ φ s ≡ has S s = sym (quick-eval M v few φ ρ s) ∙ beq-eq _ _ (all-out slots _ (p ρ) s k) in
+    let q : eval M ρ φ s ≡ has S s = sym (quick-eval M v few φ ρ s) ∙ beq-true _ _ (all-out slots _ (p ρ) s k) in
     let r = eval-table xs f e i (omega arith) M ρ s k in
     (λ a. sym q ∙ r .1 a, λ a. r .0 (q ∙ a))
 

@@ -2,11 +2,12 @@
 -- slots, at its least fixed point; and from the full set at its greatest.
 use mathlib.Core.Path.{_≡_, refl, _∙_, ap, fun-ext}
 use mathlib.Core.Logic.{_⊎_, inl, inr}
-use mathlib.Core.Bool.{Bool, true, false, not, _||_}
+use mathlib.Core.Bool.{true, false, not, _||_}
 use Prim.Native.Nat.{ℕ, zero, suc, _≤_, _<_}
 use native.Mathlib.Omega.{arith}
 use Rattle.finite.specs.Tests.{all, count}
-use Rattle.finite.specs.Laws.Bools.{either, look, clash, or-out, not-in, not-out, imp-fails, both}
+use borrow.Author.Tests.{not-false}
+use Rattle.finite.specs.Laws.Bools.{either, look, clash, or-out, not-in, not-out, imp-fails, not-not}
 use Rattle.finite.specs.Laws.Below.{all-out, all-fails}
 use Rattle.finite.specs.Laws.Count.{count-more, count-full}
 use Rattle.semantics.specs.Form.{slots}
@@ -24,7 +25,7 @@ none x = false
 unfoldable pub full : Set
 full x = true
 
--- a set inside another, or a slot in which it is not
+-- a set inside another, or a slot of the first that is not in the second
 pub inside? : (S S′ : Set) → (S ⊆ S′) ⊎ ((x : ℕ) × (x < slots) × (S x ≡ true) × (S′ x ≡ false))
 inside? S S′ =
     either
@@ -62,21 +63,9 @@ module _ (F : Set → Set) (grows : (S S′ : Set) → S ⊆ S′ → F S ⊆ F 
   least S h zero x l p = clash p refl
   least S h (suc k) x l p = h x l (grows _ _ (least S h k) x l p)
 
-  -- a round that adds nothing is the last: the set is the one that all rounds come to
-  pub stops : (k : ℕ) → F (iter k F none) ⊆ iter k F none → (x : ℕ) → x < slots → iter k F none x ≡ iter slots F none x
-  stops k h x l = both (least (iter slots F none) settled k x l) (least (iter k F none) h slots x l)
-
 -- The same from the full set, by complements.
 co : Set → Set
 co S x = not (S x)
-
-not-not : (b : Bool) → not (not b) ≡ b
-not-not true = refl
-not-not false = refl
-
-not-false : (b : Bool) → not b ≡ false → b ≡ true
-not-false true p = refl
-not-false false p = clash refl p
 
 module _ (F : Set → Set) (grows : (S S′ : Set) → S ⊆ S′ → F S ⊆ F S′) where
   dual : Set → Set
@@ -107,6 +96,3 @@ module _ (F : Set → Set) (grows : (S S′ : Set) → S ⊆ S′ → F S ⊆ F 
   unfolding iter full
   greatest S h zero x l p = refl
   greatest S h (suc k) x l p = grows _ _ (greatest S h k) x l (h x l p)
-
-  pub stops-full : (k : ℕ) → iter k F full ⊆ F (iter k F full) → (x : ℕ) → x < slots → iter k F full x ≡ iter slots F full x
-  stops-full k h x l = both (greatest (iter k F full) h slots x l) (greatest (iter slots F full) settled-full k x l)

@@ -6,7 +6,7 @@ use mathlib.Core.Bool.{Bool, true, false, not, _&&_, _||_, Bool·beq}
 use Prim.Native.Nat.{ℕ, zero, suc, _≤_, _<_}
 use native.Mathlib.Omega.{arith}
 use Rattle.finite.specs.Tests.{same, any, all, count}
-use Rattle.finite.specs.Laws.Bools.{either, look, clash, and-in, and-l, and-r, not-in, not-out, both}
+use Rattle.finite.specs.Laws.Bools.{either, look, and-in, and-l, and-r, not-in, not-out, both, beq-true}
 use Rattle.finite.specs.Laws.Below.{same-eq, eq-same, any-in, any-out, all-out, all-in}
 use Rattle.finite.specs.Laws.Reflect.{some-iff, every-iff}
 use Rattle.finite.specs.Laws.Count.{count-more, count-full}
@@ -36,12 +36,6 @@ agree M s t =
 unfoldable pub like : ℕ → Model → Rel
 like zero M s t = agree M s t
 like (suc k) M s t = like k M s t && all linkWays (λ p. match M (wayOf p) (like k M) s t)
-
-beq-eq : (a b : Bool) → Bool·beq a b ≡ true → a ≡ b
-beq-eq true true p = refl
-beq-eq true false p = clash p refl
-beq-eq false true p = clash p refl
-beq-eq false false p = refl
 
 beq-refl : (a : Bool) → Bool·beq a a ≡ true
 beq-refl true = refl
@@ -89,9 +83,9 @@ module _ (M : Model) where
   unfolding agree
   agree-out s t p =
       let q = and-r (Bool·beq (M .present s) (M .present t)) _ p in (
-        beq-eq _ _ (and-l _ _ p),
-        λ n h. beq-eq _ _ (all-out labels _ (and-l _ _ q) n h),
-        λ n h. beq-eq _ _ (all-out names _ (and-r (all labels (λ i. Bool·beq (M .marked i s) (M .marked i t))) _ q) n h),
+        beq-true _ _ (and-l _ _ p),
+        λ n h. beq-true _ _ (all-out labels _ (and-l _ _ q) n h),
+        λ n h. beq-true _ _ (all-out names _ (and-r (all labels (λ i. Bool·beq (M .marked i s) (M .marked i t))) _ q) n h),
       )
 
   agree-in : (s t : ℕ) → Agree s t → agree M s t ≡ true

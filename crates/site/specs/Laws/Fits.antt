@@ -8,7 +8,7 @@ use native.Mathlib.Nat.{zero-add}
 use native.Mathlib.Omega.{arith}
 use lib.ListN.{length, getD, take, drop, replicate}
 use Rattle.finite.specs.Tests.{same, all}
-use Rattle.finite.specs.Laws.Bools.{either, look, or-l, or-r, imp-and}
+use Rattle.finite.specs.Laws.Bools.{either, look, or-l, or-r, imp-and, not-not}
 use Rattle.finite.specs.Laws.Below.{equal?, same-refl, ne-same, all-cong, all-in}
 use Rattle.finite.specs.Laws.Loops.{all-not}
 use Rattle.finite.specs.Laws.Dual.{none-all}
@@ -24,10 +24,6 @@ use Rattle.site.specs.Refusal.{item4, item5, item6, barred, touches}
 use Rattle.site.specs.Inside.{inside, rowInside, targetInside}
 use Rattle.site.specs.Laws.Read.{present-is, marked-is, row-is, target-is}
 
-twice : (a : Bool) → not (not a) ≡ a
-twice true = refl
-twice false = refl
-
 -- ---- item 4
 
 pub nil-absent : (M : Model) → M .present 0 ≡ false → not (item4 M) ≡ false
@@ -42,7 +38,7 @@ pub names-present : (M : Model) → M .present 0 ≡ true → M .place 0 ≡ 0 �
 unfolding item4
 names-present M p e =
     rw (p, e, same-refl 0, none-all names (λ n. not (M .present (M .place n))))
-    (all-cong names (λ n. not (not (M .present (M .place n)))) (λ n. M .present (M .place n)) (λ n h. twice (M .present (M .place n))))
+    (all-cong names (λ n. not (not (M .present (M .place n)))) (λ n. M .present (M .place n)) (λ n h. not-not (M .present (M .place n))))
 
 -- ---- item 5
 
@@ -110,7 +106,7 @@ target-all : (v : ℕ) (a : Bool) (e : ℕ → Bool) → v < slots
     → all slots (λ t. not (same v t && not (same t 0)) || (a && e t)) ≡ (same v 0 || (a && e v))
 target-all v a e h =
     all-single slots _ v h (λ t n. rw (ne-same (λ q. n (sym q))))
-    ∙ rw (same-refl v, twice (same v 0))
+    ∙ rw (same-refl v, not-not (same v 0))
 
 -- a functional link by its targets
 pub link-targets : (S E : List ℕ) (f : ℕ) → generalLinks ≤ f → f < links → ((s : ℕ) → getD S (targetAt f s) 0 < slots)

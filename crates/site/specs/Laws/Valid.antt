@@ -14,6 +14,7 @@ use Rattle.finite.specs.Laws.Below.{same-eq, eq-same, ne-same, any-none, none-a
 use Rattle.semantics.specs.Form.{slots, labels, names, links}
 use Rattle.semantics.specs.Holds.{Model}
 use Rattle.semantics.specs.Edit.{functional, Valid}
+use Rattle.verdict.specs.Laws.{refused}
 use Rattle.verdict.specs.declared.Verdict.the-variants.{Accepted, Refused}
 use Rattle.site.specs.Layout.{siteBytes, targetAt}
 use Rattle.site.specs.Site.{siteOf}
@@ -34,9 +35,6 @@ accepted-out S e =
     let r = chain (same (length S) siteBytes) (item4 (siteOf S)) (item5 (siteOf S)) (item6 (siteOf S)) e in
     (same-eq (r .0), record { names-pass = r .1 .0; labels-pass = r .1 .1 .0; links-pass = r .1 .1 .1 })
   where
-    refused : {A : Type 0} {n w : ℕ} → Refused n w ≡ Accepted → A
-    refused p = let z : _≡_ {A = ℕ} 0 1 = cc in absurd (omega arith)
-
     chain : (a b c d : Bool)
         → cond (not a) (Refused 3 0) (cond b (Refused 4 0) (cond c (Refused 5 0) (cond d (Refused 6 0) Accepted))) ≡ Accepted
         → (a ≡ true) × ((b ≡ false) × ((c ≡ false) × (d ≡ false)))
