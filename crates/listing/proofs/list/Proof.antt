@@ -11,10 +11,10 @@ use Rattle.listing.proofs.list.Statement.{statement}
 use Rattle.listing.proofs.list.Tie as tie
 
 no-sets-requires : tie.Need-no-sets-requires
-no-sets-requires c κs = search needs
+no-sets-requires c κs = tt
 
 no-flags-requires : tie.Need-no-flags-requires
-no-flags-requires c κs = search needs
+no-flags-requires c κs = tt
 
 sub-i : tie.Need-sub-i
 sub-i c = let a = c .before .before .before .before .before .before .before .args in let s = accepted-sound (a .table .now) (c .before .before .before .before .before .before .before .pre .1 .0) in omega (arith, s .some)
@@ -33,19 +33,19 @@ load-requires : tie.Need-load-requires
 load-requires c κs = let a = c .before .before .before .before .before .before .before .before .before .before .before .before .before .before .before .before .args in let p = c .before .before .before .before .before .before .before .before .before .before .before .before .before .before .before .before .pre in let s = accepted-sound (a .table .now) (p .1 .0) in omega (arith, p .1 .1 .1, s .some, s .few, c .before .before .before .before .before .eval .kept)
 
 store-requires : tie.Need-store-requires
-store-requires c κs = search needs
+store-requires c κs = omega arith
 
 zero-requires : tie.Need-zero-requires
-zero-requires c κs = search needs
+zero-requires c κs = tt
 
 count-requires : tie.Need-count-requires
-count-requires c κs = search needs
+count-requires c κs = omega arith
 
 same-length : tie.Need-same-length
-same-length c = search needs
+same-length c = omega arith
 
 same-length-2 : tie.Need-same-length-2
-same-length-2 c = search needs
+same-length-2 c = omega arith
 
 returns : tie.Need-returns
 unfolding slots
