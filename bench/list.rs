@@ -1,7 +1,8 @@
 //! Listing by the proved library beside the same algorithm in Rust, on the same inputs in one run.
 //!
 //! Each line: what is listed, the slots listed, the time of a call of the library and of the Rust function, and their ratio.
-//! Both check the site and the condition in every call, and both leave the work buffer as zeros. See bench/run.
+//! Both check the site and the condition in every call. The library also zeroes its work buffer; the Rust function allocates its
+//! sets anew. See bench/run.
 
 use std::time::Instant;
 
