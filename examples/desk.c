@@ -1,0 +1,187 @@
+/* The desk called from C: site A, the condition R and the job J of the specification, built by hand. Each answer is compared with the one
+ * that the specification gives; the program returns 1 if one differs. */
+#include "desk.h"
+
+#include <stdio.h>
+#include <string.h>
+
+enum { LABELS = 32, NAMES = LABELS + 16 * 32, TARGETS = NAMES + 16 };
+
+static int differences;
+
+static void check(const char *what, int holds)
+{
+    printf("%-4s %s\n", holds ? "ok" : "BAD", what);
+    differences += !holds;
+}
+
+/* ---- building */
+
+static void put_slot(uint8_t *set, int slot)
+{
+    set[slot / 8] |= (uint8_t)(1 << slot % 8);
+}
+
+/* Slots 0 to 3, label 0 on 1, link 4 from 2 to 1 and from 3 to 2, name 1 at 2, name 2 at 3. */
+static void build_a(uint8_t *site)
+{
+    memset(site, 0, DESK_SITE_BYTES);
+    for (int slot = 0; slot <= 3; slot++)
+        put_slot(site, slot);
+    put_slot(site + LABELS, 1);
+    site[NAMES + 1] = 2;
+    site[NAMES + 2] = 3;
+    site[TARGETS + 2] = 1;
+    site[TARGETS + 3] = 2;
+}
+
+/* mu 0 (label 0 or diamond 4 variable 0): kind, parameter, left, right */
+static const uint8_t condition_r[] = {
+    2,  0, 0, 0, 0, 0, /* 0: label 0 */
+    4,  0, 0, 0, 0, 0, /* 1: variable 0 */
+    8,  4, 1, 0, 0, 0, /* 2: diamond 4 of node 1 */
+    6,  0, 0, 0, 2, 0, /* 3: node 0 or node 2 */
+    10, 0, 3, 0, 0, 0, /* 4: mu 0 of node 3 */
+};
+static const uint8_t name_1[] = {3, 1, 0, 0, 0, 0};
+static const uint8_t name_3[] = {3, 3, 0, 0, 0, 0};
+static const uint8_t box_of_nothing[] = {0, 0, 0, 0, 0, 0, 5, 0, 0, 0, 0, 0, 9, 4, 1, 0, 0, 0};
+static const uint8_t mu_diamond[] = {4, 0, 0, 0, 0, 0, 8, 4, 0, 0, 0, 0, 10, 0, 1, 0, 0, 0};
+static const uint8_t nu_diamond[] = {4, 0, 0, 0, 0, 0, 8, 4, 0, 0, 0, 0, 11, 0, 1, 0, 0, 0};
+static const uint8_t odd[] = {4, 0, 0, 0, 0, 0, 5, 0, 0, 0, 0, 0, 10, 0, 1, 0, 0, 0};
+static const uint8_t even[] = {4, 0, 0, 0, 0, 0, 5, 0, 0, 0, 0, 0, 5, 0, 1, 0, 0, 0, 10, 0, 2, 0, 0, 0};
+
+/* ---- asking */
+
+static uint8_t site_a[DESK_SITE_BYTES];
+static uint8_t result[DESK_SITE_BYTES], table[DESK_TABLE_BYTES], set[DESK_SET_BYTES], classes[DESK_CLASSES_BYTES], work[DESK_WORK_BYTES];
+
+/* Whether the condition lists exactly these slots, slot s being weight 2 to the power s of `slots`. */
+static int lists(const uint8_t *site, const uint8_t *cond, size_t cond_len, uint8_t slots)
+{
+    const uint8_t wanted[DESK_SET_BYTES] = {slots};
+    struct desk_listed r = desk_list(site, DESK_SITE_BYTES, cond, cond_len, set, sizeof set, work, sizeof work);
+    uint32_t count = 0;
+    for (int slot = 0; slot < 8; slot++)
+        count += slots >> slot & 1;
+    return r.reason == DESK_OK && r.where == 0 && r.count == count && memcmp(set, wanted, sizeof set) == 0;
+}
+
+/* Whether the condition lists these slots on the site that the sheet leaves, and rewritten on A. */
+static int both_list(const uint8_t *cond, size_t cond_len, const uint8_t *sheet, size_t sheet_len, uint8_t slots)
+{
+    struct desk_applied a = desk_apply(site_a, sizeof site_a, sheet, sheet_len, result, sizeof result);
+    struct desk_rewritten w = desk_rewrite(cond, cond_len, sheet, sheet_len, table, sizeof table);
+    return a.reason == DESK_OK && w.reason == DESK_OK && lists(result, cond, cond_len, slots) &&
+           lists(site_a, table, DESK_NODE_BYTES * w.nodes, slots);
+}
+
+static uint32_t nodes(const uint8_t *sheet, size_t sheet_len)
+{
+    return desk_rewrite(condition_r, sizeof condition_r, sheet, sheet_len, table, sizeof table).nodes;
+}
+
+/* Whether the first edit of the sheet does not go through on A, and the result is zeros. */
+static int does_not_go_through(const uint8_t *sheet, size_t sheet_len)
+{
+    struct desk_applied r = desk_apply(site_a, sizeof site_a, sheet, sheet_len, result, sizeof result);
+    int zeros = 1;
+    for (size_t k = 0; k < sizeof result; k++)
+        zeros &= result[k] == 0;
+    return r.reason == DESK_NOT_THROUGH && r.where == 0 && zeros;
+}
+
+/* ---- the samples */
+
+enum { S1 = 1 << 1, S2 = 1 << 2, S3 = 1 << 3, S4 = 1 << 4 };
+
+static void check_lists(void)
+{
+    check("A lists R at {1, 2, 3}", lists(site_a, condition_r, sizeof condition_r, S1 | S2 | S3));
+    struct desk_listed r = desk_list(site_a, sizeof site_a, box_of_nothing, sizeof box_of_nothing, set, sizeof set, work, sizeof work);
+    check("box 4 of not true: 254 slots", r.reason == DESK_OK && r.count == 254 && set[0] == 0xf3);
+    r = desk_list(site_a, sizeof site_a, odd, sizeof odd, set, sizeof set, work, sizeof work);
+    check("variable 0, not, mu 0: refused, 9, W 2", r.reason == DESK_EVEN_RULE && r.where == 2 && r.count == 0);
+    check("with two nots: empty", lists(site_a, even, sizeof even, 0));
+    uint8_t ring[DESK_SITE_BYTES];
+    memcpy(ring, site_a, sizeof ring);
+    ring[TARGETS + 1] = 3;
+    check("with link 4 also 1 to 3: nu 0 (diamond 4 variable 0) {1, 2, 3}", lists(ring, nu_diamond, sizeof nu_diamond, S1 | S2 | S3));
+    check("with link 4 also 1 to 3: mu, none", lists(ring, mu_diamond, sizeof mu_diamond, 0));
+}
+
+static void check_sheets(void)
+{
+    static const uint8_t dt2[] = {6, 4, 1, 0}, ds[] = {8, 1, 0, 0};
+    static const uint8_t cn1_dt2[] = {0, 1, 2, 0, 6, 4, 1, 0}, dt2_cn1[] = {6, 4, 1, 0, 0, 1, 2, 0};
+    static const uint8_t as_4[] = {7, 3, 4, 0}, as_3[] = {7, 3, 3, 0}, at_12[] = {4, 4, 1, 2}, at_11[] = {4, 4, 1, 1};
+    static const uint8_t cn2_1[] = {1, 1, 1, 4}, cn2_3[] = {1, 1, 3, 4};
+    check("DT2 4 1: R {1}", both_list(condition_r, sizeof condition_r, dt2, sizeof dt2, S1));
+    check("DT2 4 1: R has 8 nodes", nodes(dt2, sizeof dt2) == 8);
+    check("DS 1: R {1}", both_list(condition_r, sizeof condition_r, ds, sizeof ds, S1));
+    check("DS 1: R has 14 nodes", nodes(ds, sizeof ds) == 14);
+    check("DS 1: name 1 goes to 0", both_list(name_1, sizeof name_1, ds, sizeof ds, 1) && result[NAMES + 1] == 0);
+    check("CN1 1 2 then DT2 4 1: R {1, 2}", both_list(condition_r, sizeof condition_r, cn1_dt2, sizeof cn1_dt2, S1 | S2));
+    check("the other order {1}", both_list(condition_r, sizeof condition_r, dt2_cn1, sizeof dt2_cn1, S1));
+    check("AS 3 4: condition \"name 3\" lists {4}", both_list(name_3, sizeof name_3, as_4, sizeof as_4, S4));
+    check("AS 3 3: refused, 13", does_not_go_through(as_3, sizeof as_3));
+    check("AT 4 1 2: refused, 13", does_not_go_through(at_12, sizeof at_12));
+    check("AT 4 1 1: refused, 13", does_not_go_through(at_11, sizeof at_11));
+    check("CN2 1 1 4: name 1 at 1", both_list(name_1, sizeof name_1, cn2_1, sizeof cn2_1, S1) && result[NAMES + 1] == 1);
+    check("CN2 1 3 4: at 0", both_list(name_1, sizeof name_1, cn2_3, sizeof cn2_3, 1) && result[NAMES + 1] == 0);
+}
+
+static void check_classes(void)
+{
+    uint8_t site[DESK_SITE_BYTES];
+    struct desk_classed r = desk_classes(site_a, sizeof site_a, classes, sizeof classes);
+    check("A: slots 0 to 3 apart, absent slots 4", r.reason == DESK_OK && r.count == 5 && classes[0] == 0 && classes[1] == 1 &&
+                                                       classes[2] == 2 && classes[3] == 3 && classes[4] == 4 && classes[255] == 4);
+    memcpy(site, site_a, sizeof site);
+    for (int slot = 4; slot <= 5; slot++) {
+        put_slot(site, slot);
+        site[TARGETS + slot] = 1;
+    }
+    r = desk_classes(site, sizeof site, classes, sizeof classes);
+    check("A with 4 and 5 present, link 4 to 1 from both: both class 4", r.reason == DESK_OK && classes[4] == 4 && classes[5] == 4);
+    check("absent slots 6", classes[6] == 6 && classes[255] == 6 && r.count == 6);
+}
+
+/* ---- the job */
+
+static void put_number(uint8_t *at, uint32_t number)
+{
+    for (int k = 0; k < 4; k++)
+        at[k] = (uint8_t)(number >> 8 * k);
+}
+
+static void check_job(void)
+{
+    static const uint8_t sheet[] = {6, 4, 1, 0}, only_1[DESK_SET_BYTES] = {S1};
+    static uint8_t file[DESK_SITE_BYTES + sizeof condition_r + sizeof sheet + DESK_TRAILER_BYTES];
+    uint8_t *cond = file + DESK_SITE_BYTES, *edits = cond + sizeof condition_r, *trailer = edits + sizeof sheet, today[DESK_SET_BYTES];
+    memcpy(file, site_a, sizeof site_a);
+    memcpy(cond, condition_r, sizeof condition_r);
+    memcpy(edits, sheet, sizeof sheet);
+    put_number(trailer, 4);
+    put_number(trailer + 4, 34);
+    put_number(trailer + 8, 34386);
+    struct desk_done r = desk_job(file, sizeof file, result, sizeof result, table, sizeof table, set, sizeof set, today, sizeof today,
+                                  classes, sizeof classes, work, sizeof work);
+    check("J: accepted", r.reason == DESK_OK && r.where == 0);
+    check("J: after {1}", r.after == 1 && memcmp(set, only_1, sizeof set) == 0);
+    check("J: rewritten {1}", r.today == 1 && memcmp(today, only_1, sizeof today) == 0);
+    check("J: 8 nodes", r.nodes == 8);
+    check("J: 5 classes", r.classes == 5);
+    check("J: the link from 2 is gone, the one from 3 stays", result[TARGETS + 2] == 0 && result[TARGETS + 3] == 2);
+}
+
+int main(void)
+{
+    build_a(site_a);
+    check_lists();
+    check_sheets();
+    check_classes();
+    check_job();
+    return differences != 0;
+}

@@ -1,0 +1,884 @@
+/* The desk's five functions once more: plain, in another way than the library, from the specification alone. */
+#include "oracle.h"
+
+#include <stdlib.h>
+#include <string.h>
+
+enum { TRUE, HERE, LABEL, NAME, VARIABLE, NOT, OR, AND, DIAMOND, BOX, MU, NU, SLOT };
+enum { CN1, CN2, AP, DP, AT, DT1, DT2, AS, DS };
+enum { EVERYWHERE = 16 };
+
+/* ---- the site */
+
+static bool bit(const uint8_t *set, int slot)
+{
+    return set[slot / 8] >> slot % 8 & 1;
+}
+
+static void put_bit(uint8_t *set, int slot)
+{
+    set[slot / 8] |= (uint8_t)(1 << slot % 8);
+}
+
+static void add_arc(struct arcs *arcs, int from, int to)
+{
+    arcs->at[arcs->count++] = (struct arc){(uint8_t)from, (uint8_t)to};
+}
+
+void model_read(struct model *model, const uint8_t *site)
+{
+    const uint8_t *labels = site + 32, *names = labels + 16 * 32, *targets = names + 16, *rows = targets + 4 * 256;
+    for (int s = 0; s < 256; s++) {
+        model->present[s] = bit(site, s);
+        for (int p = 0; p < 16; p++)
+            model->label[p][s] = bit(labels + 32 * p, s);
+    }
+    memcpy(model->name, names, 16);
+    for (int m = 0; m < 8; m++)
+        model->link[m].count = 0;
+    for (int f = 0; f < 4; f++)
+        for (int s = 0; s < 256; s++)
+            if (targets[256 * f + s])
+                add_arc(&model->link[4 + f], s, targets[256 * f + s]);
+    for (int m = 0; m < 4; m++)
+        for (int s = 0; s < 256; s++) {
+            static const uint8_t nothing[32];
+            const uint8_t *row = rows + 8192 * m + 32 * s;
+            if (memcmp(row, nothing, 32) == 0)
+                continue;
+            for (int t = 0; t < 256; t++)
+                if (bit(row, t))
+                    add_arc(&model->link[m], s, t);
+        }
+}
+
+static void model_write(const struct model *model, uint8_t *site)
+{
+    uint8_t *labels = site + 32, *names = labels + 16 * 32, *targets = names + 16, *rows = targets + 4 * 256;
+    memset(site, 0, DESK_SITE_BYTES);
+    for (int s = 0; s < 256; s++) {
+        if (model->present[s])
+            put_bit(site, s);
+        for (int p = 0; p < 16; p++)
+            if (model->label[p][s])
+                put_bit(labels + 32 * p, s);
+    }
+    memcpy(names, model->name, 16);
+    for (int m = 0; m < 8; m++)
+        for (size_t k = 0; k < model->link[m].count; k++) {
+            struct arc a = model->link[m].at[k];
+            if (m < 4)
+                put_bit(rows + 8192 * m + 32 * a.from, a.to);
+            else
+                targets[256 * (m - 4) + a.from] = a.to;
+        }
+}
+
+/* Items 4 to 6. */
+static uint32_t site_fault(const struct model *model)
+{
+    if (!model->present[0] || model->name[0] != 0)
+        return 4;
+    for (int n = 0; n < 16; n++)
+        if (!model->present[model->name[n]])
+            return 4;
+    for (int p = 0; p < 16; p++)
+        for (int s = 0; s < 256; s++)
+            if (model->label[p][s] && !model->present[s])
+                return 5;
+    for (int m = 0; m < 8; m++)
+        for (size_t k = 0; k < model->link[m].count; k++) {
+            struct arc a = model->link[m].at[k];
+            if (a.from == 0 || a.to == 0 || !model->present[a.from] || !model->present[a.to])
+                return 6;
+        }
+    return 0;
+}
+
+/* ---- the condition */
+
+struct node {
+    int kind, param, left, right;
+};
+
+static int children(int kind)
+{
+    return kind == OR || kind == AND ? 2 : kind == NOT || (DIAMOND <= kind && kind <= NU) ? 1 : 0;
+}
+
+static bool is_loop(const struct node *node)
+{
+    return node->kind == MU || node->kind == NU;
+}
+
+static void table_read(struct node *table, const uint8_t *bytes, size_t count)
+{
+    for (size_t i = 0; i < count; i++, bytes += 6)
+        table[i] = (struct node){bytes[0], bytes[1], bytes[2] + 256 * bytes[3], bytes[4] + 256 * bytes[5]};
+}
+
+static void table_write(const struct node *table, size_t count, uint8_t *bytes)
+{
+    memset(bytes, 0, DESK_TABLE_BYTES);
+    for (size_t i = 0; i < count; i++, bytes += 6) {
+        const int fields[6] = {table[i].kind, table[i].param, table[i].left % 256, table[i].left / 256,
+                               table[i].right % 256, table[i].right / 256};
+        for (int k = 0; k < 6; k++)
+            bytes[k] = (uint8_t)fields[k];
+    }
+}
+
+/* Item 8 for one node. */
+static bool node_fault(const struct node *node, int number)
+{
+    /* the greatest parameter of each kind */
+    static const int most[] = {0, 0, 15, 15, 15, 0, 0, 0, 16, 16, 15, 15, 255};
+    if (node->kind > SLOT || node->param > most[node->kind])
+        return true;
+    int used = children(node->kind);
+    return (used >= 1 ? node->left >= number : node->left != 0) || (used == 2 ? node->right >= number : node->right != 0);
+}
+
+/* Whether a path leads from the node to a free occurrence of the variable with this parity of nots (2: any). */
+static bool occurs(const struct node *table, int number, int variable, int parity, int wanted, bool (*seen)[2])
+{
+    const struct node *node = &table[number];
+    if (seen[number][parity])
+        return false;
+    seen[number][parity] = true;
+    if (node->kind == VARIABLE)
+        return node->param == variable && (wanted == 2 || parity == wanted);
+    if (is_loop(node) && node->param == variable)
+        return false;
+    if (node->kind == NOT)
+        parity = 1 - parity;
+    int used = children(node->kind);
+    return (used >= 1 && occurs(table, node->left, variable, parity, wanted, seen)) ||
+           (used == 2 && occurs(table, node->right, variable, parity, wanted, seen));
+}
+
+/* Items 8 to 10. */
+static uint32_t condition_fault(const struct node *table, int count, uint32_t *where)
+{
+    static bool seen[DESK_NODES_MAX][2];
+    for (int i = 0; i < count; i++)
+        if (node_fault(&table[i], i)) {
+            *where = (uint32_t)i;
+            return 8;
+        }
+    for (int i = 0; i < count; i++) {
+        memset(seen, 0, sizeof seen[0] * (size_t)count);
+        if (is_loop(&table[i]) && occurs(table, table[i].left, table[i].param, 0, 1, seen)) {
+            *where = (uint32_t)i;
+            return 9;
+        }
+    }
+    for (int v = 0; v < 16; v++) {
+        memset(seen, 0, sizeof seen[0] * (size_t)count);
+        if (occurs(table, count - 1, v, 0, 2, seen)) {
+            *where = (uint32_t)count - 1;
+            return 10;
+        }
+    }
+    return 0;
+}
+
+/* ---- listing */
+
+struct slots {
+    bool has[256];
+};
+
+static struct slots all_slots(bool value)
+{
+    struct slots set;
+    memset(set.has, value, sizeof set.has);
+    return set;
+}
+
+/* Diamond (some neighbour is in the set) and box (every neighbour is). */
+static struct slots over_way(const struct model *model, int way, bool diamond, const struct slots *of)
+{
+    struct slots set;
+    if (way == EVERYWHERE) {
+        bool found = false;
+        for (int s = 0; s < 256; s++)
+            found |= of->has[s] == diamond;
+        return all_slots(found == diamond);
+    }
+    set = all_slots(!diamond);
+    const struct arcs *arcs = &model->link[way % 8];
+    for (size_t k = 0; k < arcs->count; k++) {
+        int s = way < 8 ? arcs->at[k].from : arcs->at[k].to, t = way < 8 ? arcs->at[k].to : arcs->at[k].from;
+        if (of->has[t] == diamond)
+            set.has[s] = diamond;
+    }
+    return set;
+}
+
+static struct slots value(const struct model *, const struct node *, int, const struct slots *);
+
+/* Mu from nothing, nu from everything, until the body gives back what it was given; the body is evaluated afresh each time. */
+static struct slots loop(const struct model *model, const struct node *table, const struct node *node, const struct slots *variables)
+{
+    struct slots inner[16], next;
+    memcpy(inner, variables, sizeof inner);
+    next = all_slots(node->kind == NU);
+    do {
+        inner[node->param] = next;
+        next = value(model, table, node->left, inner);
+    } while (memcmp(&next, &inner[node->param], sizeof next) != 0);
+    return next;
+}
+
+static struct slots node_value(const struct model *model, const struct node *table, const struct node *node, const struct slots *sets,
+                               const struct slots *variables)
+{
+    struct slots set = all_slots(false);
+    const struct slots *left = &sets[node->left], *right = &sets[node->right];
+    switch (node->kind) {
+    case TRUE:
+        return all_slots(true);
+    case VARIABLE:
+        return variables[node->param];
+    case DIAMOND:
+    case BOX:
+        return over_way(model, node->param, node->kind == DIAMOND, left);
+    case MU:
+    case NU:
+        return loop(model, table, node, variables);
+    case NAME:
+        set.has[model->name[node->param]] = true;
+        return set;
+    case SLOT:
+        set.has[node->param] = true;
+        return set;
+    }
+    for (int s = 0; s < 256; s++)
+        set.has[s] = node->kind == HERE    ? model->present[s]
+                     : node->kind == LABEL ? model->label[node->param][s]
+                     : node->kind == NOT   ? !left->has[s]
+                     : node->kind == OR    ? left->has[s] | right->has[s]
+                                           : left->has[s] & right->has[s];
+    return set;
+}
+
+/* The set of a node: first the nodes that it needs outside of loops, in ascending order; each loop looks after its own body. */
+static struct slots value(const struct model *model, const struct node *table, int root, const struct slots *variables)
+{
+    struct slots *sets = malloc(sizeof *sets * ((size_t)root + 1)), result;
+    bool *needed = calloc((size_t)root + 1, 1);
+    needed[root] = true;
+    for (int i = root; i >= 0; i--)
+        if (needed[i] && !is_loop(&table[i])) {
+            if (children(table[i].kind) >= 1)
+                needed[table[i].left] = true;
+            if (children(table[i].kind) == 2)
+                needed[table[i].right] = true;
+        }
+    for (int i = 0; i <= root; i++)
+        if (needed[i])
+            sets[i] = node_value(model, table, &table[i], sets, variables);
+    result = sets[root];
+    free(sets);
+    free(needed);
+    return result;
+}
+
+static uint32_t list(const struct model *model, const struct node *table, int count, uint8_t *set)
+{
+    struct slots variables[16], result;
+    uint32_t found = 0;
+    for (int v = 0; v < 16; v++)
+        variables[v] = all_slots(false);
+    result = value(model, table, count - 1, variables);
+    memset(set, 0, DESK_SET_BYTES);
+    for (int s = 0; s < 256; s++)
+        if (result.has[s]) {
+            put_bit(set, s);
+            found++;
+        }
+    return found;
+}
+
+/* ---- the sheet */
+
+/* What each operation's operands are: n name, N name but 0, m link, f link 4 to 7, p label, k slot, - unused. */
+static const char *const operands[] = {"Nn-", "Nnf", "np-", "np-", "mnn", "mnn", "fn-", "Nk-", "n--"};
+
+static bool operand_fault(char kind, int value)
+{
+    switch (kind) {
+    case 'n':
+    case 'p':
+        return value > 15;
+    case 'N':
+        return value < 1 || value > 15;
+    case 'm':
+        return value > 7;
+    case 'f':
+        return value < 4 || value > 7;
+    case '-':
+        return value != 0;
+    }
+    return false;
+}
+
+/* Item 12 for one edit. */
+static bool edit_fault(const uint8_t *edit)
+{
+    return edit[0] > DS || operand_fault(operands[edit[0]][0], edit[1]) || operand_fault(operands[edit[0]][1], edit[2]) ||
+           operand_fault(operands[edit[0]][2], edit[3]);
+}
+
+static int find_arc(const struct arcs *arcs, int from, int to)
+{
+    for (size_t k = 0; k < arcs->count; k++)
+        if (arcs->at[k].from == from && arcs->at[k].to == to)
+            return (int)k;
+    return -1;
+}
+
+static void drop_arc(struct arcs *arcs, int number)
+{
+    if (number >= 0)
+        arcs->at[number] = arcs->at[--arcs->count];
+}
+
+/* The target of a functional link, 0 for none. */
+static int target(const struct arcs *arcs, int from)
+{
+    for (size_t k = 0; k < arcs->count; k++)
+        if (arcs->at[k].from == from)
+            return arcs->at[k].to;
+    return 0;
+}
+
+static void drop_slot(struct model *model, int slot)
+{
+    model->present[slot] = false;
+    for (int p = 0; p < 16; p++)
+        model->label[p][slot] = false;
+    for (int n = 0; n < 16; n++)
+        if (model->name[n] == slot)
+            model->name[n] = 0;
+    for (int m = 0; m < 8; m++) {
+        struct arcs *arcs = &model->link[m];
+        size_t kept = 0;
+        for (size_t k = 0; k < arcs->count; k++)
+            if (arcs->at[k].from != slot && arcs->at[k].to != slot)
+                arcs->at[kept++] = arcs->at[k];
+        arcs->count = kept;
+    }
+}
+
+static bool add_link(struct model *model, int link, int from, int to)
+{
+    struct arcs *arcs = &model->link[link];
+    if (from == 0 || to == 0 || (link >= 4 && target(arcs, from) != 0 && target(arcs, from) != to))
+        return false;
+    if (find_arc(arcs, from, to) < 0)
+        add_arc(arcs, from, to);
+    return true;
+}
+
+bool model_edit(struct model *model, const uint8_t *edit)
+{
+    const int x = edit[1], y = edit[2], z = edit[3];
+    switch (edit[0]) {
+    case CN1:
+        model->name[x] = model->name[y];
+        return true;
+    case CN2:
+        model->name[x] = (uint8_t)target(&model->link[z], model->name[y]);
+        return true;
+    case AP:
+    case DP:
+        model->label[y][model->name[x]] = edit[0] == AP;
+        return true;
+    case AT:
+        return add_link(model, x, model->name[y], model->name[z]);
+    case DT1:
+        drop_arc(&model->link[x], find_arc(&model->link[x], model->name[y], model->name[z]));
+        return true;
+    case DT2:
+        drop_arc(&model->link[x], find_arc(&model->link[x], model->name[y], target(&model->link[x], model->name[y])));
+        return true;
+    case AS:
+        if (model->present[y])
+            return false;
+        model->present[y] = true;
+        model->name[x] = (uint8_t)y;
+        return true;
+    default:
+        if (model->name[x] == 0)
+            return false;
+        drop_slot(model, model->name[x]);
+        return true;
+    }
+}
+
+/* ---- rewriting: the paper's blocks, read word by word */
+
+struct words {
+    const char *text; /* NULL: the node is copied */
+    int n, n1, n2, p, y, k, way, f;
+};
+
+static struct words link_words(const uint8_t *edit, const struct node *node)
+{
+    struct words w = {.way = node->param, .f = edit[1], .n = edit[2], .n1 = edit[2], .n2 = edit[3]};
+    bool diamond = node->kind == DIAMOND, back = node->param >= 8;
+    if (node->param % 8 != edit[1])
+        return w;
+    if (back) {
+        w.n1 = edit[3];
+        w.n2 = edit[2];
+    }
+    if (edit[0] == AT)
+        w.text = diamond ? "T <m> n1 n2 T & <E> & |" : "T [m] n1 ! n2 ! T | [E] | &";
+    else if (edit[0] == DT1)
+        w.text = diamond ? "n1 ! T <m> & n2 ! T & <m> |" : "n1 T [m] | n2 T | [m] &";
+    else if (back)
+        w.text = diamond ? "n ! T & <f->" : "n T | [f-]";
+    else
+        w.text = diamond ? "n ! T <f> &" : "n T [f] |";
+    return w;
+}
+
+static struct words delete_words(const uint8_t *edit, const struct node *node)
+{
+    struct words w = {.n = edit[1], .p = node->param, .y = node->param, .way = node->param};
+    switch (node->kind) {
+    case HERE:
+        w.text = "h n ! &";
+        break;
+    case LABEL:
+        w.text = "p n ! &";
+        break;
+    case NAME:
+        w.text = node->param == 0 ? NULL : "y n ! & nil n y & <E> & |";
+        break;
+    case DIAMOND:
+        w.text = "n ! n ! T & <m> &";
+        break;
+    case BOX:
+        w.text = "n n T | [m] |";
+        break;
+    }
+    return w;
+}
+
+static struct words block_words(const uint8_t *edit, const struct node *node)
+{
+    const int op = edit[0];
+    const bool over = node->kind == DIAMOND || node->kind == BOX;
+    if (over && node->param == EVERYWHERE)
+        return (struct words){.text = NULL};
+    if (over && (op == AT || op == DT1 || op == DT2))
+        return link_words(edit, node);
+    if (op == DS)
+        return delete_words(edit, node);
+    if (op == CN1 && node->kind == NAME && node->param == edit[1])
+        return (struct words){.text = "n2", .n2 = edit[2]};
+    if (op == CN2 && node->kind == NAME && node->param == edit[1])
+        return (struct words){.text = "n2 <f-> nil n2 t <f> & <E> ! & |", .n2 = edit[2], .f = edit[3]};
+    if ((op == AP || op == DP) && node->kind == LABEL && node->param == edit[2])
+        return (struct words){.text = op == AP ? "p n |" : "p n ! &", .n = edit[1], .p = edit[2]};
+    if (op == AS && node->kind == NAME && node->param == edit[1])
+        return (struct words){.text = "k", .k = edit[2]};
+    if (op == AS && node->kind == HERE)
+        return (struct words){.text = "h k |", .k = edit[2]};
+    return (struct words){.text = NULL};
+}
+
+static bool is(const char *word, const char *other)
+{
+    return strcmp(word, other) == 0;
+}
+
+static int way_of(const struct words *w, const char *inside)
+{
+    return inside[0] == 'E' ? EVERYWHERE : inside[0] == 'm' ? w->way : inside[1] == '-' ? w->f + 8 : w->f;
+}
+
+static struct node leaf(const struct words *w, const char *word)
+{
+    if (is(word, "t"))
+        return (struct node){TRUE, 0, 0, 0};
+    if (is(word, "h"))
+        return (struct node){HERE, 0, 0, 0};
+    if (is(word, "p"))
+        return (struct node){LABEL, w->p, 0, 0};
+    if (is(word, "k"))
+        return (struct node){SLOT, w->k, 0, 0};
+    if (is(word, "nil"))
+        return (struct node){NAME, 0, 0, 0};
+    return (struct node){NAME, is(word, "n1") ? w->n1 : is(word, "n2") ? w->n2 : is(word, "y") ? w->y : w->n, 0, 0};
+}
+
+/* Reads the text as a stack machine does, adds its nodes to the table, and gives the block's last node. */
+static int put_words(const struct words *w, int image, struct node *table, int *count)
+{
+    int stack[16], depth = 0;
+    char text[64];
+    strcpy(text, w->text);
+    for (char *word = strtok(text, " "); word; word = strtok(NULL, " ")) {
+        struct node node = {0, 0, 0, 0};
+        if (is(word, "T")) {
+            stack[depth++] = image;
+            continue;
+        }
+        if (is(word, "&") || is(word, "|")) {
+            node.kind = word[0] == '&' ? AND : OR;
+            node.right = stack[--depth];
+            node.left = stack[--depth];
+        } else if (is(word, "!")) {
+            node.kind = NOT;
+            node.left = stack[--depth];
+        } else if (word[0] == '<' || word[0] == '[') {
+            node.kind = word[0] == '<' ? DIAMOND : BOX;
+            node.param = way_of(w, word + 1);
+            node.left = stack[--depth];
+        } else {
+            node = leaf(w, word);
+        }
+        stack[depth++] = *count;
+        table[(*count)++] = node;
+    }
+    return stack[0];
+}
+
+/* One edit: each old node becomes its block. The table has room for the longest blocks. */
+static int rewrite_edit(const uint8_t *edit, const struct node *old, int old_count, struct node *table)
+{
+    static int images[DESK_NODES_MAX];
+    int count = 0;
+    for (int i = 0; i < old_count; i++) {
+        struct words w = block_words(edit, &old[i]);
+        if (w.text) {
+            images[i] = put_words(&w, images[old[i].left], table, &count);
+            continue;
+        }
+        table[count] = old[i];
+        if (children(old[i].kind) >= 1)
+            table[count].left = images[old[i].left];
+        if (children(old[i].kind) == 2)
+            table[count].right = images[old[i].right];
+        images[i] = count++;
+    }
+    return count;
+}
+
+/* The whole sheet, its last edit first; 0 where a table is too long. */
+static int rewrite(struct node *table, int count, const uint8_t *sheet, size_t edits)
+{
+    enum { LONGEST_BLOCK = 11 };
+    static struct node longer[DESK_NODES_MAX * LONGEST_BLOCK];
+    for (size_t k = edits; k-- > 0;) {
+        count = rewrite_edit(sheet + 4 * k, table, count, longer);
+        if (count > DESK_NODES_MAX)
+            return 0;
+        memcpy(table, longer, sizeof *table * (size_t)count);
+    }
+    return count;
+}
+
+/* ---- classes */
+
+struct neighbours {
+    int count[16][256];
+    uint8_t *at[16][256];
+    uint8_t pool[2 * 8 * 65536];
+};
+
+static void gather(const struct model *model, struct neighbours *near)
+{
+    uint8_t *free_at = near->pool;
+    memset(near->count, 0, sizeof near->count);
+    for (int way = 0; way < 16; way++) {
+        const struct arcs *arcs = &model->link[way % 8];
+        for (size_t k = 0; k < arcs->count; k++)
+            near->count[way][way < 8 ? arcs->at[k].from : arcs->at[k].to]++;
+        for (int s = 0; s < 256; s++) {
+            near->at[way][s] = free_at;
+            free_at += near->count[way][s];
+            near->count[way][s] = 0;
+        }
+        for (size_t k = 0; k < arcs->count; k++) {
+            int s = way < 8 ? arcs->at[k].from : arcs->at[k].to, t = way < 8 ? arcs->at[k].to : arcs->at[k].from;
+            near->at[way][s][near->count[way][s]++] = (uint8_t)t;
+        }
+    }
+}
+
+/* Here, the labels and the names of a slot, a bit each. */
+static uint64_t colour(const struct model *model, int slot)
+{
+    uint64_t key = model->present[slot];
+    for (int k = 0; k < 16; k++)
+        key = key << 2 | (uint64_t)model->label[k][slot] << 1 | (model->name[k] == slot);
+    return key;
+}
+
+/* Each neighbour of one is related to some neighbour of the other. */
+static bool answers(bool (*related)[256], const struct neighbours *near, int way, int one, int other)
+{
+    for (int k = 0; k < near->count[way][one]; k++) {
+        bool found = false;
+        for (int l = 0; l < near->count[way][other] && !found; l++)
+            found = related[near->at[way][one][k]][near->at[way][other][l]];
+        if (!found)
+            return false;
+    }
+    return true;
+}
+
+static bool alike(bool (*related)[256], const struct neighbours *near, int one, int other)
+{
+    for (int way = 0; way < 16; way++)
+        if (!answers(related, near, way, one, other) || !answers(related, near, way, other, one))
+            return false;
+    return true;
+}
+
+/* Starts from agreement of colours and takes out pairs that are not alike until none is left. Slots without links stay as they are. */
+static void relate(const struct model *model, bool (*related)[256])
+{
+    static struct neighbours near;
+    uint64_t colours[256];
+    int linked[256], count = 0;
+    gather(model, &near);
+    for (int s = 0; s < 256; s++) {
+        bool any = false;
+        colours[s] = colour(model, s);
+        for (int way = 0; way < 16; way++)
+            any |= near.count[way][s] != 0;
+        if (any)
+            linked[count++] = s;
+    }
+    for (int s = 0; s < 256; s++)
+        for (int t = 0; t < 256; t++)
+            related[s][t] = colours[s] == colours[t];
+    for (int i = 0; i < count; i++)
+        for (int t = 0; t < 256; t++)
+            if (related[linked[i]][t] && !alike(related, &near, linked[i], t))
+                related[linked[i]][t] = related[t][linked[i]] = false;
+    for (bool moved = true; moved;) {
+        moved = false;
+        for (int i = 0; i < count; i++)
+            for (int j = 0; j < i; j++) {
+                int s = linked[i], t = linked[j];
+                if (related[s][t] && !alike(related, &near, s, t)) {
+                    related[s][t] = related[t][s] = false;
+                    moved = true;
+                }
+            }
+    }
+}
+
+static uint32_t number_classes(const struct model *model, uint8_t *classes)
+{
+    static bool related[256][256];
+    bool used[256] = {false};
+    uint32_t different = 0;
+    relate(model, related);
+    for (int s = 0; s < 256; s++) {
+        int lowest = 0;
+        while (!related[s][lowest])
+            lowest++;
+        classes[s] = (uint8_t)lowest;
+        different += !used[lowest];
+        used[lowest] = true;
+    }
+    return different;
+}
+
+/* ---- the entry points */
+
+struct piece {
+    const uint8_t *at; /* NULL: the entry point has no such input */
+    size_t length;
+};
+
+/* The inputs of an entry point, read: the site, the site after, the table and the rewritten table. */
+struct read {
+    uint32_t reason, where;
+    struct model before, after;
+    struct node table[DESK_NODES_MAX], rewritten[DESK_NODES_MAX];
+    int count, rewritten_count;
+};
+
+static void judge_sheet(struct read *r, struct piece sheet)
+{
+    if (sheet.length % 4 != 0 || sheet.length > 256) {
+        r->reason = 11;
+        return;
+    }
+    for (size_t k = 0; k < sheet.length / 4; k++)
+        if (edit_fault(sheet.at + 4 * k)) {
+            r->reason = 12;
+            r->where = (uint32_t)k;
+            return;
+        }
+}
+
+static void model_copy(struct model *to, const struct model *from)
+{
+    memcpy(to, from, offsetof(struct model, link));
+    for (int m = 0; m < 8; m++) {
+        to->link[m].count = from->link[m].count;
+        memcpy(to->link[m].at, from->link[m].at, sizeof(struct arc) * from->link[m].count);
+    }
+}
+
+static void apply(struct read *r, struct piece sheet)
+{
+    model_copy(&r->after, &r->before);
+    for (size_t k = 0; k < sheet.length / 4; k++)
+        if (!model_edit(&r->after, sheet.at + 4 * k)) {
+            r->reason = 13;
+            r->where = (uint32_t)k;
+            return;
+        }
+}
+
+/* Items 3 to 14, those that concern the pieces given. */
+static void judge(struct read *r, struct piece site, struct piece cond, struct piece sheet)
+{
+    r->reason = r->where = 0;
+    if (site.at && site.length != DESK_SITE_BYTES) {
+        r->reason = 3;
+        return;
+    }
+    if (site.at) {
+        model_read(&r->before, site.at);
+        r->reason = site_fault(&r->before);
+    }
+    if (!r->reason && cond.at) {
+        if (cond.length % 6 != 0 || cond.length < 6 || cond.length > 12288) {
+            r->reason = 7;
+            return;
+        }
+        r->count = (int)(cond.length / 6);
+        table_read(r->table, cond.at, cond.length / 6);
+        r->reason = condition_fault(r->table, r->count, &r->where);
+    }
+    if (!r->reason && sheet.at)
+        judge_sheet(r, sheet);
+    if (!r->reason && sheet.at && site.at)
+        apply(r, sheet);
+    if (!r->reason && sheet.at && cond.at) {
+        memcpy(r->rewritten, r->table, sizeof r->table);
+        r->rewritten_count = rewrite(r->rewritten, r->count, sheet.at, sheet.length / 4);
+        if (r->rewritten_count == 0)
+            r->reason = 14;
+    }
+}
+
+static struct read answer;
+static const struct piece none;
+
+struct desk_listed oracle_list(const uint8_t *site, size_t site_len, const uint8_t *cond, size_t cond_len,
+                               uint8_t *set, size_t set_len, uint8_t *work, size_t work_len)
+{
+    struct read *r = &answer;
+    memset(set, 0, set_len);
+    memset(work, 0, work_len);
+    if (set_len != DESK_SET_BYTES || work_len != DESK_WORK_BYTES)
+        return (struct desk_listed){1, 0, 0};
+    judge(r, (struct piece){site, site_len}, (struct piece){cond, cond_len}, none);
+    return (struct desk_listed){r->reason, r->where, r->reason ? 0 : list(&r->before, r->table, r->count, set)};
+}
+
+struct desk_applied oracle_apply(const uint8_t *site, size_t site_len, const uint8_t *sheet, size_t sheet_len,
+                                 uint8_t *result, size_t result_len)
+{
+    struct read *r = &answer;
+    memset(result, 0, result_len);
+    if (result_len != DESK_SITE_BYTES)
+        return (struct desk_applied){1, 0};
+    judge(r, (struct piece){site, site_len}, none, (struct piece){sheet, sheet_len});
+    if (!r->reason)
+        model_write(&r->after, result);
+    return (struct desk_applied){r->reason, r->where};
+}
+
+struct desk_rewritten oracle_rewrite(const uint8_t *cond, size_t cond_len, const uint8_t *sheet, size_t sheet_len,
+                                     uint8_t *result, size_t result_len)
+{
+    struct read *r = &answer;
+    memset(result, 0, result_len);
+    if (result_len != DESK_TABLE_BYTES)
+        return (struct desk_rewritten){1, 0, 0};
+    judge(r, none, (struct piece){cond, cond_len}, (struct piece){sheet, sheet_len});
+    if (!r->reason)
+        table_write(r->rewritten, (size_t)r->rewritten_count, result);
+    return (struct desk_rewritten){r->reason, r->where, r->reason ? 0 : (uint32_t)r->rewritten_count};
+}
+
+struct desk_classed oracle_classes(const uint8_t *site, size_t site_len, uint8_t *classes, size_t classes_len)
+{
+    struct read *r = &answer;
+    memset(classes, 0, classes_len);
+    if (classes_len != DESK_CLASSES_BYTES)
+        return (struct desk_classed){1, 0, 0};
+    judge(r, (struct piece){site, site_len}, none, none);
+    return (struct desk_classed){r->reason, r->where, r->reason ? 0 : number_classes(&r->before, classes)};
+}
+
+static uint64_t distance(const uint8_t *at)
+{
+    return at[0] + 256ull * at[1] + 65536ull * at[2] + 16777216ull * at[3];
+}
+
+/* Item 2; the three pieces where it is not met. */
+static bool file_fault(const uint8_t *file, size_t length, struct piece *site, struct piece *cond, struct piece *sheet)
+{
+    if (length < 12 || length > 65536)
+        return true;
+    const uint8_t *trailer = file + length - 12;
+    uint64_t to_sheet = distance(trailer), to_cond = distance(trailer + 4), to_site = distance(trailer + 8);
+    if (to_cond < to_sheet || to_site < to_cond || to_site != length - 12)
+        return true;
+    *site = (struct piece){file, to_site - to_cond};
+    *cond = (struct piece){trailer - to_cond, to_cond - to_sheet};
+    *sheet = (struct piece){trailer - to_sheet, to_sheet};
+    return false;
+}
+
+struct desk_done oracle_job(const uint8_t *file, size_t file_len, uint8_t *site, size_t site_len, uint8_t *table, size_t table_len,
+                            uint8_t *after, size_t after_len, uint8_t *today, size_t today_len,
+                            uint8_t *classes, size_t classes_len, uint8_t *work, size_t work_len)
+{
+    struct read *r = &answer;
+    struct desk_done done = {0, 0, 0, 0, 0, 0};
+    struct piece pieces[3];
+    memset(site, 0, site_len);
+    memset(table, 0, table_len);
+    memset(after, 0, after_len);
+    memset(today, 0, today_len);
+    memset(classes, 0, classes_len);
+    memset(work, 0, work_len);
+    if (site_len != DESK_SITE_BYTES || table_len != DESK_TABLE_BYTES || after_len != DESK_SET_BYTES || today_len != DESK_SET_BYTES ||
+        classes_len != DESK_CLASSES_BYTES || work_len != DESK_WORK_BYTES) {
+        done.reason = 1;
+        return done;
+    }
+    if (file_fault(file, file_len, &pieces[0], &pieces[1], &pieces[2])) {
+        done.reason = 2;
+        return done;
+    }
+    judge(r, pieces[0], pieces[1], pieces[2]);
+    done.reason = r->reason;
+    done.where = r->where;
+    if (r->reason)
+        return done;
+    model_write(&r->after, site);
+    table_write(r->rewritten, (size_t)r->rewritten_count, table);
+    done.nodes = (uint32_t)r->rewritten_count;
+    done.after = list(&r->after, r->table, r->count, after);
+    done.today = list(&r->before, r->rewritten, r->rewritten_count, today);
+    done.classes = number_classes(&r->after, classes);
+    return done;
+}
