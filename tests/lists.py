@@ -148,6 +148,10 @@ def cases(rng):
     # an inner loop that reads the outer variable: without a restart another set comes out
     yield a, t((4, 0, 0, 0), (4, 1, 0, 0), (8, 4, 0, 0), (7, 0, 1, 2), (11, 1, 3, 0), (2, 0, 0, 0), (6, 0, 4, 5), (10, 0, 6, 0))
     yield a, t((4, 0, 0, 0), (4, 1, 0, 0), (8, 4, 1, 0), (6, 0, 0, 2), (10, 1, 3, 0), (9, 12, 4, 0), (11, 0, 5, 0))
+    # the same with a second loop around a label: on a ring, {} against {2, 3} without a restart
+    ring = pieces.site_a()
+    ring[pieces.TARGETS_AT + 1] = 3
+    yield ring, t((4, 0, 0, 0), (2, 0, 0, 0), (7, 0, 0, 1), (4, 1, 0, 0), (8, 4, 3, 0), (6, 0, 2, 4), (10, 1, 5, 0), (5, 0, 1, 0), (7, 0, 6, 7), (11, 0, 8, 0))
     # a box where no link leaves
     yield a, t((0, 0, 0, 0), (5, 0, 0, 0), (9, 4, 1, 0))
     # as many paths as 2 to the power 2,000; and pairs of `and` and diamond over shared children
@@ -160,8 +164,6 @@ def cases(rng):
     full = t((2, 0, 0, 0), *((6, 0, i, i) for i in range(2047)))
     yield a, full
     yield a, full + t((6, 0, 2047, 2047))
-    ring = pieces.site_a()
-    ring[pieces.TARGETS_AT + 1] = 3
     for kind in (10, 11):
         yield ring, t((4, 0, 0, 0), (8, 4, 0, 0), (kind, 0, 1, 0))
     # refusals: the site's come first

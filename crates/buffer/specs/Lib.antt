@@ -1,2 +1,2 @@
--- What is proved of buffers that a loop fills with zeros.
+-- What is proved of loops that fill buffers.
 pub mod Laws

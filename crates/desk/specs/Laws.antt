@@ -1,3 +1,5 @@
 -- Laws of the entry points, by topic.
-pub mod Refusal
-pub mod Listing
+pub mod Returned
+pub mod Accepted
+pub mod Demands
+pub mod Job

@@ -1,8 +1,8 @@
--- Which inputs are refused, in document 01's order.
-pub mod Refusal
--- the numbers and values of each answer
-pub mod Answer
--- what listing answers and leaves in its buffers
-pub mod Listing
+-- what each entry point returns, in numbers
+pub mod Returned
+-- the demands on them together
+pub mod Demands
+-- and on a whole job
+pub mod Job
 -- what is proved of them
 pub mod Laws

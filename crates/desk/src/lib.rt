@@ -1,21 +1,12 @@
-// The entry points of the desk, for C and for Rattle. Every input has its answer: nothing is required of it.
-use bitset::SET_BYTES;
-use verdict::Verdict;
+// The entry points of the desk for C: the answers in numbers. Every input has its answer: nothing is required of it.
+use job_entry::Job;
+ghost use Rattle.desk.specs.Returned.{ReturnedList, ReturnedApply, ReturnedRewrite, ReturnedClasses, ReturnedJob};
 ghost use mathlib.Core.Path.{_≡_};
-ghost use lib.ListN.{length, replicate};
 ghost use Rattle.verdict.specs.Verdict.{reasonOf, whereOf};
-ghost use Rattle.desk.specs.Answer.{verdictOf, countOf};
-ghost use Rattle.desk.specs.Listing.{Judged, Answered, Returned};
+ghost use Rattle.job_entry.specs.Buffers.{six};
+ghost use Rattle.job_entry.specs.Answer.{verdictOf, afterOf, todayOf, nodesOf, classesOf};
 
-const WORK_BYTES: usize = 65536;
-
-// The answer of listing: how many slots the condition lists, or the item that is met and its W.
-pub enum Listing {
-    Listed(u32),
-    Refused(u8, u16),
-}
-
-// The same for C. The reason is 0 where no item is met; the place is W.
+// In each answer the reason is 0 where no item is met, and the place is W.
 #[repr(C)]
 pub struct ListAnswer {
     pub reason: u32,
@@ -23,92 +14,134 @@ pub struct ListAnswer {
     pub count: u32,
 }
 
-fn no_masks() -> [u16; 2048]
-    ensures { λ r. ⌜ r ≡ replicate 2048 0 ⌝ }
-{
-    [0; 2048]
+#[repr(C)]
+pub struct ApplyAnswer {
+    pub reason: u32,
+    pub place: u32,
 }
 
-// The first of items 1, 3 to 6 and 7 to 10 that the inputs meet, from the lengths of the set and of the work buffer, the site and the
-// condition. The free variables of an accepted condition's nodes are written to `free`.
-fn judge(set: usize, work: usize, site: &[u8], cond: &[u8], free: &mut [u16]) -> Verdict
-    requires { ⌜ now free ≡ replicate 2048 0 ⌝ }
-    ensures { λ r. ⌜ Judged set work (now (site .entry)) (now (cond .entry)) (now (free .exit)) r ⌝ }
-{
-    if set != SET_BYTES {
-        return Verdict::Refused(1, 0);
-    }
-    if work != WORK_BYTES {
-        return Verdict::Refused(1, 0);
-    }
-    let v = site::check(site);
-    match v {
-        Verdict::Accepted => even_rule::check(cond, free),
-        Verdict::Refused(item, place) => Verdict::Refused(item, place),
-    }
+#[repr(C)]
+pub struct RewriteAnswer {
+    pub reason: u32,
+    pub place: u32,
+    pub nodes: u32,
 }
 
-// The answer to inputs that meet an item: every result and work buffer becomes zeros.
-fn refused(set: &mut [u8], work: &mut [u8], item: u8, place: u16) -> Listing
-    ensures { λ r. ⌜ r ≡ Listing.Refused item place ⌝ }
-    ensures { λ _. ⌜ now (set .exit) ≡ replicate (length (now (set .entry))) 0 ⌝ }
-    ensures { λ _. ⌜ now (work .exit) ≡ replicate (length (now (work .entry))) 0 ⌝ }
-{
-    buffer::zero(set);
-    buffer::zero(work);
-    Listing::Refused(item, place)
+#[repr(C)]
+pub struct ClassesAnswer {
+    pub reason: u32,
+    pub place: u32,
+    pub count: u32,
 }
 
-// Lists the condition on the site: writes the set, and answers how many slots it holds.
-pub fn list(site: &[u8], cond: &[u8], set: &mut [u8], work: &mut [u8]) -> Listing
-    ensures { λ r. ⌜ Answered (now (site .entry)) (now (cond .entry)) (now (set .entry)) (now (set .exit)) (now (work .entry)) (now (work .exit)) (verdictOf r) (countOf r) ⌝ }
-{
-    let mut free = no_masks();
-    let v = judge(set.len(), work.len(), site, cond, &mut free);
-    match v {
-        Verdict::Accepted => Listing::Listed(listing::list(site, cond, &free, set, work)),
-        Verdict::Refused(item, place) => refused(set, work, item, place),
-    }
-}
-
-fn reason(r: Listing) -> u32
-    ensures { λ n. ⌜ n ≡ reasonOf (verdictOf r) ⌝ }
-{
-    match r {
-        Listing::Listed(_) => 0,
-        Listing::Refused(item, _) => item as u32,
-    }
-}
-
-fn place(r: Listing) -> u32
-    ensures { λ n. ⌜ n ≡ whereOf (verdictOf r) ⌝ }
-{
-    match r {
-        Listing::Listed(_) => 0,
-        Listing::Refused(_, w) => w as u32,
-    }
-}
-
-fn count(r: Listing) -> u32
-    ensures { λ n. ⌜ n ≡ countOf r ⌝ }
-{
-    match r {
-        Listing::Listed(n) => n,
-        Listing::Refused(_, _) => 0,
-    }
+// The slots listed on the site after and today, the rewritten nodes, and the different class numbers.
+#[repr(C)]
+pub struct JobAnswer {
+    pub reason: u32,
+    pub place: u32,
+    pub after: u32,
+    pub today: u32,
+    pub nodes: u32,
+    pub classes: u32,
 }
 
 #[no_mangle]
 pub extern "C" fn desk_list(site: &[u8], cond: &[u8], set: &mut [u8], work: &mut [u8]) -> ListAnswer
-    ensures { λ r. ⌜ Returned (now (site .entry)) (now (cond .entry)) (now (set .entry)) (now (set .exit)) (now (work .entry)) (now (work .exit)) (r .reason) (r .place) (r .count) ⌝ }
+    ensures { λ r. ⌜ ReturnedList (now (site .entry)) (now (cond .entry)) (now (set .entry)) (now (set .exit)) (now (work .entry)) (now (work .exit)) (r .reason) (r .place) (r .count) ⌝ }
 {
-    let r = list(site, cond, set, work);
-    let n = reason(r);
-    let w = place(r);
-    let k = count(r);
+    let r = list_entry::list(site, cond, set, work);
+    let v = list_entry::verdict(r);
+    let n = verdict::reason(v);
+    let w = verdict::place(v);
+    let k = list_entry::count(r);
     ListAnswer {
         reason: n,
         place: w,
         count: k,
     }
+}
+
+#[no_mangle]
+pub extern "C" fn desk_apply(site: &[u8], sheet: &[u8], result: &mut [u8]) -> ApplyAnswer
+    ensures { λ r. ⌜ ReturnedApply (now (site .entry)) (now (sheet .entry)) (now (result .entry)) (now (result .exit)) (r .reason) (r .place) ⌝ }
+{
+    let v = apply_entry::apply(site, sheet, result);
+    let item = verdict::reason(v);
+    let edit = verdict::place(v);
+    ApplyAnswer {
+        reason: item,
+        place: edit,
+    }
+}
+
+#[no_mangle]
+pub extern "C" fn desk_rewrite(table: &[u8], sheet: &[u8], result: &mut [u8]) -> RewriteAnswer
+    ensures { λ r. ⌜ ReturnedRewrite (now (table .entry)) (now (sheet .entry)) (now (result .entry)) (now (result .exit)) (r .reason) (r .place) (r .nodes) ⌝ }
+{
+    let r = rewrite_entry::rewrite(table, sheet, result);
+    let v = rewrite_entry::verdict(r);
+    let number = verdict::reason(v);
+    let fault = verdict::place(v);
+    let size = rewrite_entry::nodes(r);
+    RewriteAnswer {
+        reason: number,
+        place: fault,
+        nodes: size,
+    }
+}
+
+#[no_mangle]
+pub extern "C" fn desk_classes(site: &[u8], classes: &mut [u8]) -> ClassesAnswer
+    ensures { λ r. ⌜ ReturnedClasses (now (site .entry)) (now (classes .entry)) (now (classes .exit)) (r .reason) (r .place) (r .count) ⌝ }
+{
+    let r = classes_entry::classes(site, classes);
+    let v = classes_entry::verdict(r);
+    let why = verdict::reason(v);
+    let spot = verdict::place(v);
+    let different = classes_entry::count(r);
+    ClassesAnswer {
+        reason: why,
+        place: spot,
+        count: different,
+    }
+}
+
+// The answer of a job in numbers: no item, and its counts; or the item and W, and counts of 0.
+fn in_numbers(r: Job) -> JobAnswer
+    ensures { λ a. ⌜ (a .reason ≡ reasonOf (verdictOf r)) × (a .place ≡ whereOf (verdictOf r)) ⌝ }
+    ensures { λ a. ⌜ (a .after ≡ afterOf r) × ((a .today ≡ todayOf r) × ((a .nodes ≡ nodesOf r) × (a .classes ≡ classesOf r))) ⌝ }
+{
+    match r {
+        Job::Done(later, now, length, numbers) => JobAnswer {
+            reason: 0,
+            place: 0,
+            after: later,
+            today: now,
+            nodes: length,
+            classes: numbers,
+        },
+        Job::Refused(item, w) => JobAnswer {
+            reason: item as u32,
+            place: w as u32,
+            after: 0,
+            today: 0,
+            nodes: 0,
+            classes: 0,
+        },
+    }
+}
+
+#[no_mangle]
+pub extern "C" fn desk_job(
+    file: &[u8],
+    site: &mut [u8],
+    table: &mut [u8],
+    after: &mut [u8],
+    today: &mut [u8],
+    classes: &mut [u8],
+    work: &mut [u8],
+) -> JobAnswer
+    ensures { λ r. ⌜ ReturnedJob (now (file .entry)) (six (now (site .entry)) (now (table .entry)) (now (after .entry)) (now (today .entry)) (now (classes .entry)) (now (work .entry))) (six (now (site .exit)) (now (table .exit)) (now (after .exit)) (now (today .exit)) (now (classes .exit)) (now (work .exit))) (r .reason) (r .place) (r .after) (r .today) (r .nodes) (r .classes) ⌝ }
+{
+    in_numbers(job_entry::run(file, site, table, after, today, classes, work))
 }

@@ -3,3 +3,4 @@ pub mod Kinds
 pub mod Memo
 pub mod Rounds
 pub mod Answer
+pub mod Same

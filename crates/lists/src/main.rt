@@ -1,20 +1,8 @@
 // Reads pairs of a site and a condition on standard input and prints for each what listing answers: the count and the set, two
 // hexadecimal digits a byte, or `refused N W`. The work buffer has to come back as zeros, and so has the set of a refusal. Buffers of
 // other lengths have to be refused with 1 and come back as zeros too. What does not is said behind the answer.
-use desk::Listing;
 use libc::STDOUT_FILENO;
-
-fn print_byte(x: u8) {
-    io::print_hex(STDOUT_FILENO, x as u64, 2);
-}
-
-fn print_set(set: &[u8]) {
-    let mut k = 0;
-    while k < set.len() {
-        print_byte(set[k]);
-        k += 1;
-    }
-}
+use list_entry::Listing;
 
 fn print_two(n: u64, w: u64) {
     io::print_decimal(STDOUT_FILENO, n);
@@ -27,24 +15,13 @@ fn print_answer(answer: Listing, set: &[u8]) {
         Listing::Listed(n) => {
             io::print_decimal(STDOUT_FILENO, n as u64);
             io::write_all(STDOUT_FILENO, b" ");
-            print_set(set);
+            pieces::print_bytes(set);
         }
         Listing::Refused(item, w) => {
             io::write_all(STDOUT_FILENO, b"refused ");
             print_two(item as u64, w as u64);
         }
     }
-}
-
-fn all_zero(work: &[u8]) -> bool {
-    let mut k = 0;
-    while k < work.len() {
-        if work[k] != 0 {
-            return false;
-        }
-        k += 1;
-    }
-    true
 }
 
 fn is_refused(answer: Listing) -> bool {
@@ -65,8 +42,8 @@ fn is_item_1(answer: Listing) -> bool {
 fn short_is_refused(site: &[u8], cond: &[u8]) -> bool {
     let mut set = [170u8; 31];
     let mut work = [170u8; 65535];
-    let r = desk::list(site, cond, &mut set, &mut work);
-    is_item_1(r) & all_zero(&set) & all_zero(&work)
+    let r = list_entry::list(site, cond, &mut set, &mut work);
+    is_item_1(r) & pieces::all_zero(&set) & pieces::all_zero(&work)
 }
 
 fn complain(fault: bool, text: &[u8]) {
@@ -78,10 +55,10 @@ fn complain(fault: bool, text: &[u8]) {
 fn answer(site: &[u8], cond: &[u8]) {
     let mut set = [170u8; 32];
     let mut work = [170u8; 65536];
-    let r = desk::list(site, cond, &mut set, &mut work);
+    let r = list_entry::list(site, cond, &mut set, &mut work);
     print_answer(r, &set);
-    complain(!all_zero(&work), b" work left");
-    complain(is_refused(r) & !all_zero(&set), b" set left");
+    complain(!pieces::all_zero(&work), b" work left");
+    complain(is_refused(r) & !pieces::all_zero(&set), b" set left");
     complain(!short_is_refused(site, cond), b" short buffers taken");
     io::write_all(STDOUT_FILENO, b"\n");
 }

@@ -1,6 +1,7 @@
-// Pieces of jobs, read on standard input for the test programs. A piece is written as its kind, its length, how many of its bytes
+// Pieces of jobs, read on standard input for the test programs, and bytes shown. A piece is written as its kind, its length, how many of its bytes
 // are not 0, and each of these behind its place (tests/pieces.py).
 use libc::STDIN_FILENO;
+use libc::STDOUT_FILENO;
 ghost use mathlib.Core.Path.{_≡_};
 ghost use Prim.Native.Nat.{_<_};
 ghost use lib.ListN.{length};
@@ -60,4 +61,28 @@ pub fn read(piece: &mut [u8]) -> Piece
         kind: head[0],
         len: number(head[1], head[2]),
     }
+}
+
+fn print_byte(x: u8) {
+    io::print_hex(STDOUT_FILENO, x as u64, 2);
+}
+
+// Two hexadecimal digits a byte.
+pub fn print_bytes(bytes: &[u8]) {
+    let mut k = 0;
+    while k < bytes.len() {
+        print_byte(bytes[k]);
+        k += 1;
+    }
+}
+
+pub fn all_zero(bytes: &[u8]) -> bool {
+    let mut k = 0;
+    while k < bytes.len() {
+        if bytes[k] != 0 {
+            return false;
+        }
+        k += 1;
+    }
+    true
 }

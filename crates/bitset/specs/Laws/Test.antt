@@ -17,7 +17,8 @@ use Rattle.finite.specs.Laws.Loops.{all-add}
 use Rattle.bitset.specs.Set.{setBytes, setSlots, has}
 use Rattle.bitset.specs.Laws.Bytes.{has-byte}
 
-zero-bits : (v : ℕ) → v < 256 → eqb v 0 ≡ all 8 (λ k. not (bit v k))
+-- a byte is 0 where it has no bit
+pub zero-bits : (v : ℕ) → v < 256 → eqb v 0 ≡ all 8 (λ k. not (bit v k))
 unfolding all bit
 zero-bits v h = beq-eq _ _ (all-below (λ z. Bool·beq (eqb z 0) (all 8 (λ k. not (bit z k)))) 256 tt v h)
 

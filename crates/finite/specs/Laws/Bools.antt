@@ -43,6 +43,10 @@ pub or-out : (a b : Bool) → (a || b) ≡ true → (a ≡ true) ⊎ (b ≡ true
 or-out true b p = inl refl
 or-out false b p = inr p
 
+pub or-none : (a b : Bool) → (a || b) ≡ false → (a ≡ false) × (b ≡ false)
+or-none true b p = clash refl p
+or-none false b p = (refl, p)
+
 pub not-in : {b : Bool} → ¬ (b ≡ true) → not b ≡ true
 not-in {b = true} h = absurd (h refl)
 not-in {b = false} h = refl

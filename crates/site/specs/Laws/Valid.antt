@@ -9,7 +9,7 @@ use native.Mathlib.Decide.{decLt}
 use lib.ListN.{length, getD}
 use borrow.Author.Tests.{not-false}
 use Rattle.finite.specs.Tests.{same, any}
-use Rattle.finite.specs.Laws.Bools.{clash, no-true, and-l, and-r}
+use Rattle.finite.specs.Laws.Bools.{clash, no-true, and-l, and-r, or-none}
 use Rattle.finite.specs.Laws.Below.{same-eq, eq-same, ne-same, any-none, none-any}
 use Rattle.semantics.specs.Form.{slots, labels, names, links}
 use Rattle.semantics.specs.Holds.{Model}
@@ -81,10 +81,6 @@ module _ (M : Model) (v : Valid M) where
   valid-passes = record { names-pass = valid-names; labels-pass = valid-labels; links-pass = valid-links }
 
 -- ---- a site that meets none of the items is valid
-
-or-none : (a b : Bool) → (a || b) ≡ false → (a ≡ false) × (b ≡ false)
-or-none true b e = clash refl e
-or-none false b e = (refl, e)
 
 and-none : (a b : Bool) → (a && b) ≡ false → a ≡ true → b ≡ false
 and-none true b e p = e

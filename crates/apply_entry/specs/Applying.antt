@@ -1,0 +1,22 @@
+-- What applying answers and leaves in its buffer, for all inputs. The buffer is named twice: as it was, and as it is at return (′).
+use mathlib.Core.Path.{_≡_}
+use mathlib.Core.List.{List}
+use Prim.Native.Nat.{ℕ}
+use lib.ListN.{length, replicate}
+use Rattle.verdict.specs.declared.Verdict.{Verdict}
+use Rattle.verdict.specs.declared.Verdict.the-variants.{Accepted, Refused}
+use Rattle.semantics.specs.Edit as edits
+use Rattle.site.specs.Layout.{siteBytes}
+use Rattle.site.specs.Site.{siteOf}
+use Rattle.sheet.specs.Bytes.{editsOf}
+use Rattle.apply_entry.specs.Refusal.{applyVerdict}
+
+-- the result after a verdict: the site that the whole sheet leaves; zeros where an input is refused
+unfoldable pub SiteAfter : Verdict → (site sheet result result′ : List ℕ) → Type 0
+SiteAfter Accepted site sheet result result′ = (length result′ ≡ siteBytes) × (siteOf result′ ≡ edits.sheet (editsOf sheet) (siteOf site))
+SiteAfter (Refused item w) site sheet result result′ = result′ ≡ replicate (length result) 0
+
+-- applying answers the verdict v
+pub record Answered (site sheet result result′ : List ℕ) (v : Verdict) : Type 0 where
+  pub verdict : v ≡ applyVerdict (length result) site sheet
+  pub site-after : SiteAfter v site sheet result result′

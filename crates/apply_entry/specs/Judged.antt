@@ -1,0 +1,13 @@
+-- The items that are tested before the sheet is tried on the site.
+use mathlib.Core.List.{List}
+use Prim.Native.Nat.{ℕ}
+use Rattle.verdict.specs.Verdict.{_then_}
+use Rattle.verdict.specs.declared.Verdict.{Verdict}
+use Rattle.site.specs.Layout.{siteBytes}
+use Rattle.site.specs.Refusal.{siteVerdict}
+use Rattle.sheet.specs.Refusal.{sheetVerdict}
+use Rattle.refusals.specs.Refusal.{bufferVerdict}
+
+-- 1, then 3 to 6, then 11 and 12
+unfoldable pub judged : (resultLen : ℕ) (site sheet : List ℕ) → Verdict
+judged resultLen site sheet = bufferVerdict resultLen siteBytes then siteVerdict site then sheetVerdict sheet

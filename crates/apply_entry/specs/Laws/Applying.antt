@@ -1,0 +1,89 @@
+-- The answers of applying, case by case.
+use mathlib.Core.Path.{_≡_, refl, sym, _∙_, ap}
+use mathlib.Core.List.{List}
+use mathlib.Core.Logic.{_≢_}
+use Prim.Native.Nat.{ℕ, _<_}
+use lib.ListN.{length, getD, replicate}
+use Rattle.verdict.specs.Verdict.{_then_}
+use Rattle.verdict.specs.declared.Verdict.{Verdict}
+use Rattle.verdict.specs.declared.Verdict.the-variants.{Accepted, Refused}
+use Rattle.site.specs.Layout.{siteBytes}
+use Rattle.site.specs.Site.{siteOf}
+use Rattle.site.specs.Refusal.{siteVerdict}
+use Rattle.site.specs.Laws.Same.{same-site}
+use Rattle.sheet.specs.Bytes.{editsOf}
+use Rattle.sheet.specs.Refusal.{sheetVerdict}
+use Rattle.applying.specs.Refusal.{goesVerdict}
+use Rattle.applying.specs.Applies.{Applies}
+use Rattle.applying.specs.Laws.Left.{goes-out, goes-not}
+use Rattle.refusals.specs.Refusal.{bufferVerdict}
+use Rattle.refusals.specs.Laws.Items.{buffer-in, buffer-out, buffer-not, then-out}
+use Rattle.apply_entry.specs.Refusal.{applyVerdict}
+use Rattle.apply_entry.specs.Applying.{SiteAfter, Answered}
+use Rattle.apply_entry.specs.Judged.{judged}
+
+then-assoc : (u v w : Verdict) → (u then v) then w ≡ u then (v then w)
+then-assoc Accepted v w = refl
+then-assoc (Refused n k) v w = refl
+
+-- ---- the inputs are judged
+
+module _ (n : ℕ) (site sheet : List ℕ) where
+  pub judged-result : n ≢ siteBytes → Refused 1 0 ≡ judged n site sheet
+  unfolding judged
+  judged-result h = rw (buffer-not h)
+
+  module _ (e : n ≡ siteBytes) {v : Verdict} (f : v ≡ siteVerdict site) where
+    pub judged-site : {item w : ℕ} → v ≡ Refused item w → Refused item w ≡ judged n site sheet
+    unfolding judged
+    judged-site g = rw (buffer-in e, sym f ∙ g)
+
+    pub judged-sheet : v ≡ Accepted → {r : Verdict} → r ≡ sheetVerdict sheet → r ≡ judged n site sheet
+    unfolding judged
+    judged-sheet g h = rw (buffer-in e, sym f ∙ g) h
+
+  -- what is known of accepted ones, as applying requires it
+  pub judged-accepted : judged n site sheet ≡ Accepted → (siteVerdict site ≡ Accepted) × ((sheetVerdict sheet ≡ Accepted) × (n ≡ siteBytes))
+  unfolding judged
+  judged-accepted j =
+      let p = then-out (bufferVerdict n siteBytes) _ j in
+      let q = then-out (siteVerdict site) (sheetVerdict sheet) (p .1) in
+      (q .0, (q .1, buffer-out n siteBytes (p .0)))
+
+  -- item 13 comes last
+  verdict-last : applyVerdict n site sheet ≡ (judged n site sheet then goesVerdict (editsOf sheet) (siteOf site))
+  unfolding applyVerdict judged
+  verdict-last =
+      let b = bufferVerdict n siteBytes in
+      let g = goesVerdict (editsOf sheet) (siteOf site) in
+      sym (then-assoc b (siteVerdict site then sheetVerdict sheet) g ∙ ap (λ (v : Verdict). b then v) (then-assoc (siteVerdict site) (sheetVerdict sheet) g))
+
+-- ---- applying answers
+
+after : (site sheet result result′ : List ℕ) (r : Verdict) → Applies site sheet result′ r → length result ≡ siteBytes
+    → SiteAfter r site sheet result result′
+unfolding SiteAfter
+after site sheet result result′ Accepted a l = (a .long, a .left (goes-out (editsOf sheet) (siteOf site) (sym (a .answer))))
+after site sheet result result′ (Refused item w) a l =
+    a .zeros (goes-not (editsOf sheet) (siteOf site) (sym (a .answer))) ∙ ap (λ (n : ℕ). replicate {A = ℕ} n 0) (sym l)
+
+module _ {site sheet result result′ : List ℕ} {v : Verdict} (j : v ≡ judged (length result) site sheet) where
+  pub answered-applied : v ≡ Accepted → {r : Verdict} → Applies site sheet result′ r → Answered site sheet result result′ r
+  answered-applied e {r} a =
+      let p = sym j ∙ e in
+      record {
+        verdict = a .answer ∙ sym (verdict-last (length result) site sheet ∙ rw p);
+        site-after = after site sheet result result′ r a (judged-accepted (length result) site sheet p .1 .1);
+      }
+
+  pub answered-refused : {item w : ℕ} → v ≡ Refused item w → {r : Verdict} → r ≡ Refused item w → result′ ≡ replicate (length result) 0
+      → Answered site sheet result result′ r
+  unfolding SiteAfter
+  answered-refused e f z = rw f (record { verdict = sym (verdict-last (length result) site sheet ∙ rw (sym j ∙ e)); site-after = z })
+
+-- ---- no byte of the site after is left free
+
+pub site-fixed : (site sheet result R S : List ℕ) → SiteAfter Accepted site sheet result R → SiteAfter Accepted site sheet result S
+    → ((k : ℕ) → getD R k 0 < 256) → ((k : ℕ) → getD S k 0 < 256) → R ≡ S
+unfolding SiteAfter
+site-fixed site sheet result R S p q b c = same-site R S b c (p .1 ∙ sym (q .1)) (p .0) (q .0)

@@ -1,0 +1,3 @@
+-- Laws of blocks, by topic.
+pub mod Write
+pub mod Text

@@ -1,0 +1,167 @@
+// Reads sites, conditions and sheets on standard input and prints for each three what the desk answers: the bytes that applying changes,
+// behind their places; the rewritten table; and the lists of the condition on the site after and of the rewritten table today.
+// A refusal is printed as `refused N W`. What a buffer should not hold, and a buffer of another length that is not refused, is said.
+use libc::STDOUT_FILENO;
+use list_entry::Listing;
+use rewrite_entry::Rewriting;
+use verdict::Verdict;
+
+fn print_refusal(item: u8, place: u16) {
+    io::write_all(STDOUT_FILENO, b"refused ");
+    io::print_decimal(STDOUT_FILENO, item as u64);
+    io::write_all(STDOUT_FILENO, b" ");
+    io::print_decimal(STDOUT_FILENO, place as u64);
+}
+
+fn print_byte_at(place: usize, x: u8) {
+    io::write_all(STDOUT_FILENO, b" ");
+    io::print_decimal(STDOUT_FILENO, place as u64);
+    io::write_all(STDOUT_FILENO, b":");
+    io::print_decimal(STDOUT_FILENO, x as u64);
+}
+
+// The bytes of the site after that are not those of the site before.
+fn print_changes(before: &[u8], after: &[u8]) {
+    let mut k = 0;
+    while k < after.len() {
+        if k < before.len() && before[k] != after[k] {
+            print_byte_at(k, after[k]);
+        }
+        k += 1;
+    }
+}
+
+fn complain(fault: bool, text: &[u8]) {
+    if fault {
+        io::write_all(STDOUT_FILENO, text);
+    }
+}
+
+fn is_item_1(v: Verdict) -> bool {
+    match v {
+        Verdict::Accepted => false,
+        Verdict::Refused(item, w) => (item == 1) & (w == 0),
+    }
+}
+
+// A result buffer that is a byte too short.
+fn short_site_is_refused(site: &[u8], sheet: &[u8]) -> bool {
+    let mut result = [170u8; 34351];
+    is_item_1(apply_entry::apply(site, sheet, &mut result)) & pieces::all_zero(&result)
+}
+
+fn short_table_is_refused(cond: &[u8], sheet: &[u8]) -> bool {
+    let mut result = [170u8; 12287];
+    let r = rewrite_entry::rewrite(cond, sheet, &mut result);
+    is_item_1(rewrite_entry::verdict(r))
+        & (rewrite_entry::nodes(r) == 0)
+        & pieces::all_zero(&result)
+}
+
+// Applies and prints; true where the sheet is applied.
+fn apply(site: &[u8], sheet: &[u8], result: &mut [u8]) -> bool {
+    let v = apply_entry::apply(site, sheet, result);
+    let applied = match v {
+        Verdict::Accepted => {
+            io::write_all(STDOUT_FILENO, b"applied");
+            print_changes(site, result);
+            true
+        }
+        Verdict::Refused(item, w) => {
+            print_refusal(item, w);
+            complain(!pieces::all_zero(result), b" site left");
+            false
+        }
+    };
+    complain(!short_site_is_refused(site, sheet), b" short buffer taken");
+    io::write_all(STDOUT_FILENO, b"\n");
+    applied
+}
+
+fn print_table(nodes: u32, result: &[u8]) {
+    let n = 6 * nodes as usize;
+    io::print_decimal(STDOUT_FILENO, nodes as u64);
+    io::write_all(STDOUT_FILENO, b" nodes ");
+    if n <= result.len() {
+        pieces::print_bytes(&result[0..n]);
+        complain(!pieces::all_zero(&result[n..result.len()]), b" table left");
+    }
+}
+
+// Rewrites and prints; the length of the rewritten table, 0 where it is refused.
+fn rewrite(cond: &[u8], sheet: &[u8], result: &mut [u8]) -> usize {
+    let r = rewrite_entry::rewrite(cond, sheet, result);
+    match r {
+        Rewriting::Rewritten(n) => {
+            print_table(n, result);
+        }
+        Rewriting::Refused(item, w) => {
+            print_refusal(item, w);
+            complain(!pieces::all_zero(result), b" table left");
+        }
+    }
+    complain(!short_table_is_refused(cond, sheet), b" short buffer taken");
+    io::write_all(STDOUT_FILENO, b"\n");
+    6 * rewrite_entry::nodes(r) as usize
+}
+
+fn print_list(site: &[u8], cond: &[u8]) {
+    let mut set = [170u8; 32];
+    let mut work = [170u8; 65536];
+    match list_entry::list(site, cond, &mut set, &mut work) {
+        Listing::Listed(n) => {
+            io::print_decimal(STDOUT_FILENO, n as u64);
+            io::write_all(STDOUT_FILENO, b" ");
+            pieces::print_bytes(&set);
+        }
+        Listing::Refused(item, w) => print_refusal(item, w),
+    }
+    io::write_all(STDOUT_FILENO, b"\n");
+}
+
+// Lists the table of n bytes that a buffer starts with.
+fn print_today(site: &[u8], table: &[u8], n: usize) {
+    if n <= table.len() {
+        print_list(site, &table[0..n]);
+    }
+}
+
+fn answer(site: &[u8], cond: &[u8], sheet: &[u8]) {
+    let mut after = [170u8; 34352];
+    let mut table = [170u8; 12288];
+    let applied = apply(site, sheet, &mut after);
+    let n = rewrite(cond, sheet, &mut table);
+    if applied && n > 0 {
+        io::write_all(STDOUT_FILENO, b"after ");
+        print_list(&after, cond);
+        io::write_all(STDOUT_FILENO, b"today ");
+        print_today(site, &table, n);
+    }
+}
+
+// Reads one three and prints its lines; false at the end of the input.
+fn next() -> bool {
+    let mut site = [0u8; 65536];
+    let first = pieces::read(&mut site);
+    let kind = first.kind;
+    if kind == 0 {
+        return false;
+    }
+    let mut cond = [0u8; 65536];
+    let second = pieces::read(&mut cond);
+    let mut sheet = [0u8; 65536];
+    let third = pieces::read(&mut sheet);
+    let m = first.len;
+    let n = second.len;
+    let k = third.len;
+    answer(&site[0..m], &cond[0..n], &sheet[0..k]);
+    true
+}
+
+// A proved loop has to end, so the turns are counted down from a number that no input uses up.
+fn main() {
+    let mut turns = u64::MAX;
+    while turns > 0 && next() {
+        turns -= 1;
+    }
+}

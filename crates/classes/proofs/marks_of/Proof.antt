@@ -1,0 +1,59 @@
+-- Turn s puts in all that is said of s.
+use mathlib.Core.Path.{_≡_}
+use Prim.Native.Nat.{_-_, _≤_}
+use native.Mathlib.Omega.{arith}
+use borrow.Author.Needs.{needs}
+use lib.ListN.{length, replicate}
+use Rattle.finite.specs.Tests.{any}
+use Rattle.site.specs.Site.{siteOf}
+use Rattle.bitset.specs.Set.{setSlots}
+use Rattle.partition.specs.Gains.{Gains}
+use Rattle.site.specs.Layout.{rowsBytes}
+use Rattle.partition.specs.Laws.Gains.{gains-start, gains-more, gains-done}
+use Rattle.classes.specs.Marks.{marks, marking}
+use Rattle.classes.specs.Laws.Marks.{all-marked}
+use Rattle.classes.proofs.marks_of.Statement.{statement}
+use Rattle.classes.proofs.marks_of.Tie as tie
+
+abbrev Inv-loop : tie.InvT-loop
+Inv-loop site sig₀ s₀ sig s = (s ≤ setSlots) × (length sig ≡ rowsBytes) × Gains (λ y. any s (λ k. any marks (λ c. marking (siteOf site) k c y))) (replicate rowsBytes 0) sig
+
+abbrev μ-loop : tie.MeasureT-loop
+μ-loop site sig₀ s₀ sig s = setSlots - s
+
+loop-holds : tie.Need-loop-holds Inv-loop μ-loop
+loop-holds c = let a = c .before .args in (omega arith, omega arith, gains-start (λ k y. any marks (λ c. marking (siteOf (a .site .now)) k c y)) _)
+
+slice-aggregate-put-marks : tie.Need-slice-aggregate-put-marks Inv-loop μ-loop
+slice-aggregate-put-marks c = search needs
+
+put-marks-requires : tie.Need-put-marks-requires Inv-loop μ-loop
+put-marks-requires c κs = search needs
+
+add-s : tie.Need-add-s Inv-loop μ-loop
+add-s c = omega arith
+
+loop-less : tie.Need-loop-less Inv-loop μ-loop
+loop-less c = omega arith
+
+loop-again : tie.Need-loop-again Inv-loop μ-loop
+loop-again c = let a = c .before .before .before .before .before .before .args in let l = c .before .before .before .before .loop in
+    (omega arith, omega arith, gains-more (λ k y. any marks (λ c. marking (siteOf (a .site .now)) k c y)) (replicate rowsBytes 0) (l .sig) _ (l .s) (l .inv .2) (c .before .put-marks .ensures))
+
+returns : tie.Need-returns Inv-loop μ-loop
+returns c = let a = c .before .before .before .args in let l = c .before .loop in
+    all-marked (siteOf (a .site .now)) rowsBytes _ (gains-done (λ k y. any marks (λ c. marking (siteOf (a .site .now)) k c y)) (replicate rowsBytes 0) (l .sig) setSlots (l .s) (l .inv .2) (omega arith) (omega arith))
+
+pub marks-of-spec : {M : Type 1} → statement M
+marks-of-spec =
+    tie.close
+    (tie.spec
+    Inv-loop
+    μ-loop
+    loop-holds
+    slice-aggregate-put-marks
+    put-marks-requires
+    add-s
+    loop-less
+    loop-again
+    returns)

@@ -1,0 +1,19 @@
+-- The class numbers of a site's slots. Document 01, "Classes".
+use mathlib.Core.Path.{_≡_}
+use mathlib.Core.List.{List}
+use Prim.Native.Nat.{ℕ, _<_}
+use lib.ListN.{length, getD}
+use Rattle.finite.specs.Tests.{same, any, count}
+use Rattle.bitset.specs.Set.{setSlots}
+use Rattle.semantics.specs.Form.{slots}
+use Rattle.semantics.specs.Holds.{Model}
+use Rattle.semantics.specs.Like.{IsClass}
+
+-- p has the class number of each slot: the lowest slot related to it by some likeness, that is by a bisimulation
+pub record Classes (M : Model) (p : List ℕ) : Type 0 where
+  pub long : length p ≡ setSlots
+  pub each : (s : ℕ) → s < slots → IsClass M s (getD p s 0)
+
+-- how many different class numbers p has
+unfoldable pub different : List ℕ → ℕ
+different p = count setSlots (λ c. any setSlots (λ s. same (getD p s 0) c))

@@ -1,0 +1,116 @@
+-- Slots with the same marks agree, so their partition is that before the first round.
+use mathlib.Core.Path.{_≡_, sym, _∙_, ap}
+use mathlib.Core.Bool.{Bool, true, _&&_, Bool·beq}
+use mathlib.Core.List.{List}
+use Prim.Native.Nat.{ℕ, _+_, _-_, _*_, _≤_, _<_}
+use native.Mathlib.Omega.{arith}
+use lib.ListN.{replicate}
+use Rattle.finite.specs.Tests.{same, below, any, all}
+use Rattle.finite.specs.Laws.Bools.{either, look, and-in, and-l, and-r, both, beq-true}
+use Rattle.finite.specs.Laws.Below.{same-eq, same-refl, eq-same, below-in, below-out, below-not, not-below, any-in, any-out, all-in, all-out}
+use Rattle.finite.specs.Laws.First.{first-is, none-start}
+use Rattle.bitset.specs.Set.{setSlots}
+use Rattle.semantics.specs.Form.{labels, names}
+use Rattle.semantics.specs.Holds.{Model}
+use Rattle.semantics.specs.Laws.Refine.{agree, like, eq-beq}
+use Rattle.partition.specs.Gains.{Gains}
+use Rattle.partition.specs.Rows.{inRow, sameRow}
+use Rattle.partition.specs.Partition.{together, Partition, Parts, byRow}
+use Rattle.partition.specs.Laws.Gains.{zeros-at, gains-zeros}
+use Rattle.partition.specs.Laws.Parts.{parts-map}
+use Rattle.classes.specs.Marks.{labelsFrom, namesFrom, marks, mark, Marked, marking}
+
+module _ (M : Model) where
+  -- what `has_mark` answers: below the labels, below the names, and above
+  pub mark-low : (s c : ℕ) → c < labelsFrom → mark M s c ≡ M .present s
+  unfolding mark
+  mark-low s c h = rw (below-in c labelsFrom h)
+
+  pub mark-mid : (s c : ℕ) → labelsFrom ≤ c → c < namesFrom → mark M s c ≡ M .marked (c - labelsFrom) s
+  unfolding mark
+  mark-mid s c h k = rw (below-not c labelsFrom h, below-in c namesFrom k)
+
+  pub mark-high : (s c : ℕ) → namesFrom ≤ c → mark M s c ≡ same (M .place (c - namesFrom)) s
+  unfolding mark
+  mark-high s c h = rw (below-not c labelsFrom (omega arith), below-not c namesFrom h)
+
+  mark-label : (s p : ℕ) → p < labels → mark M s (labelsFrom + p) ≡ M .marked p s
+  unfolding mark
+  mark-label s p h =
+      rw (below-not (labelsFrom + p) labelsFrom (omega arith), below-in (labelsFrom + p) namesFrom (omega arith))
+      (ap (λ (x : ℕ). M .marked x s) (omega arith))
+
+  mark-name : (s n : ℕ) → mark M s (namesFrom + n) ≡ same (M .place n) s
+  unfolding mark
+  mark-name s n =
+      rw (below-not (namesFrom + n) labelsFrom (omega arith), below-not (namesFrom + n) namesFrom (omega arith))
+      (ap (λ (x : ℕ). same (M .place x) s) (omega arith))
+
+  -- the marks as the loops put them in
+  pub all-marked : (n : ℕ) (G : List ℕ) → Gains (λ y. any setSlots (λ s. any marks (λ c. marking M s c y))) (replicate n 0) G → Marked M G
+  unfolding Marked marking
+  all-marked n G g s c h k = gains-zeros (λ y. any setSlots (λ s. any marks (λ c. marking M s c y))) n G g (setSlots * s + c) ∙ both
+      (λ e.
+      let a = any-out setSlots _ e in
+      let b = any-out marks _ (a .2) in
+      let m : mark M (a .0) (b .0) ≡ true = and-l _ _ (b .2) in
+      let y : setSlots * s + c ≡ setSlots * a .0 + b .0 = same-eq (and-r (mark M (a .0) (b .0)) _ (b .2)) in
+      and-in (below-in c marks (omega (arith, b .1))) (moved (omega (arith, b .1)) (omega (arith, b .1)) m))
+      (λ e. any-in setSlots _ s h (any-in marks _ c (below-out c marks (and-l _ _ e)) (and-in (and-r (below c marks) _ e) (same-refl (setSlots * s + c)))))
+    where
+      moved : {a b a′ b′ : ℕ} → a ≡ a′ → b ≡ b′ → mark M a b ≡ true → mark M a′ b′ ≡ true
+      moved x y e = rw (← x, ← y) e
+
+  -- slots with the same marks agree, and the other way
+  turned : (x n : ℕ) → same x (M .place n) ≡ same (M .place n) x
+  turned x n = both (λ e. eq-same (sym (same-eq e))) (λ e. eq-same (sym (same-eq e)))
+
+  marks-agree : (s t : ℕ) → ((c : ℕ) → c < marks → mark M s c ≡ mark M t c) → agree M s t ≡ true
+  unfolding agree
+  marks-agree s t f = and-in (eq-beq (sym (mark-low s 0 (omega arith)) ∙ f 0 (omega arith) ∙ mark-low t 0 (omega arith))) (and-in
+      (all-in labels _ (λ p h. eq-beq (sym (mark-label s p h) ∙ f (labelsFrom + p) (omega arith) ∙ mark-label t p h)))
+      (all-in names _ (λ n h. eq-beq (turned s n ∙ sym (mark-name s n) ∙ f (namesFrom + n) (omega arith) ∙ mark-name t n ∙ sym (turned t n)))))
+
+  agree-marks : (s t : ℕ) → agree M s t ≡ true → (c : ℕ) → c < marks → mark M s c ≡ mark M t c
+  unfolding agree
+  agree-marks s t e c h =
+      let a : Bool·beq (M .present s) (M .present t) ≡ true = and-l _ _ e in
+      let d = and-r (Bool·beq (M .present s) (M .present t)) _ e in
+      let on-labels : all labels (λ p. Bool·beq (M .marked p s) (M .marked p t)) ≡ true = and-l _ _ d in
+      let on-names = and-r (all labels (λ p. Bool·beq (M .marked p s) (M .marked p t))) _ d in
+      either
+      (look (below c labelsFrom))
+      (λ x. let l = below-out c labelsFrom x in mark-low s c l ∙ beq-true _ _ a ∙ sym (mark-low t c l))
+      (λ x. let g = not-below c labelsFrom x in
+      either
+      (look (below c namesFrom))
+      (λ y. let l = below-out c namesFrom y in
+      mark-mid s c g l ∙ beq-true _ _ (all-out labels _ on-labels (c - labelsFrom) (omega arith)) ∙ sym (mark-mid t c g l))
+      (λ y. let l = not-below c namesFrom y in
+      mark-high s c l ∙ sym (turned s (c - namesFrom)) ∙ beq-true _ _ (all-out names _ on-names (c - namesFrom) (omega arith)) ∙ turned t (c - namesFrom) ∙ sym (mark-high t c l)))
+
+  rows-agree : (G : List ℕ) → Marked M G → (s t : ℕ) → s < setSlots → t < setSlots → sameRow G s t ≡ agree M s t
+  unfolding Marked sameRow
+  rows-agree G g s t h k = both
+      (λ e. marks-agree s t (λ c l.
+      let b = below-in c marks l in
+      let m : c < setSlots = omega arith in
+      rw b at (sym (g s c h m) ∙ beq-true (inRow G s c) (inRow G t c) (all-out setSlots _ e c m) ∙ g t c k m)))
+      (λ e. all-in setSlots _ (λ c l. eq-beq (g s c h l ∙ either
+      (look (below c marks))
+      (λ b. ap (λ (x : Bool). below c marks && x) (agree-marks s t e c (below-out c marks b)))
+      (λ b. rw b) ∙ sym (g t c k l))))
+
+-- all slots in one class
+module _ (n : ℕ) where
+  zeros-together : (s t : ℕ) → together (replicate n 0) s t ≡ true
+  zeros-together s t = eq-same (zeros-at n s ∙ sym (zeros-at n t))
+
+  pub zeros-partition : Partition (replicate n 0)
+  unfolding Partition
+  zeros-partition s h = zeros-at n s ∙ sym (first-is setSlots (together (replicate n 0) s) 0 (omega arith) (none-start _) (zeros-together s 0))
+
+  -- split by their marks they are the partition before the first round
+  pub marked-part : (M : Model) (G r : List ℕ) → Marked M G → Parts (byRow (replicate n 0) G) r → Parts (like 0 M) r
+  unfolding byRow like
+  marked-part M G r g = parts-map _ _ r (λ s t h k. rw (zeros-together s t) (rows-agree M G g s t h k))

@@ -1,0 +1,147 @@
+// The class numbers of a site's slots: a partition, refined round by round until a round changes nothing.
+ghost use mathlib.Core.Path.{_≡_};
+ghost use Prim.Native.Nat.{_<_};
+ghost use lib.ListN.{length, getD};
+ghost use Rattle.finite.specs.Tests.{same, any, all};
+ghost use Rattle.bitset.specs.Set.{setSlots};
+ghost use Rattle.semantics.specs.Laws.Refine.{like};
+ghost use Rattle.site.specs.Layout.{siteBytes, rowsBytes};
+ghost use Rattle.site.specs.Site.{siteOf};
+ghost use Rattle.partition.specs.Gains.{Gains};
+ghost use Rattle.partition.specs.Rows.{waysBytes};
+ghost use Rattle.partition.specs.Partition.{Partition, Parts, Next};
+ghost use Rattle.classes.specs.Classes.{Classes, different};
+ghost use Rattle.classes.specs.Marks.{marks, mark, Marked, marking};
+use bitset::SET_BYTES;
+use bitset::SET_SLOTS;
+use neighbours::WAYS;
+use site::LABELS;
+use site::NAMES;
+use site::ROWS_BYTES;
+
+// What is said of a slot, as bits: that it is present, its labels, its names.
+const LABELS_FROM: usize = 1;
+
+const NAMES_FROM: usize = LABELS_FROM + LABELS;
+
+const MARKS: usize = NAMES_FROM + NAMES;
+
+fn wide(x: u8) -> usize
+    ensures { λ r. ⌜ (r ≡ x) × (r < setSlots) ⌝ }
+{
+    x as usize
+}
+
+// Is mark c said of slot s?
+fn has_mark(site: &[u8], s: usize, c: usize) -> bool
+    requires { ⌜ (length (now site) ≡ siteBytes) × ((s < setSlots) × (c < marks)) ⌝ }
+    ensures { λ r. ⌜ r ≡ mark (siteOf (now (site .entry))) s c ⌝ }
+{
+    if c < LABELS_FROM {
+        return site::present(site, s);
+    }
+    if c < NAMES_FROM {
+        return site::has_label(site, c - LABELS_FROM, s);
+    }
+    site::place(site, c - NAMES_FROM) == s
+}
+
+// Puts mark c into row s, where it is said of s.
+fn put_mark(site: &[u8], s: usize, c: usize, sig: &mut [u8])
+    requires { ⌜ (length (now site) ≡ siteBytes) × ((s < setSlots) × ((c < marks) × (length (now sig) ≡ rowsBytes))) ⌝ }
+    ensures { λ _. ⌜ Gains (marking (siteOf (now (site .entry))) s c) (now (sig .entry)) (now (sig .exit)) ⌝ }
+{
+    if !has_mark(site, s, c) {
+        return;
+    }
+    bitset::insert(sig, SET_SLOTS * s + c);
+}
+
+// Puts all that is said of s into row s.
+fn put_marks(site: &[u8], s: usize, sig: &mut [u8])
+    requires { ⌜ (length (now site) ≡ siteBytes) × ((s < setSlots) × (length (now sig) ≡ rowsBytes)) ⌝ }
+    ensures { λ _. ⌜ Gains (λ y. any marks (λ c. marking (siteOf (now (site .entry))) s c y)) (now (sig .entry)) (now (sig .exit)) ⌝ }
+{
+    for c in 0..MARKS {
+        put_mark(site, s, c, sig);
+    }
+}
+
+// What is said of each slot.
+fn marks_of(site: &[u8]) -> [u8; ROWS_BYTES]
+    requires { ⌜ length (now site) ≡ siteBytes ⌝ }
+    ensures { λ r. ⌜ Marked (siteOf (now (site .entry))) r ⌝ }
+{
+    let mut sig = [0u8; ROWS_BYTES];
+    for s in 0..SET_SLOTS {
+        put_marks(site, s, &mut sig);
+    }
+    sig
+}
+
+// The partition before the first round: one class, split by what is said of its slots.
+fn start(site: &[u8]) -> [u8; SET_SLOTS]
+    requires { ⌜ length (now site) ≡ siteBytes ⌝ }
+    ensures { λ r. ⌜ Parts (like 0 (siteOf (now (site .entry)))) r ⌝ }
+{
+    let sig = marks_of(site);
+    let one = [0u8; SET_SLOTS];
+    splitting::by_rows(&one, &sig)
+}
+
+// One round: the classes of p, split by the classes of p that their slots reach by each way.
+fn round(ways: &[u8], p: [u8; SET_SLOTS]) -> [u8; SET_SLOTS]
+    requires { ⌜ (length (now ways) ≡ waysBytes) × Partition p ⌝ }
+    ensures { λ r. ⌜ Next (now (ways .entry)) p r ⌝ }
+{
+    let mut q = p;
+    for w in 0..WAYS {
+        let b = ROWS_BYTES * w;
+        let e = b + ROWS_BYTES;
+        let next = splitting::by_seen(q, &ways[b..e], &p);
+        q = next;
+    }
+    q
+}
+
+fn same_partition(p: [u8; SET_SLOTS], q: [u8; SET_SLOTS]) -> bool
+    ensures { λ r. ⌜ r ≡ all setSlots (λ s. same (getD p s 0) (getD q s 0)) ⌝ }
+{
+    for s in 0..SET_SLOTS {
+        if p[s] != q[s] {
+            return false;
+        }
+    }
+    true
+}
+
+// The class number of each slot.
+pub fn refine(site: &[u8]) -> [u8; SET_SLOTS]
+    requires { ⌜ length (now site) ≡ siteBytes ⌝ }
+    ensures { λ r. ⌜ Classes (siteOf (now (site .entry))) r ⌝ }
+{
+    let ways = neighbours::of_site(site);
+    let mut p = start(site);
+    let mut rounds: usize = 0;
+    while rounds < SET_SLOTS {
+        let q = round(&ways, p);
+        if same_partition(p, q) {
+            return p;
+        }
+        p = q;
+        rounds += 1;
+    }
+    p
+}
+
+// How many different numbers there are.
+pub fn count(classes: &[u8]) -> u32
+    requires { ⌜ length (now classes) ≡ setSlots ⌝ }
+    ensures { λ r. ⌜ r ≡ different (now (classes .entry)) ⌝ }
+{
+    let mut seen = [0u8; SET_BYTES];
+    for s in 0..SET_SLOTS {
+        bitset::insert(&mut seen, wide(classes[s]));
+    }
+    bitset::count(&seen)
+}

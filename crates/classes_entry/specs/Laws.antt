@@ -1,0 +1,3 @@
+-- Laws of class numbers for every input, by topic.
+pub mod Refusal
+pub mod Classing

@@ -1,0 +1,8 @@
+-- Which inputs numbering the classes refuses, in document 01's order.
+pub mod Refusal
+-- the numbers and values of its answer
+pub mod Answer
+-- what it answers and leaves in its buffer
+pub mod Classing
+-- what is proved of them
+pub mod Laws

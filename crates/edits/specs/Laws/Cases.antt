@@ -1,0 +1,130 @@
+-- Booleans by cases, as the laws of the changes need them.
+use mathlib.Core.Path.{_≡_, refl, sym, _∙_}
+use mathlib.Core.Logic.{_⊎_, inl, inr}
+use mathlib.Core.Bool.{Bool, true, false, not, _&&_, _||_, cond, and-true, or-false}
+use Prim.Native.Nat.{ℕ, _+_}
+use native.Mathlib.Omega.{arith}
+use Rattle.finite.specs.Tests.{same, below}
+use Rattle.finite.specs.Laws.Bools.{either, clash, both, and-l, or-l, or-r, or-out}
+use Rattle.finite.specs.Laws.Below.{equal?, same-eq, eq-same, below-in, below-out}
+
+pub cond-yes {ℓ} : {A : Type ℓ} {b : Bool} (x y : A) → b ≡ true → cond b x y ≡ x
+cond-yes {b = true} x y p = refl
+cond-yes {b = false} x y p = clash p refl
+
+pub cond-no {ℓ} : {A : Type ℓ} {b : Bool} (x y : A) → b ≡ false → cond b x y ≡ y
+cond-no {b = true} x y p = clash refl p
+cond-no {b = false} x y p = refl
+
+pub cond-same {ℓ} : {A : Type ℓ} (b : Bool) (x : A) → cond b x x ≡ x
+cond-same true x = refl
+cond-same false x = refl
+
+-- tests under a test that has passed
+pub guard : (b : Bool) {x y : Bool} → (b ≡ true → x ≡ y) → (b && x) ≡ (b && y)
+guard true h = h refl
+guard false h = refl
+
+-- an address is equal where its parts are
+pub same-by : {m n : ℕ} {b : Bool} → (m ≡ n → b ≡ true) → (b ≡ true → m ≡ n) → same m n ≡ b
+same-by f g = both (λ p. f (same-eq p)) (λ p. eq-same (g p))
+
+-- ---- a test that is changed where another passes: by "or" that is put in, by "and not" it is taken out
+
+abbrev pub takes : Bool → Bool → Bool
+takes a b = a && not b
+
+pub record Changes (g : Bool → Bool → Bool) : Type 0 where
+  pub keeps : (a : Bool) → g a false ≡ a
+  pub comes : (a b : Bool) → g a b ≡ true → (a ≡ true) ⊎ (b ≡ true)
+
+pub puts-changes : Changes _||_
+puts-changes = record { keeps = or-false; comes = or-out }
+
+pub takes-changes : Changes takes
+takes-changes = record { keeps = and-true; comes = λ a b p. inl (and-l a (not b) p) }
+
+-- changed at b alone, where d passes
+module _ (g : Bool → Bool → Bool) (ch : Changes g) where
+  pub at-cond : (a b d : Bool) → g a (b && d) ≡ cond b (g a d) a
+  at-cond a true d = refl
+  at-cond a false d = ch .keeps a
+
+  pub cond-comes : (a b d : Bool) → cond b (g a d) a ≡ true → (a ≡ true) ⊎ ((b ≡ true) × (d ≡ true))
+  cond-comes a true d p = either (ch .comes a d p) inl (λ q. inr (refl, q))
+  cond-comes a false d p = inl p
+
+  pub cond-off : (a b c d : Bool) → (b && c) ≡ false → a ≡ cond b (g a (c && d)) a
+  cond-off a true true d p = clash refl p
+  cond-off a true false d p = sym (ch .keeps a)
+  cond-off a false c d p = refl
+
+-- what is taken out was in
+pub cond-was : (a b d : Bool) → cond b (a && d) a ≡ true → a ≡ true
+cond-was a true d p = and-l a d p
+cond-was a false d p = p
+
+-- ---- one more turn of a loop: e is "this one", b is "one before it"
+
+pub below-more : (q i : ℕ) → below q (i + 1) ≡ (below q i || same q i)
+below-more q i =
+    both
+    (λ p.
+    let h = below-out q (i + 1) p in
+    either (equal? q i) (λ e. or-r (below q i) _ (eq-same e)) (λ e. or-l _ _ (below-in q i (omega arith))))
+    (λ p.
+    either
+    (or-out _ _ p)
+    (λ b. let h = below-out q i b in below-in q (i + 1) (omega arith))
+    (λ e. let h = same-eq e in below-in q (i + 1) (omega arith)))
+
+pub more-cond : (a b c e : Bool) → cond e ((a && not (b && c)) && not c) (a && not (b && c)) ≡ (a && not ((b || e) && c))
+more-cond false b c true = refl
+more-cond false b c false = refl
+more-cond true true true true = refl
+more-cond true true true false = refl
+more-cond true true false true = refl
+more-cond true true false false = refl
+more-cond true false true true = refl
+more-cond true false true false = refl
+more-cond true false false true = refl
+more-cond true false false false = refl
+
+pub more-and : (a b c e : Bool) → ((a && not (b && c)) && not (e && c)) ≡ (a && not ((b || e) && c))
+more-and false b c e = refl
+more-and true true true e = refl
+more-and true true false true = refl
+more-and true true false false = refl
+more-and true false c e = refl
+
+pub more-place : (b e : Bool) (w x : ℕ)
+    → cond (e && same (cond (b && same w x) 0 w) x) 0 (cond (b && same w x) 0 w) ≡ cond ((b || e) && same w x) 0 w
+more-place true e w x = go e (same w x) (same w x) refl refl
+  where
+    go : (e p q : Bool) → same w x ≡ p → p ≡ q → cond (e && same (cond q 0 w) x) 0 (cond q 0 w) ≡ cond q 0 w
+    go e p true f g = cond-same (e && same 0 x) 0
+    go true p false f g = cond-no 0 w (f ∙ g)
+    go false p false f g = refl
+more-place false e w x = refl
+
+-- in link m, the pairs (s, x) and (x, s) for one more s: p is "to x", q is "from x"
+pub more-pairs : (a m p q bs bt es et : Bool)
+    → cond m ((cond m ((a && not (m && ((p && bs) || (q && bt)))) && not (es && p)) (a && not (m && ((p && bs) || (q && bt))))) && not (q && et))
+    (cond m ((a && not (m && ((p && bs) || (q && bt)))) && not (es && p)) (a && not (m && ((p && bs) || (q && bt)))))
+    ≡ (a && not (m && ((p && (bs || es)) || (q && (bt || et)))))
+more-pairs a false p q bs bt es et = refl
+more-pairs false true p q bs bt es et = refl
+more-pairs true true true true true bt es et = refl
+more-pairs true true true true false true true et = refl
+more-pairs true true true true false true false et = refl
+more-pairs true true true true false false true et = refl
+more-pairs true true true true false false false et = refl
+more-pairs true true true false true bt es et = refl
+more-pairs true true true false false bt true et = refl
+more-pairs true true true false false bt false et = refl
+more-pairs true true false true bs true true et = refl
+more-pairs true true false true bs true false et = refl
+more-pairs true true false true bs false true et = refl
+more-pairs true true false true bs false false et = refl
+more-pairs true true false false bs bt true et = refl
+more-pairs true true false false bs bt false et = refl

@@ -1,0 +1,28 @@
+-- Document 01's number, W and counts for each case of the answer of a job.
+use Prim.Native.Nat.{ℕ}
+use Rattle.verdict.specs.declared.Verdict.{Verdict}
+use Rattle.verdict.specs.declared.Verdict.the-variants as verdict
+use Rattle.job_entry.specs.declared.Job.{Job}
+use Rattle.job_entry.specs.declared.Job.the-variants.{Done, Refused}
+
+-- the verdict, of which `reasonOf` gives the number (0 where no item is met) and `whereOf` gives W
+abbrev pub verdictOf : Job → Verdict
+verdictOf (Done a t n c) = verdict.Accepted
+verdictOf (Refused item w) = verdict.Refused item w
+
+-- the slots listed on the site after, and today; the nodes of the rewritten table; the different class numbers
+abbrev pub afterOf : Job → ℕ
+afterOf (Done a t n c) = a
+afterOf (Refused item w) = 0
+
+abbrev pub todayOf : Job → ℕ
+todayOf (Done a t n c) = t
+todayOf (Refused item w) = 0
+
+abbrev pub nodesOf : Job → ℕ
+nodesOf (Done a t n c) = n
+nodesOf (Refused item w) = 0
+
+abbrev pub classesOf : Job → ℕ
+classesOf (Done a t n c) = c
+classesOf (Refused item w) = 0

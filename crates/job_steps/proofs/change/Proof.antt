@@ -1,0 +1,46 @@
+-- Item 13 by applying, then item 14 by rewriting.
+use Rattle.job_steps.specs.Laws.Steps.{changed-then, changed-stuck}
+use borrow.Author.Needs.{needs}
+use Rattle.job_steps.proofs.change.Statement.{statement}
+use Rattle.job_steps.proofs.change.Tie as tie
+
+apply-requires : tie.Need-apply-requires
+apply-requires c κs = search needs
+
+enum-told : tie.Need-enum-told
+enum-told c = search needs
+
+rewrite-requires : tie.Need-rewrite-requires
+rewrite-requires c κs = search needs
+
+enum-known-v : tie.Need-enum-known-v
+enum-known-v c = search needs
+
+same-length : tie.Need-same-length
+same-length c = search needs
+
+same-length-2 : tie.Need-same-length-2
+same-length-2 c = search needs
+
+returns : tie.Need-returns
+returns c = changed-then (c .before .before .before .before .before .before .before .before .apply .ensures) (c .before .before .before .before .enum-told .given .1) (c .before .before .rewrite .ensures)
+
+same-length-3 : tie.Need-same-length-3
+same-length-3 c = search needs
+
+returns-2 : tie.Need-returns-2
+returns-2 c = changed-stuck (c .before .before .before .before .before .apply .ensures) (c .before .v .given .1)
+
+pub change-spec : {M : Type 1} → statement M
+change-spec =
+    tie.close
+    (tie.spec
+    apply-requires
+    enum-told
+    rewrite-requires
+    enum-known-v
+    same-length
+    same-length-2
+    returns
+    same-length-3
+    returns-2)

@@ -1,0 +1,2 @@
+-- Laws of a job's steps.
+pub mod Steps

@@ -1,0 +1,3 @@
+-- Laws of listing for every input, by topic.
+pub mod Refusal
+pub mod Listing

@@ -1,0 +1,29 @@
+-- What listing answers and leaves in its buffers, for all inputs. A buffer is named twice: as it was, and as it is at return (′).
+use mathlib.Core.Path.{_≡_}
+use mathlib.Core.List.{List}
+use Prim.Native.Nat.{ℕ}
+use lib.ListN.{length, replicate}
+use Rattle.verdict.specs.declared.Verdict.{Verdict}
+use Rattle.verdict.specs.declared.Verdict.the-variants.{Accepted, Refused}
+use Rattle.semantics.specs.Table.{formOf}
+use Rattle.site.specs.Site.{siteOf}
+use Rattle.condition.specs.Bytes.{tableOf}
+use Rattle.even_rule.specs.Free.{FreeAfter}
+use Rattle.listing.specs.Listed.{Listed}
+use Rattle.list_entry.specs.Refusal.{listVerdict}
+
+-- the set and the count after a verdict: the slots that the condition lists on the site; zeros where an input is refused
+unfoldable pub SetAfter : Verdict → (site table set set′ : List ℕ) (n : ℕ) → Type 0
+SetAfter Accepted site table set set′ n = Listed (siteOf site) (formOf (tableOf table)) set′ n
+SetAfter (Refused item w) site table set set′ n = (set′ ≡ replicate (length set) 0) × (n ≡ 0)
+
+-- listing answers the verdict v and the count n
+pub record Answered (site table set set′ work work′ : List ℕ) (v : Verdict) (n : ℕ) : Type 0 where
+  pub verdict : v ≡ listVerdict (length set) (length work) site table
+  pub set-after : SetAfter v site table set set′ n
+  pub work-zero : work′ ≡ replicate (length work) 0
+
+-- the inputs are judged with the verdict v, and these masks of free variables are handed on
+pub record Judged (setLen workLen : ℕ) (site table masks : List ℕ) (v : Verdict) : Type 0 where
+  pub verdict : v ≡ listVerdict setLen workLen site table
+  pub masks-after : FreeAfter v table masks

@@ -1,0 +1,14 @@
+-- Which inputs listing refuses: the items of document 01, "Reasons for sending a job back", in their order.
+use mathlib.Core.List.{List}
+use Prim.Native.Nat.{ℕ}
+use Rattle.bitset.specs.Set.{setBytes}
+use Rattle.verdict.specs.Verdict.{_then_}
+use Rattle.verdict.specs.declared.Verdict.{Verdict}
+use Rattle.site.specs.Refusal.{siteVerdict}
+use Rattle.condition.specs.Refusal.{conditionVerdict}
+use Rattle.refusals.specs.Refusal.{workBytes, bufferVerdict}
+
+-- listing: 1 of its two buffers, then 3 to 6, then 7 to 10
+unfoldable pub listVerdict : (setLen workLen : ℕ) (site table : List ℕ) → Verdict
+listVerdict setLen workLen site table =
+    bufferVerdict setLen setBytes then bufferVerdict workLen workBytes then siteVerdict site then conditionVerdict table

@@ -1,0 +1,2 @@
+-- Laws of the neighbours, by topic.
+pub mod Steps

@@ -1,0 +1,26 @@
+-- What a link puts into the rows of the ways.
+use mathlib.Core.Bool.{Bool, _&&_, _||_}
+use Prim.Native.Nat.{ℕ, _+_, _*_}
+use Rattle.finite.specs.Tests.{same, any}
+use Rattle.bitset.specs.Set.{setSlots}
+use Rattle.semantics.specs.Form.{links}
+use Rattle.semantics.specs.Holds.{Model}
+use Rattle.site.specs.Layout.{rowsBytes}
+
+-- the bit of slot t in row s of way w
+abbrev pub at : ℕ → ℕ → ℕ → ℕ
+at w s t = rowsBytes * 8 * w + (setSlots * s + t)
+
+-- t in row s of way m, and s in row t of its reverse
+unfoldable pub joins : ℕ → ℕ → ℕ → ℕ → Bool
+joins m s t y = same y (at m s t) || same y (at (m + links) t s)
+
+-- the same where link m leads from s to t; for the eight slots t of byte i; and for all slots t
+unfoldable pub linkJoins : Model → ℕ → ℕ → ℕ → ℕ → Bool
+linkJoins M m s t y = M .link m s t && joins m s t y
+
+unfoldable pub eightJoins : Model → ℕ → ℕ → ℕ → ℕ → Bool
+eightJoins M m s i y = any 8 (λ j. linkJoins M m s (8 * i + j) y)
+
+unfoldable pub targetJoins : Model → ℕ → ℕ → ℕ → Bool
+targetJoins M m s y = any setSlots (λ t. linkJoins M m s t y)

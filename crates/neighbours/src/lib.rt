@@ -1,0 +1,114 @@
+// The neighbours of each slot by the ways 0 to 15, as rows of bits: read off a site once, before the rounds of refinement.
+ghost use mathlib.Core.Path.{_≡_};
+ghost use Prim.Native.Nat.{_≤_, _<_};
+ghost use lib.ListN.{length};
+ghost use Rattle.finite.specs.Tests.{any};
+ghost use Rattle.bitset.specs.Set.{setBytes, setSlots};
+ghost use Rattle.semantics.specs.Form.{links};
+ghost use Rattle.site.specs.Layout.{siteBytes, generalLinks};
+ghost use Rattle.site.specs.Site.{siteOf};
+ghost use Rattle.partition.specs.Gains.{Gains};
+ghost use Rattle.partition.specs.Rows.{waysBytes, Neighbours};
+ghost use Rattle.neighbours.specs.Steps.{joins, linkJoins, eightJoins, targetJoins};
+use bitset::SET_BYTES;
+use bitset::SET_SLOTS;
+use site::GENERAL_LINKS;
+use site::LINKS;
+use site::ROWS_AT;
+use site::ROWS_BYTES;
+
+// The links and their reverses. The rows of a way are 256 sets, as those of a general link.
+pub const WAYS: usize = LINKS + LINKS;
+
+pub const WAYS_BYTES: usize = ROWS_BYTES * WAYS;
+
+const WAY_BITS: usize = ROWS_BYTES * 8;
+
+// Slot t becomes a neighbour of s by way m, and s one of t by the reverse of m.
+fn join(m: usize, s: usize, t: usize, ways: &mut [u8])
+    requires { ⌜ (m < links) × ((s < setSlots) × ((t < setSlots) × (length (now ways) ≡ waysBytes))) ⌝ }
+    ensures { λ _. ⌜ Gains (joins m s t) (now (ways .entry)) (now (ways .exit)) ⌝ }
+{
+    bitset::insert(ways, WAY_BITS * m + (SET_SLOTS * s + t));
+    bitset::insert(ways, WAY_BITS * (m + LINKS) + (SET_SLOTS * t + s));
+}
+
+// Joins s and t where the general link m leads from s to t.
+fn join_linked(site: &[u8], m: usize, s: usize, t: usize, ways: &mut [u8])
+    requires { ⌜ (length (now site) ≡ siteBytes) × ((m < generalLinks) × ((s < setSlots) × ((t < setSlots) × (length (now ways) ≡ waysBytes)))) ⌝ }
+    ensures { λ _. ⌜ Gains (linkJoins (siteOf (now (site .entry))) m s t) (now (ways .entry)) (now (ways .exit)) ⌝ }
+{
+    if !bitset::member(site, (ROWS_AT + ROWS_BYTES * m + SET_BYTES * s) * 8 + t) {
+        return;
+    }
+    join(m, s, t, ways);
+}
+
+// Joins s and its targets by the general link m among the eight slots of byte i.
+fn join_eight(site: &[u8], m: usize, s: usize, i: usize, ways: &mut [u8])
+    requires { ⌜ (length (now site) ≡ siteBytes) × ((m < generalLinks) × ((s < setSlots) × ((i < setBytes) × (length (now ways) ≡ waysBytes)))) ⌝ }
+    ensures { λ _. ⌜ Gains (eightJoins (siteOf (now (site .entry))) m s i) (now (ways .entry)) (now (ways .exit)) ⌝ }
+{
+    if site[ROWS_AT + ROWS_BYTES * m + SET_BYTES * s + i] == 0 {
+        return;
+    }
+    for j in 0..8 {
+        join_linked(site, m, s, 8 * i + j, ways);
+    }
+}
+
+// Joins s and its targets by the general link m.
+fn join_row(site: &[u8], m: usize, s: usize, ways: &mut [u8])
+    requires { ⌜ (length (now site) ≡ siteBytes) × ((m < generalLinks) × ((s < setSlots) × (length (now ways) ≡ waysBytes))) ⌝ }
+    ensures { λ _. ⌜ Gains (targetJoins (siteOf (now (site .entry))) m s) (now (ways .entry)) (now (ways .exit)) ⌝ }
+{
+    for i in 0..SET_BYTES {
+        join_eight(site, m, s, i, ways);
+    }
+}
+
+// Joins s and its target by the functional link f, where it has one.
+fn join_target(site: &[u8], f: usize, s: usize, ways: &mut [u8])
+    requires { ⌜ (length (now site) ≡ siteBytes) × ((generalLinks ≤ f) × ((f < links) × ((s < setSlots) × (length (now ways) ≡ waysBytes)))) ⌝ }
+    ensures { λ _. ⌜ Gains (targetJoins (siteOf (now (site .entry))) f s) (now (ways .entry)) (now (ways .exit)) ⌝ }
+{
+    let t = site::target(site, f, s);
+    if t == 0 {
+        return;
+    }
+    join(f, s, t, ways);
+}
+
+// Joins s and its targets by link m.
+fn join_targets(site: &[u8], m: usize, s: usize, ways: &mut [u8])
+    requires { ⌜ (length (now site) ≡ siteBytes) × ((m < links) × ((s < setSlots) × (length (now ways) ≡ waysBytes))) ⌝ }
+    ensures { λ _. ⌜ Gains (targetJoins (siteOf (now (site .entry))) m s) (now (ways .entry)) (now (ways .exit)) ⌝ }
+{
+    if m < GENERAL_LINKS {
+        join_row(site, m, s, ways);
+        return;
+    }
+    join_target(site, m, s, ways);
+}
+
+// Joins the ends of link m.
+fn join_ends(site: &[u8], m: usize, ways: &mut [u8])
+    requires { ⌜ (length (now site) ≡ siteBytes) × ((m < links) × (length (now ways) ≡ waysBytes)) ⌝ }
+    ensures { λ _. ⌜ Gains (λ y. any setSlots (λ s. targetJoins (siteOf (now (site .entry))) m s y)) (now (ways .entry)) (now (ways .exit)) ⌝ }
+{
+    for s in 0..SET_SLOTS {
+        join_targets(site, m, s, ways);
+    }
+}
+
+// The neighbours by each way.
+pub fn of_site(site: &[u8]) -> [u8; WAYS_BYTES]
+    requires { ⌜ length (now site) ≡ siteBytes ⌝ }
+    ensures { λ r. ⌜ Neighbours (siteOf (now (site .entry))) r ⌝ }
+{
+    let mut ways = [0u8; WAYS_BYTES];
+    for m in 0..LINKS {
+        join_ends(site, m, &mut ways);
+    }
+    ways
+}

@@ -1,0 +1,59 @@
+-- Edits that leave a leaf as it is, by the numbers of their variants, as the last arm of a match knows them; and the link of a CN2.
+use mathlib.Core.Path.{_≡_, refl}
+use mathlib.Core.List.{[], _∷_}
+use mathlib.Core.Bool.{true, not}
+use Prim.Native.Nat.{ℕ, _<_}
+use types.Run.{OneOf, miss}
+use denote.Enum.Declared.{tagOf}
+use Rattle.sheet.proofs.Op.{the-type}
+use Rattle.sheet.specs.declared.Op.{Op}
+use Rattle.sheet.specs.declared.Op.the-variants.{Cn1, Cn2, Ap, Dp, At, Dt1, Dt2, As, Ds}
+use Rattle.sheet.specs.Bytes.{editOf}
+use Rattle.finite.specs.Tests.{below}
+use Rattle.finite.specs.Laws.Bools.{and-r}
+use Rattle.finite.specs.Laws.Below.{below-out}
+use Rattle.semantics.specs.Edit.{CN2, functional, legal}
+use Rattle.semantics.specs.Laws.Edits.{Legal, legal-out}
+use Rattle.semantics.specs.Table.{kHere, kLabel, kName}
+use Rattle.semantics.specs.Block.{end, blockLeaf}
+
+pub here-kept : (e : Op) (p : ℕ) → OneOf (0 ∷ 1 ∷ 2 ∷ 3 ∷ 4 ∷ 5 ∷ 6 ∷ []) (tagOf the-type e) → blockLeaf (editOf e) kHere p ≡ end kHere p
+unfolding blockLeaf
+here-kept (Cn1 n1 n2) p h = refl
+here-kept (Cn2 n1 n2 f) p h = refl
+here-kept (Ap n q) p h = refl
+here-kept (Dp n q) p h = refl
+here-kept (At m n1 n2) p h = refl
+here-kept (Dt1 m n1 n2) p h = refl
+here-kept (Dt2 f n) p h = refl
+here-kept (As n k) p h = absurd (miss (0 ∷ 1 ∷ 2 ∷ 3 ∷ 4 ∷ 5 ∷ 6 ∷ []) 7 tt h)
+here-kept (Ds n) p h = absurd (miss (0 ∷ 1 ∷ 2 ∷ 3 ∷ 4 ∷ 5 ∷ 6 ∷ []) 8 tt h)
+
+pub label-kept : (e : Op) (p : ℕ) → OneOf (0 ∷ 1 ∷ 4 ∷ 5 ∷ 6 ∷ 7 ∷ []) (tagOf the-type e) → blockLeaf (editOf e) kLabel p ≡ end kLabel p
+unfolding blockLeaf
+label-kept (Cn1 n1 n2) p h = refl
+label-kept (Cn2 n1 n2 f) p h = refl
+label-kept (Ap n q) p h = absurd (miss (0 ∷ 1 ∷ 4 ∷ 5 ∷ 6 ∷ 7 ∷ []) 2 tt h)
+label-kept (Dp n q) p h = absurd (miss (0 ∷ 1 ∷ 4 ∷ 5 ∷ 6 ∷ 7 ∷ []) 3 tt h)
+label-kept (At m n1 n2) p h = refl
+label-kept (Dt1 m n1 n2) p h = refl
+label-kept (Dt2 f n) p h = refl
+label-kept (As n k) p h = refl
+label-kept (Ds n) p h = absurd (miss (0 ∷ 1 ∷ 4 ∷ 5 ∷ 6 ∷ 7 ∷ []) 8 tt h)
+
+pub name-kept : (e : Op) (p : ℕ) → OneOf (2 ∷ 3 ∷ 4 ∷ 5 ∷ 6 ∷ []) (tagOf the-type e) → blockLeaf (editOf e) kName p ≡ end kName p
+unfolding blockLeaf
+name-kept (Cn1 n1 n2) p h = absurd (miss (2 ∷ 3 ∷ 4 ∷ 5 ∷ 6 ∷ []) 0 tt h)
+name-kept (Cn2 n1 n2 f) p h = absurd (miss (2 ∷ 3 ∷ 4 ∷ 5 ∷ 6 ∷ []) 1 tt h)
+name-kept (Ap n q) p h = refl
+name-kept (Dp n q) p h = refl
+name-kept (At m n1 n2) p h = refl
+name-kept (Dt1 m n1 n2) p h = refl
+name-kept (Dt2 f n) p h = refl
+name-kept (As n k) p h = absurd (miss (2 ∷ 3 ∷ 4 ∷ 5 ∷ 6 ∷ []) 7 tt h)
+name-kept (Ds n) p h = absurd (miss (2 ∷ 3 ∷ 4 ∷ 5 ∷ 6 ∷ []) 8 tt h)
+
+-- the link of a legal CN2 has a reverse
+pub link-small : (n1 n2 f : ℕ) → legal (CN2 n1 n2 f) ≡ true → f < 8
+unfolding functional Legal
+link-small n1 n2 f l = below-out f 8 (and-r (not (below f 4)) _ (legal-out (CN2 n1 n2 f) l .2))

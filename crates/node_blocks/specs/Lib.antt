@@ -1,0 +1,2 @@
+-- What is proved of the blocks of leaves.
+pub mod Laws

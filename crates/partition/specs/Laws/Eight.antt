@@ -1,0 +1,176 @@
+-- The eight slots of a byte of a row: what they put into the signatures, slot by slot, and all at once where their classes allow it.
+use mathlib.Core.Path.{_≡_, sym, _∙_, ap, ap₂, subst}
+use mathlib.Core.Logic.{_≢_}
+use mathlib.Core.Bool.{Bool, true, false, not, _&&_, _||_, or-false}
+use mathlib.Core.List.{List}
+use Prim.Native.Nat.{ℕ, _+_, _-_, _*_, _/_, _%_, _<_}
+use native.Mathlib.Omega.{arith}
+use lib.Bits.{bitAnd, bitOr, and-lt}
+use lib.ListN.{length, getD, set, replicate, length-set}
+use lib.Seq.{getD-set-same, getD-set-other}
+use borrow.Author.Tests.{ne-eqb}
+use Rattle.finite.specs.Tests.{bit, same, any}
+use Rattle.finite.specs.Laws.Bools.{either, look, clash, no-true, and-in, and-l, and-r, or-l, or-r, or-out, not-out, not-not, both}
+use Rattle.finite.specs.Laws.Below.{equal?, same-eq, same-refl, eq-same, any-in, any-out, all-out, all-fails, none-any}
+use Rattle.finite.specs.Laws.Bits.{bit-or, bit-and, bit-not}
+use Rattle.finite.specs.Laws.Weights.{bit-zero}
+use Rattle.bitset.specs.Set.{setBytes, setSlots, has, Is, inserted}
+use Rattle.bitset.specs.Laws.Bytes.{has-byte}
+use Rattle.bitset.specs.Laws.Test.{zero-bits}
+use Rattle.partition.specs.Gains.{Gains}
+use Rattle.partition.specs.Rows.{inRow, turn, eight, owns, othersIn}
+use Rattle.partition.specs.Laws.Gains.{gains-none, gains-put, gains-map, gains-join, gains-skip-if, gains-put-if, gains-zeros}
+
+-- slot 8 * i + j of row s is bit j of its byte i
+row-bit : (R : List ℕ) (s i j : ℕ) → j < 8 → inRow R s (8 * i + j) ≡ bit (getD R (32 * s + i) 0) j
+unfolding has
+row-bit R s i j h = ap₂ (λ (x y : ℕ). bit (getD R x 0) y) (omega arith) (omega arith)
+
+-- a byte that is not 0 has a bit
+some-bit : (v : ℕ) → v < 256 → v ≢ 0 → (j : ℕ) × (j < 8) × (bit v j ≡ true)
+some-bit v h n =
+    let a = all-fails 8 (λ k. not (bit v k)) (sym (zero-bits v h) ∙ ne-eqb v 0 n) in
+    (a .0, a .1, sym (not-not (bit v (a .0))) ∙ ap not (a .2))
+
+-- what those of the eight slots put in that are in O
+unfoldable pub ownEight : List ℕ → List ℕ → List ℕ → ℕ → ℕ → ℕ → Bool
+ownEight R p O s i y = any 8 (λ j. has O (8 * i + j) && turn R p s (8 * i + j) y)
+
+module _ (R p : List ℕ) (s : ℕ) where
+  -- slot t puts in its class, or nothing
+  pub turn-skips : (t : ℕ) (b : List ℕ) → inRow R s t ≡ false → Gains (turn R p s t) b b
+  unfolding turn
+  turn-skips t b e = gains-skip-if (inRow R s t) b (setSlots * s + getD p t 0) e
+
+  pub turn-puts : (t : ℕ) (b a : List ℕ) (c : ℕ) → c ≡ getD p t 0 → inRow R s t ≡ true → a ≡ inserted b (setSlots * s + c)
+      → (setSlots * s + c) / 8 < length b → Gains (turn R p s t) b a
+  unfolding turn
+  turn-puts t b a c e h q l = rw e at (gains-put-if (inRow R s t) b a (setSlots * s + c) h q l)
+
+  module _ (i : ℕ) where
+    -- what is put in, by one of the eight
+    eight-out : (y : ℕ) → eight R p s i y ≡ true → (j : ℕ) × (j < 8) × (inRow R s (8 * i + j) ≡ true) × (y ≡ setSlots * s + getD p (8 * i + j) 0)
+    unfolding eight turn
+    eight-out y e =
+        let a = any-out 8 _ e in
+        (a .0, a .1, and-l _ _ (a .2), same-eq (and-r (inRow R s (8 * i + a .0)) _ (a .2)))
+
+    eight-in : (y j : ℕ) → j < 8 → inRow R s (8 * i + j) ≡ true → y ≡ setSlots * s + getD p (8 * i + j) 0 → eight R p s i y ≡ true
+    unfolding eight turn
+    eight-in y j h e q = any-in 8 _ j h (and-in e (eq-same q))
+
+    -- the byte is 0
+    pub eight-none : (b : List ℕ) → getD R (32 * s + i) 0 ≡ 0 → Gains (eight R p s i) b b
+    unfolding eight turn
+    eight-none b e = gains-none _ b (λ y. none-any 8 _ (λ j h. rw (row-bit R s i j h, e, bit-zero j)))
+
+    -- the slots of O, which have their own numbers, put in the part of the byte that they stand in
+    module _ (O : List ℕ) (o : Is O (owns p)) (h : i < setBytes) where
+      own-bit : (j : ℕ) → j < 8 → has O (8 * i + j) ≡ bit (getD O i 0) j
+      own-bit j l = ap (has O) (omega arith) ∙ has-byte O i j l
+
+      own-number : (j : ℕ) → j < 8 → has O (8 * i + j) ≡ true → getD p (8 * i + j) 0 ≡ 8 * i + j
+      unfolding owns
+      own-number j l e = same-eq (sym (o (8 * i + j) (omega arith)) ∙ e)
+
+      own-out : (y : ℕ) → ownEight R p O s i y ≡ true → (j : ℕ) × (j < 8) × (has O (8 * i + j) ≡ true) × (inRow R s (8 * i + j) ≡ true) × (y ≡ setSlots * s + (8 * i + j))
+      unfolding ownEight turn
+      own-out y e =
+          let a = any-out 8 _ e in
+          let b : has O (8 * i + a .0) ≡ true = and-l _ _ (a .2) in
+          let d : turn R p s (8 * i + a .0) y ≡ true = and-r (has O (8 * i + a .0)) _ (a .2) in
+          (a .0, a .1, b, and-l _ _ d, same-eq (and-r (inRow R s (8 * i + a .0)) _ d) ∙ ap (λ (x : ℕ). setSlots * s + x) (own-number (a .0) (a .1) b))
+
+      own-in : (y j : ℕ) → j < 8 → has O (8 * i + j) ≡ true → inRow R s (8 * i + j) ≡ true → y ≡ setSlots * s + (8 * i + j) → ownEight R p O s i y ≡ true
+      unfolding ownEight turn
+      own-in y j l b e q = any-in 8 _ j l (and-in b (and-in e (eq-same (q ∙ ap (λ (x : ℕ). setSlots * s + x) (sym (own-number j l b))))))
+
+      own-eight : (y : ℕ) → ownEight R p O s i y ≡ true → eight R p s i y ≡ true
+      own-eight y e =
+          let a = own-out y e in
+          eight-in y (a .0) (a .1) (a .3) (a .4 ∙ ap (λ (x : ℕ). setSlots * s + x) (sym (own-number (a .0) (a .1) (a .2))))
+
+      pub own-puts : (b : List ℕ) → 32 * s + i < length b
+          → Gains (ownEight R p O s i) b (set b (32 * s + i) (bitOr (getD b (32 * s + i) 0) (bitAnd (getD R (32 * s + i) 0) (getD O i 0))))
+      unfolding has
+      own-puts b l = record {
+        long = length-set b (32 * s + i) _;
+        holds = λ y. either
+            (equal? (y / 8) (32 * s + i))
+            (λ e. rw (e, getD-set-same b (32 * s + i) _ 0 l, bit-or (getD b (32 * s + i) 0) (bitAnd (getD R (32 * s + i) 0) (getD O i 0)) (y % 8), bit-and (getD R (32 * s + i) 0) (getD O i 0) (y % 8))
+            (ap (λ (z : Bool). bit (getD b (32 * s + i) 0) (y % 8) || z) (here y e)))
+            (λ n. rw (getD-set-other b (32 * s + i) (y / 8) _ 0 n, there y n) (sym (or-false (bit (getD b (y / 8) 0) (y % 8)))));
+      }
+        where
+          here : (y : ℕ) → y / 8 ≡ 32 * s + i → (bit (getD R (32 * s + i) 0) (y % 8) && bit (getD O i 0) (y % 8)) ≡ ownEight R p O s i y
+          here y e = both
+              (λ q. own-in y (y % 8) (omega arith) (own-bit (y % 8) (omega arith) ∙ and-r (bit (getD R (32 * s + i) 0) (y % 8)) _ q) (row-bit R s i (y % 8) (omega arith) ∙ and-l _ _ q) (omega arith))
+              (λ q.
+              let a = own-out y q in
+              let j : a .0 ≡ y % 8 = omega (arith, a .1, a .4) in
+              let x : bit (getD R (32 * s + i) 0) (a .0) ≡ true = sym (row-bit R s i (a .0) (a .1)) ∙ a .3 in
+              let z : bit (getD O i 0) (a .0) ≡ true = sym (own-bit (a .0) (a .1)) ∙ a .2 in
+              and-in (rw j at x) (rw j at z))
+
+          there : (y : ℕ) → y / 8 ≢ 32 * s + i → ownEight R p O s i y ≡ false
+          there y n = no-true (λ q. let a = own-out y q in n (omega (arith, a .1, a .4)))
+
+      module _ (v : getD R (32 * s + i) 0 < 256) (w : getD O i 0 < 256) where
+        -- the bits of the byte that are not in O
+        other-bit : (j : ℕ) → j < 8 → bit (bitAnd (getD R (32 * s + i) 0) (255 - getD O i 0)) j ≡ (inRow R s (8 * i + j) && not (has O (8 * i + j)))
+        other-bit j l =
+            bit-and (getD R (32 * s + i) 0) (255 - getD O i 0) j
+            ∙ ap₂ _&&_ (sym (row-bit R s i j l)) (bit-not 8 (getD O i 0) j w l ∙ ap not (sym (own-bit j l)))
+
+        -- there is none
+        pub own-only : (b a : List ℕ) → bitAnd (getD R (32 * s + i) 0) (255 - getD O i 0) ≡ 0 → Gains (ownEight R p O s i) b a → Gains (eight R p s i) b a
+        own-only b a z = gains-map _ _ b a (λ y. both (own-eight y) (λ q.
+            let e = eight-out y q in
+            let n : (inRow R s (8 * i + e .0) && not (has O (8 * i + e .0))) ≡ false = sym (other-bit (e .0) (e .1)) ∙ rw z (bit-zero (e .0)) in
+            let g : has O (8 * i + e .0) ≡ true = either (look (has O (8 * i + e .0))) (λ x. x) (λ x. clash (and-in (e .2) (ap not x)) n) in
+            own-in y (e .0) (e .1) g (e .2) (e .3 ∙ ap (λ (x : ℕ). setSlots * s + x) (own-number (e .0) (e .1) g))))
+
+        -- there are some, all in class c
+        pub own-one : (b a d : List ℕ) (c : ℕ) → bitAnd (getD R (32 * s + i) 0) (255 - getD O i 0) ≢ 0 → othersIn p O i c ≡ true
+            → Gains (ownEight R p O s i) b a → d ≡ inserted a (setSlots * s + c) → (setSlots * s + c) / 8 < length a → Gains (eight R p s i) b d
+        unfolding othersIn
+        own-one b a d c n f g e l =
+            gains-map _ _ b d (λ y. both (into y) (out y)) (gains-join (ownEight R p O s i) (λ y. same y (setSlots * s + c)) b a d g (gains-put a d (setSlots * s + c) e l))
+          where
+            other : (j : ℕ) → j < 8 → has O (8 * i + j) ≡ false → getD p (8 * i + j) 0 ≡ c
+            other j l x = either (or-out _ _ (all-out 8 _ f j l)) (λ q. clash q x) same-eq
+
+            into : (y : ℕ) → (ownEight R p O s i y || same y (setSlots * s + c)) ≡ true → eight R p s i y ≡ true
+            into y q =
+                either
+                (or-out _ _ q)
+                (own-eight y)
+                (λ q.
+                let k = some-bit (bitAnd (getD R (32 * s + i) 0) (255 - getD O i 0)) (and-lt 8 _ _ v (omega arith)) n in
+                let m = sym (other-bit (k .0) (k .1)) ∙ k .2 in
+                let x : has O (8 * i + k .0) ≡ false = no-true (not-out _ (and-r (inRow R s (8 * i + k .0)) _ m)) in
+                eight-in y (k .0) (k .1) (and-l _ _ m) (same-eq q ∙ ap (λ (x : ℕ). setSlots * s + x) (sym (other (k .0) (k .1) x))))
+
+            out : (y : ℕ) → eight R p s i y ≡ true → (ownEight R p O s i y || same y (setSlots * s + c)) ≡ true
+            out y q =
+                let k = eight-out y q in
+                either
+                (look (has O (8 * i + k .0)))
+                (λ x. or-l _ _ (own-in y (k .0) (k .1) x (k .2) (k .3 ∙ ap (λ (z : ℕ). setSlots * s + z) (own-number (k .0) (k .1) x))))
+                (λ x. or-r (ownEight R p O s i y) _ (eq-same (k .3 ∙ ap (λ (z : ℕ). setSlots * s + z) (other (k .0) (k .1) x))))
+
+        -- all eight are put in after those of O
+        pub own-all : (b a d : List ℕ) → Gains (ownEight R p O s i) b a → Gains (eight R p s i) a d → Gains (eight R p s i) b d
+        own-all b a d g k = gains-map _ _ b d (λ y. both
+            (λ q. either (or-out _ _ q) (own-eight y) (λ x. x))
+            (λ q. or-r (ownEight R p O s i y) _ q)) (gains-join (ownEight R p O s i) (eight R p s i) b a d g k)
+
+-- the set of the slots with their own number
+pub own-set : (p : List ℕ) (n : ℕ) (O : List ℕ) → Gains (λ y. any setSlots (λ t. owns p t && same y t)) (replicate n 0) O → Is O (owns p)
+own-set p n O g s h = gains-zeros (λ y. any setSlots (λ t. owns p t && same y t)) n O g s ∙ both
+    (λ e.
+    let a = any-out setSlots _ e in
+    let b : owns p (a .0) ≡ true = and-l _ _ (a .2) in
+    let d : s ≡ a .0 = same-eq (and-r (owns p (a .0)) _ (a .2)) in
+    subst (λ (t : ℕ). owns p t ≡ true) (sym d) b)
+    (λ e. any-in setSlots _ s h (and-in e (same-refl s)))

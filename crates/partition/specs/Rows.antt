@@ -1,0 +1,58 @@
+-- Rows: 256 sets of 32 bytes, one for each slot. A slot's signature is the row of the classes that its neighbours are in.
+use mathlib.Core.Path.{_≡_}
+use mathlib.Core.Bool.{Bool, _&&_, _||_, Bool·beq}
+use mathlib.Core.List.{List}
+use Prim.Native.Nat.{ℕ, _+_, _*_, _<_}
+use lib.ListN.{getD}
+use Rattle.finite.specs.Tests.{same, any, all}
+use Rattle.bitset.specs.Set.{setSlots, has}
+use Rattle.semantics.specs.Holds.{Model, step}
+use Rattle.semantics.specs.Table.{wayOf}
+use Rattle.semantics.specs.Laws.Ways.{linkWays}
+use Rattle.site.specs.Layout.{rowsBytes}
+
+-- slot t is in row s
+abbrev pub inRow : List ℕ → ℕ → ℕ → Bool
+inRow R s t = has R (setSlots * s + t)
+
+-- the rows s and t are the same
+unfoldable pub sameRow : List ℕ → ℕ → ℕ → Bool
+sameRow R s t = all setSlots (λ c. Bool·beq (inRow R s c) (inRow R t c))
+
+-- some slot of row s is in class c of the partition p
+unfoldable pub sees : List ℕ → List ℕ → ℕ → ℕ → Bool
+sees R p s c = any setSlots (λ t. inRow R s t && same (getD p t 0) c)
+
+-- the slots of row s and those of row t are in the same classes of p
+unfoldable pub seeSame : List ℕ → List ℕ → ℕ → ℕ → Bool
+seeSame R p s t = all setSlots (λ c. Bool·beq (sees R p s c) (sees R p t c))
+
+-- each slot's row of G are the classes of its row of R
+unfoldable pub Signed : List ℕ → List ℕ → List ℕ → Type 0
+Signed R p G = (s c : ℕ) → s < setSlots → c < setSlots → inRow G s c ≡ sees R p s c
+
+-- what slot t of row s puts into the signatures: its class, into row s
+unfoldable pub turn : List ℕ → List ℕ → ℕ → ℕ → ℕ → Bool
+turn R p s t y = inRow R s t && same y (setSlots * s + getD p t 0)
+
+-- the same for the eight slots of byte i of row s
+unfoldable pub eight : List ℕ → List ℕ → ℕ → ℕ → ℕ → Bool
+eight R p s i y = any 8 (λ j. turn R p s (8 * i + j) y)
+
+-- slot t has its own number: it is the lowest of its class
+unfoldable pub owns : List ℕ → ℕ → Bool
+owns p t = same (getD p t 0) t
+
+-- those of the eight slots from 8 * i on that are not in O are in class c
+unfoldable pub othersIn : List ℕ → List ℕ → ℕ → ℕ → Bool
+othersIn p O i c = all 8 (λ j. has O (8 * i + j) || same (getD p (8 * i + j) 0) c)
+
+-- the rows of the ways 0 to 15, way after way: slot t is in row s of way w where w reaches t from s
+abbrev pub waysBytes : ℕ
+waysBytes = rowsBytes * linkWays
+
+abbrev pub byWay : List ℕ → ℕ → ℕ → ℕ → Bool
+byWay W w s t = has W (rowsBytes * 8 * w + (setSlots * s + t))
+
+unfoldable pub Neighbours : Model → List ℕ → Type 0
+Neighbours M W = (w s t : ℕ) → w < linkWays → s < setSlots → t < setSlots → byWay W w s t ≡ step M (wayOf w) s t

@@ -1,0 +1,2 @@
+-- Laws of the refusals, by topic.
+pub mod Items

@@ -1,0 +1,118 @@
+-- The items one by one: item 1, two checks one after the other, and the numbers of the items.
+use mathlib.Core.Path.{_≡_, refl}
+use mathlib.Core.List.{List}
+use mathlib.Core.Bool.{Bool, true, false, not, cond}
+use mathlib.Core.Logic.{_≢_}
+use Prim.Native.Nat.{ℕ, _-_, _/_, _<_}
+use native.Mathlib.Omega.{arith}
+use lib.ListN.{length}
+use Rattle.finite.specs.Tests.{same, below, first}
+use Rattle.finite.specs.Laws.Bools.{either, look}
+use Rattle.finite.specs.Laws.Below.{same-eq, eq-same, ne-same}
+use Rattle.verdict.specs.Laws.{refused}
+use Rattle.verdict.specs.Verdict.{reasonOf, _then_}
+use Rattle.verdict.specs.declared.Verdict.{Verdict}
+use Rattle.verdict.specs.declared.Verdict.the-variants.{Accepted, Refused}
+use Rattle.semantics.specs.Form.{closed}
+use Rattle.semantics.specs.Holds.{Model}
+use Rattle.semantics.specs.Edit.{Edit, sheetGoes}
+use Rattle.semantics.specs.Table.{Node, formOf}
+use Rattle.site.specs.Layout.{siteBytes}
+use Rattle.site.specs.Site.{siteOf}
+use Rattle.site.specs.Refusal.{item4, item5, item6, siteVerdict}
+use Rattle.condition.specs.Bytes.{tableOf}
+use Rattle.condition.specs.Refusal.{sizeFits, firstUnfit, firstUneven, conditionVerdict}
+use Rattle.sheet.specs.Refusal.{faulty, sized, sheetVerdict}
+use Rattle.applying.specs.Stuck.{stuckAt}
+use Rattle.applying.specs.Refusal.{goesVerdict}
+use Rattle.rewriting.specs.Result.{tooLong}
+use Rattle.rewriting.specs.Refusal.{lengthVerdict}
+use Rattle.refusals.specs.Refusal.{bufferVerdict}
+
+-- ---- item 1
+
+pub buffer-in : {len stated : ℕ} → len ≡ stated → bufferVerdict len stated ≡ Accepted
+unfolding bufferVerdict
+buffer-in e = rw (eq-same e)
+
+pub buffer-not : {len stated : ℕ} → len ≢ stated → bufferVerdict len stated ≡ Refused 1 0
+unfolding bufferVerdict
+buffer-not h = rw (ne-same h)
+
+pub buffer-out : (len stated : ℕ) → bufferVerdict len stated ≡ Accepted → len ≡ stated
+unfolding bufferVerdict
+buffer-out len stated = go (same len stated) refl
+  where
+    go : (b : Bool) → same len stated ≡ b → cond (not b) (Refused 1 0) Accepted ≡ Accepted → len ≡ stated
+    go true e p = same-eq e
+    go false e p = refused p
+
+-- ---- the chain
+
+pub then-out : (v w : Verdict) → v then w ≡ Accepted → (v ≡ Accepted) × (w ≡ Accepted)
+then-out Accepted w e = (refl, e)
+then-out (Refused n k) w e = refused e
+
+-- ---- no item has the number 0, so the reason 0 says that the inputs are accepted
+
+-- v refuses with no item 0
+unfoldable pub Numbered : Verdict → Type 0
+Numbered v = reasonOf v ≡ 0 → v ≡ Accepted
+
+numbered-accepted : Numbered Accepted
+unfolding Numbered
+numbered-accepted e = refl
+
+numbered-item : (b : Bool) (n w : ℕ) (v : Verdict) → 0 < n → Numbered v → Numbered (cond b (Refused n w) v)
+unfolding Numbered
+numbered-item true n w v h k e = absurd (omega arith)
+numbered-item false n w v h k e = k e
+
+pub numbered-then : (v w : Verdict) → Numbered v → Numbered w → Numbered (v then w)
+unfolding Numbered
+numbered-then Accepted w h k e = k e
+numbered-then (Refused n p) w h k e = h e
+
+pub numbered-buffer : (len stated : ℕ) → Numbered (bufferVerdict len stated)
+unfolding bufferVerdict
+numbered-buffer len stated = numbered-item (not (same len stated)) 1 0 Accepted (omega arith) numbered-accepted
+
+pub numbered-site : (S : List ℕ) → Numbered (siteVerdict S)
+unfolding siteVerdict
+numbered-site S =
+    numbered-item (not (same (length S) siteBytes)) 3 0 _ (omega arith)
+    (numbered-item (item4 (siteOf S)) 4 0 _ (omega arith)
+    (numbered-item (item5 (siteOf S)) 5 0 _ (omega arith)
+    (numbered-item (item6 (siteOf S)) 6 0 _ (omega arith) numbered-accepted)))
+
+pub numbered-condition : (S : List ℕ) → Numbered (conditionVerdict S)
+unfolding conditionVerdict
+numbered-condition S =
+    let n = length (tableOf S) in
+    numbered-item (not (sizeFits (length S))) 7 0 _ (omega arith)
+    (numbered-item (below (firstUnfit S) n) 8 (firstUnfit S) _ (omega arith)
+    (numbered-item (below (firstUneven S) n) 9 (firstUneven S) _ (omega arith)
+    (numbered-item (not (closed (formOf (tableOf S)))) 10 (n - 1) _ (omega arith) numbered-accepted)))
+
+pub numbered-sheet : (s : List ℕ) → Numbered (sheetVerdict s)
+unfolding sheetVerdict
+numbered-sheet s =
+    let n = length s / 4 in
+    let w = first n (faulty s) in
+    either
+    (look (sized s))
+    (λ e. rw e (numbered-item (below w n) 12 w Accepted (omega arith) numbered-accepted))
+    (λ e. rw e (numbered-item true 11 0 Accepted (omega arith) numbered-accepted))
+
+pub numbered-goes : (es : List Edit) (M : Model) → Numbered (goesVerdict es M)
+unfolding goesVerdict
+numbered-goes es M = numbered-item (not (sheetGoes es M)) 13 (stuckAt es M) Accepted (omega arith) numbered-accepted
+
+pub numbered-length : (es : List Edit) (xs : List Node) → Numbered (lengthVerdict es xs)
+unfolding lengthVerdict
+numbered-length es xs = numbered-item (tooLong es xs) 14 0 Accepted (omega arith) numbered-accepted
+
+-- ---- item 14
+pub length-out : (es : List Edit) (xs : List Node) → lengthVerdict es xs ≡ Accepted → tooLong es xs ≡ false
+unfolding lengthVerdict
+length-out es xs e = either (look (tooLong es xs)) (λ g. refused (rw g at e)) (λ g. g)

@@ -1,0 +1,13 @@
+-- The items that are tested before anything is rewritten, for the inner check of the inputs.
+use mathlib.Core.List.{List}
+use Prim.Native.Nat.{ℕ}
+use Rattle.verdict.specs.Verdict.{_then_}
+use Rattle.verdict.specs.declared.Verdict.{Verdict}
+use Rattle.condition.specs.Refusal.{conditionVerdict}
+use Rattle.sheet.specs.Refusal.{sheetVerdict}
+use Rattle.blocks.specs.Write.{tableBytes}
+use Rattle.refusals.specs.Refusal.{bufferVerdict}
+
+-- 1, then 7 to 10, then 11 and 12
+unfoldable pub inputVerdict : (resultLen : ℕ) (table sheet : List ℕ) → Verdict
+inputVerdict resultLen table sheet = bufferVerdict resultLen tableBytes then conditionVerdict table then sheetVerdict sheet

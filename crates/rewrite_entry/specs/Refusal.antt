@@ -1,0 +1,17 @@
+-- Which inputs rewriting refuses: the items of document 01, "Reasons for sending a job back", in their order.
+use mathlib.Core.List.{List}
+use Prim.Native.Nat.{ℕ}
+use Rattle.verdict.specs.Verdict.{_then_}
+use Rattle.verdict.specs.declared.Verdict.{Verdict}
+use Rattle.condition.specs.Bytes.{tableOf}
+use Rattle.condition.specs.Refusal.{conditionVerdict}
+use Rattle.sheet.specs.Bytes.{editsOf}
+use Rattle.sheet.specs.Refusal.{sheetVerdict}
+use Rattle.blocks.specs.Write.{tableBytes}
+use Rattle.rewriting.specs.Refusal.{lengthVerdict}
+use Rattle.refusals.specs.Refusal.{bufferVerdict}
+
+-- rewriting: 1, then 7 to 10, then 11 and 12, then 14
+unfoldable pub rewriteVerdict : (resultLen : ℕ) (table sheet : List ℕ) → Verdict
+rewriteVerdict resultLen table sheet =
+    bufferVerdict resultLen tableBytes then conditionVerdict table then sheetVerdict sheet then lengthVerdict (editsOf sheet) (tableOf table)

@@ -1,0 +1,66 @@
+-- The table that rewriting gives is accepted: items 7 to 10 are not met by it, unless item 14 is met.
+use mathlib.Core.Path.{_≡_, sym, _∙_, ap}
+use mathlib.Core.Bool.{true, false}
+use mathlib.Core.List.{List, _++_}
+use Prim.Native.Nat.{ℕ, _*_, _≤_, _<_}
+use native.Mathlib.Omega.{arith}
+use lib.ListN.{length, take}
+use lib.Seq.{take-at}
+use Rattle.finite.specs.Laws.Below.{not-below}
+use Rattle.verdict.specs.declared.Verdict.the-variants.{Accepted}
+use Rattle.semantics.specs.Table.{Node}
+use Rattle.semantics.specs.Edit.{Edit, sheetLegal}
+use Rattle.semantics.specs.Block.{rewriteSheet}
+use Rattle.semantics.specs.Laws.Rewrite.{sheet-fits, sheet-some, sheet-even, sheet-closed}
+use Rattle.condition.specs.Bytes.{tableOf, bytesOf}
+use Rattle.condition.specs.Refusal.{conditionVerdict}
+use Rattle.condition.specs.Laws.Bytes.{length-table, length-bytes, table-back}
+use Rattle.condition.specs.Laws.Verdict.{accepted-sound, sound-accepted}
+use Rattle.sheet.specs.Bytes.{editsOf}
+use Rattle.sheet.specs.Refusal.{sheetVerdict}
+use Rattle.sheet.specs.Laws.Accepted.{accepted-sheet}
+use Rattle.blocks.specs.Write.{tableNodes}
+use Rattle.rewriting.specs.Result.{tooLong}
+use Rattle.rewriting.specs.Laws.Grow.{too-long-end}
+
+-- the first n nodes of a buffer that starts with a table of n nodes
+module _ (ys : List Node) (zs o : List ℕ) (n : ℕ) (e : n ≡ length ys) (f : o ≡ bytesOf ys ++ zs) where
+  pub taken : take (6 * n) o ≡ bytesOf ys
+  taken = ap (take (6 * n)) f ∙ take-at (bytesOf ys) zs (6 * n) (omega (arith, length-bytes ys))
+
+  pub taken-table : tableOf (take (6 * n) o) ≡ ys
+  taken-table = ap tableOf taken ∙ table-back ys
+
+module _ (es : List Edit) (l : sheetLegal es ≡ true) (table : List ℕ) (a : conditionVerdict table ≡ Accepted)
+    (short : tooLong es (tableOf table) ≡ false) where
+  abbrev ys : List Node
+  ys = rewriteSheet es (tableOf table)
+
+  pub few-nodes : length ys ≤ tableNodes
+  few-nodes =
+      let s = accepted-sound table a in
+      not-below tableNodes (length ys) (sym (too-long-end es (tableOf table) (omega (arith, s .few, length-table table))) ∙ short)
+
+  pub bytes-accepted : conditionVerdict (bytesOf ys) ≡ Accepted
+  bytes-accepted =
+      let s = accepted-sound table a in
+      let some : 0 < length (tableOf table) = omega (arith, s .some, length-table table) in
+      let n = length-bytes ys in
+      sound-accepted (bytesOf ys)
+      (record {
+        multiple = omega (arith, n);
+        some = omega (arith, n, sheet-some es l (tableOf table) (s .fits) some);
+        few = omega (arith, n, few-nodes);
+        fits = rw (table-back ys) (sheet-fits es l (tableOf table) (s .fits));
+        even-rule = rw (table-back ys) (sheet-even es l (tableOf table) (s .fits) (s .even-rule));
+        is-closed = rw (table-back ys) (sheet-closed es l (tableOf table) (s .fits) some (s .is-closed));
+      })
+
+-- the same of an accepted sheet's bytes, and of the first n nodes of the buffer that rewriting leaves
+pub rewritten-accepted : (table sheet : List ℕ) → conditionVerdict table ≡ Accepted → sheetVerdict sheet ≡ Accepted
+    → tooLong (editsOf sheet) (tableOf table) ≡ false
+    → (zs o : List ℕ) (n : ℕ) → n ≡ length (rewriteSheet (editsOf sheet) (tableOf table)) → o ≡ bytesOf (rewriteSheet (editsOf sheet) (tableOf table)) ++ zs
+    → conditionVerdict (take (6 * n) o) ≡ Accepted
+rewritten-accepted table sheet a b short zs o n e f =
+    rw (taken (rewriteSheet (editsOf sheet) (tableOf table)) zs o n e f)
+    (bytes-accepted (editsOf sheet) (accepted-sheet sheet b .are-legal) table a short)

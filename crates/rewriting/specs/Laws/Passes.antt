@@ -1,0 +1,146 @@
+-- The passes of a sheet's edits over a table, the last one first.
+use mathlib.Core.Path.{_≡_, refl, sym, _∙_, ap, ap₂, subst}
+use mathlib.Core.List.{List, [], _∷_, _++_}
+use mathlib.Core.Bool.{Bool, true, false, _||_}
+use Prim.Native.Nat.{ℕ, zero, suc, _*_, _-_, _/_, _≤_, _<_}
+use native.Mathlib.Omega.{arith}
+use native.Mathlib.Nat.{not-suc-le-zero}
+use lib.ListN.{length, getD, take, drop, replicate, drop-of-length-le}
+use lib.Seq.{length-take-le, take-at}
+use Rattle.finite.specs.Tests.{below, all}
+use Rattle.finite.specs.Laws.Bools.{either, look, clash, no-true, and-l, and-r, or-l}
+use Rattle.finite.specs.Laws.Below.{below-in, below-not}
+use Rattle.semantics.specs.Edit.{Edit, DS, legal, sheetLegal}
+use Rattle.semantics.specs.Table.{Node}
+use Rattle.semantics.specs.Block.{rewriteTable, rewriteSheet}
+use Rattle.condition.specs.Bytes.{nodes, tableOf, bytesOf}
+use Rattle.condition.specs.Laws.Bytes.{length-nodes}
+use Rattle.sheet.specs.Bytes.{editAt, editsOf}
+use Rattle.sheet.specs.Laws.Read.{edits-length, edits-at, edits-drop}
+use Rattle.blocks.specs.Write.{tableNodes, tableBytes, Written}
+use Rattle.rewriting.specs.State.{Passed}
+use Rattle.rewriting.specs.Result.{tooLong, answer, resultBytes}
+use Rattle.rewriting.specs.Laws.Buffers.{read-table, take-table, copied}
+use Rattle.rewriting.specs.declared.Rewritten.the-variants.{Table, TooLong}
+
+-- each edit of a legal sheet is legal
+legal-in : (es : List Edit) (j : ℕ) → sheetLegal es ≡ true → j < length es → legal (getD es j (DS 0)) ≡ true
+unfolding sheetLegal
+legal-in [] j l h = absurd (not-suc-le-zero h)
+legal-in (e ∷ es) zero l h = and-l _ _ l
+legal-in (e ∷ es) (suc j) l h = legal-in es j (and-r (legal e) _ l) (omega arith)
+
+pub legal-at : {e : Edit} (s : List ℕ) (j : ℕ) → e ≡ editAt s j → j < length s / 4 → sheetLegal (editsOf s) ≡ true → legal e ≡ true
+legal-at s j q h l =
+    rw (q, ← edits-at s j (DS 0) h) (legal-in (editsOf s) j l (omega (arith, edits-length s)))
+
+-- what is not too long at the end is so after no edit
+short-left : (a b : Bool) → (a || b) ≡ false → a ≡ false
+short-left a b p = no-true (λ q. clash (or-l a b q) p)
+
+short-drop : (es : List Edit) (xs : List Node) (k : ℕ) → tooLong es xs ≡ false → tooLong (drop k es) xs ≡ false
+unfolding tooLong
+short-drop [] xs zero h = h
+short-drop [] xs (suc k) h = h
+short-drop (e ∷ es) xs zero h = h
+short-drop (e ∷ es) xs (suc k) h = short-drop es xs k (short-left (tooLong es xs) _ h)
+
+-- the edits from k on are done
+pub record Passing (sheet : List ℕ) (xs : List Node) (o : List ℕ) (count k : ℕ) : Type 0 where
+  pub most : k ≤ length sheet / 4
+  pub few : count ≤ tableNodes
+  pub short : tooLong (drop k (editsOf sheet)) xs ≡ false
+  pub counts : count ≡ length (rewriteSheet (drop k (editsOf sheet)) xs)
+  pub bytes : take (6 * length (rewriteSheet (drop k (editsOf sheet)) xs)) o ≡ bytesOf (rewriteSheet (drop k (editsOf sheet)) xs)
+
+pub passing-start : (sheet s : List ℕ) (n k : ℕ) → ((i : ℕ) → getD s i 0 < 256) → 6 * n ≤ length s → n ≤ tableNodes → k ≡ length sheet / 4
+    → Passing sheet (nodes s n) s n k
+unfolding rewriteSheet tooLong
+passing-start sheet s n k h g m d =
+    let all : length (editsOf sheet) ≤ k = omega (arith, edits-length sheet) in
+    let e : drop k (editsOf sheet) ≡ [] = drop-of-length-le (editsOf sheet) all in
+    record {
+      most = omega arith;
+      few = m;
+      short = rw e refl;
+      counts = rw e (sym (length-nodes s n));
+      bytes = rw (e, length-nodes s n) (take-table s n h g);
+    }
+
+-- one edit more
+module _ {sheet : List ℕ} {xs : List Node} {o : List ℕ} {count j k : ℕ} {e : Edit}
+    (P : Passing sheet xs o count j) (d : j ≡ suc k) (q : e ≡ editAt sheet k) where
+  in-sheet : k < length sheet / 4
+  in-sheet = omega (arith, P .most)
+
+  next-table : rewriteTable e (nodes o count) ≡ rewriteSheet (drop k (editsOf sheet)) xs
+  unfolding rewriteSheet
+  next-table =
+      ap₂ rewriteTable q (ap (nodes o) (P .counts) ∙ read-table o (rewriteSheet (drop j (editsOf sheet)) xs) (P .bytes))
+      ∙ rw (edits-drop sheet k in-sheet, d) refl
+
+  next-long : tooLong (drop k (editsOf sheet)) xs ≡ below tableNodes (length (rewriteSheet (drop k (editsOf sheet)) xs))
+  unfolding tooLong
+  next-long = rw (edits-drop sheet k in-sheet) (rw (rw d at (P .short)) refl)
+
+  pub passing-more : (spare : List ℕ) {made : ℕ} {o′ : List ℕ} → made ≡ length (rewriteTable e (nodes o count))
+      → Written spare (rewriteTable e (nodes o count)) → made ≤ tableNodes → length spare ≡ tableBytes
+      → o′ ≡ take (6 * made) spare ++ drop (6 * made) o → Passing sheet xs o′ made k
+  unfolding Written
+  passing-more spare {made} {o′} em w f l eo =
+      let n : made ≡ length (rewriteSheet (drop k (editsOf sheet)) xs) = em ∙ ap length next-table in
+      let b : take (6 * made) spare ≡ bytesOf (rewriteSheet (drop k (editsOf sheet)) xs) =
+      ap (λ (m : ℕ). take (6 * m) spare) em ∙ w (omega arith) ∙ ap bytesOf next-table in
+      record {
+        most = omega (arith, P .most);
+        few = f;
+        short = next-long ∙ below-not tableNodes _ (let le : length (rewriteSheet (drop k (editsOf sheet)) xs) ≤ tableNodes = omega arith in le);
+        counts = n;
+        bytes = rw (← n, eo) (take-at (take (6 * made) spare) (drop (6 * made) o) (6 * made) (length-take-le (6 * made) spare (omega arith)) ∙ b);
+      }
+
+  pub passing-long : {made : ℕ} (o′ : List ℕ) → made ≡ length (rewriteTable e (nodes o count)) → tableNodes < made
+      → Passed (editsOf sheet) xs o′ made
+  passing-long {made} o′ em h =
+      let n : made ≡ length (rewriteSheet (drop k (editsOf sheet)) xs) = em ∙ ap length next-table in
+      let lt : tableNodes < length (rewriteSheet (drop k (editsOf sheet)) xs) = omega arith in
+      record {
+        right = λ t. clash (next-long ∙ below-in tableNodes _ lt) (short-drop (editsOf sheet) xs k t);
+        long = λ _. h;
+      }
+
+pub passing-done : {sheet : List ℕ} {xs : List Node} {o : List ℕ} {count k : ℕ} → k ≡ 0 → Passing sheet xs o count k
+    → Passed (editsOf sheet) xs o count
+passing-done {sheet} {xs} {o} e P =
+    let z = rw e at P in
+    record { right = λ _. (z .counts, z .few, z .bytes); long = λ t. clash t (z .short) }
+
+-- ---- the answer
+
+module _ (es : List Edit) (xs : List Node) (o o′ : List ℕ) (r : ℕ) (P : Passed es xs o r) where
+  is-long : tableNodes < r → tooLong es xs ≡ true
+  is-long h = either (look (tooLong es xs)) (λ t. t) (λ f. let g = P .right f .1 in absurd (omega arith))
+
+  is-short : r ≤ tableNodes → tooLong es xs ≡ false
+  is-short h = either (look (tooLong es xs)) (λ t. let g = P .long t in absurd (omega arith)) (λ f. f)
+
+  pub too-long : tableNodes < r → length o ≡ tableBytes → o′ ≡ take 0 o ++ replicate (length o - 0) 0
+      → (TooLong ≡ answer es xs) × (o′ ≡ resultBytes es xs)
+  unfolding answer resultBytes
+  too-long h l e =
+      let t = is-long h in
+      let z : length o - 0 ≡ tableBytes = omega arith in
+      (rw t refl, rw t (e ∙ ap (λ (n : ℕ). replicate n 0) z))
+
+  pub a-table : r ≤ tableNodes → length o ≡ tableBytes → o′ ≡ take (6 * r) o ++ replicate (length o - 6 * r) 0
+      → (Table r ≡ answer es xs) × (o′ ≡ resultBytes es xs)
+  unfolding answer resultBytes
+  a-table h l e =
+      let t = is-short h in
+      let n = P .right t .0 in
+      let b = P .right t .2 in
+      (rw t (ap Table n), rw t (e ∙ rw (l, n) (ap (λ (s : List ℕ). s ++ replicate (tableBytes - 6 * length (rewriteSheet es xs)) 0) b)))
+
+pub passed-copied : (es : List Edit) (t d o o₂ : List ℕ) (r : ℕ) → o ≡ take (length t) t ++ drop (length t) d
+    → Passed es (nodes o (length t / 6)) o₂ r → Passed es (tableOf t) o₂ r
+passed-copied es t d o o₂ r e P = subst (λ (xs : List Node). Passed es xs o₂ r) (copied t d o e) P

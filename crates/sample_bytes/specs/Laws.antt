@@ -1,0 +1,10 @@
+-- Laws of the examples over bytes, by topic.
+-- a site's bytes, read back
+pub mod Write
+-- a row's pieces: what they fit, and the verdicts on them
+pub mod Rows
+pub mod Judged
+-- the theorems
+pub mod Refused
+pub mod Said
+pub mod Doubled

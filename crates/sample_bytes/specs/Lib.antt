@@ -1,0 +1,10 @@
+-- Document 01, "Small sites, by hand": what the entry points return for the starred examples.
+-- a site's bytes
+pub mod Write
+-- what is returned for each row
+pub mod Refused
+pub mod Said
+-- R through edits that double it
+pub mod Doubled
+-- what is proved of them
+pub mod Laws

@@ -1,0 +1,74 @@
+-- What the entry points return for a row of the table of samples: from the bytes of its site, its condition and its sheet, with buffers of
+-- the stated lengths, whatever was in them.
+use mathlib.Core.Path.{_≡_}
+use mathlib.Core.List.{List, [], _∷_}
+use Prim.Native.Nat.{ℕ, _<_}
+use lib.ListN.{getD}
+use Rattle.bitset.specs.Set.{Is}
+use Rattle.samples.specs.Rows.{Slots, only, has, Expected, lists, stuckAt, oddAt, Row, tableName}
+use Rattle.samples.specs.Said.{before, after}
+use Rattle.site.specs.Site.{siteOf}
+use Rattle.condition.specs.Bytes as condition
+use Rattle.sheet.specs.Bytes as sheet
+use Rattle.desk.specs.Demands.{ApplyCall, RewriteCall, ListCall, rewrittenTable}
+use Rattle.sample_bytes.specs.Write as site
+use Rattle.sample_bytes.specs.Refused.{NotApplied, NotRewritten, NotListed}
+
+-- ---- the row's pieces as bytes
+
+abbrev pub siteIn : Row → List ℕ
+siteIn r = site.bytesOf (before r)
+
+abbrev pub tableIn : Row → List ℕ
+tableIn r = condition.bytesOf (r .table)
+
+abbrev pub sheetIn : Row → List ℕ
+sheetIn r = sheet.bytesOf (r .edits)
+
+-- they are bytes, and the site's are read as the row's site
+abbrev pub AreBytes : List ℕ → Type 0
+AreBytes S = (i : ℕ) → getD S i 0 < 256
+
+pub record Written (r : Row) : Type 0 where
+  pub site-bytes : AreBytes (siteIn r)
+  pub table-bytes : AreBytes (tableIn r)
+  pub sheet-bytes : AreBytes (sheetIn r)
+  pub site-read : siteOf (siteIn r) ≡ before r
+
+-- ---- a row that lists a set
+
+-- the call lists the slots of S alone, and they are c
+pub record Lists {site table : List ℕ} (call : ListCall site table) (S : Slots) (c : ℕ) : Type 0 where
+  pub reason-is : call .reason ≡ 0
+  pub count-is : call .count ≡ c
+  pub set-is : Is (call .set′) (has S)
+
+module _ (r : Row) (S : Slots) (c k : ℕ) (applied : ApplyCall (siteIn r) (sheetIn r)) (rewrote : RewriteCall (tableIn r) (sheetIn r))
+    (today : ListCall (siteIn r) (rewrittenTable rewrote)) (later : ListCall (applied .result′) (tableIn r)) where
+  pub record Answers : Type 0 where
+    pub applies : applied .reason ≡ 0
+    pub site-after : siteOf (applied .result′) ≡ after r
+    pub rewrites : rewrote .reason ≡ 0
+    pub nodes-are : rewrote .nodes ≡ k
+    pub lists-today : Lists today S c
+    pub lists-after : Lists later S c
+    -- where the condition is the name n and lists the slot p alone, that is the place of the name on the site after
+    pub place-after : (n p : ℕ) → r .table ≡ tableName n → S ≡ only (p ∷ []) → siteOf (applied .result′) .place n ≡ p
+
+-- ---- every row
+
+-- the set is listed; or item 13 is met by the sheet; or item 9 by the condition, which neither lists nor is rewritten
+abbrev pub Returns : Row → Expected → Type 0
+Returns r (lists S c k) =
+    (applied : ApplyCall (siteIn r) (sheetIn r)) (rewrote : RewriteCall (tableIn r) (sheetIn r))
+    (today : ListCall (siteIn r) (rewrittenTable rewrote)) (later : ListCall (applied .result′) (tableIn r))
+    → Answers r S c k applied rewrote today later
+Returns r (stuckAt w) = (call : ApplyCall (siteIn r) (sheetIn r)) → NotApplied call 13 w
+Returns r (oddAt w) =
+    ((call : ListCall (siteIn r) (tableIn r)) → NotListed call 9 w)
+    × ((call : RewriteCall (tableIn r) (sheetIn r)) → NotRewritten call 9 w)
+
+-- each row of a list
+abbrev pub AllReturned : List Row → Type 0
+AllReturned [] = Unit {0}
+AllReturned (r ∷ rs) = (Written r × Returns r (r .expected)) × AllReturned rs

@@ -1,0 +1,27 @@
+-- The job file of document 01, "The job file and its print": site, condition, sheet, then a trailer that points back.
+use mathlib.Core.List.{List}
+use Prim.Native.Nat.{ℕ, _+_, _*_, _-_}
+use lib.ListN.{length, getD}
+
+-- how many bytes the trailer has, and the file at most: TRAILER_BYTES and FILE_LIMIT of the code
+abbrev pub trailerBytes : ℕ
+trailerBytes = 12
+
+abbrev pub fileLimit : ℕ
+fileLimit = 65536
+
+-- where the trailer starts: the length less 12
+abbrev pub trailerAt : List ℕ → ℕ
+trailerAt file = length file - trailerBytes
+
+-- the number in the four bytes from a on, low byte first
+abbrev pub quadAt : List ℕ → ℕ → ℕ
+quadAt S a = getD S a 0 + 256 * getD S (a + 1) 0 + 65536 * getD S (a + 2) 0 + 16777216 * getD S (a + 3) 0
+
+-- the distances from the trailer's start back to the start of the sheet (k is 0), the condition (1) and the site (2)
+unfoldable pub distance : (k : ℕ) (file : List ℕ) → ℕ
+distance k file = quadAt file (trailerAt file + 4 * k)
+
+-- where that piece starts
+unfoldable pub startOf : (k : ℕ) (file : List ℕ) → ℕ
+startOf k file = trailerAt file - distance k file

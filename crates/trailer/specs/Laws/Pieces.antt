@@ -1,0 +1,113 @@
+-- The pieces of a file: where they start, and that nothing is lost and nothing is there twice.
+use mathlib.Core.Path.{_≡_, sym, ap, _∙_}
+use mathlib.Core.Bool.{true, false}
+use mathlib.Core.List.{List, [], _++_}
+use Prim.Native.Nat.{ℕ, zero, suc, _+_, _-_, _≤_, _<_}
+use native.Mathlib.Omega.{arith}
+use lib.ListN.{length, take, drop, length-take, length-drop, take-append-drop}
+use lib.Seq.{drop-drop}
+use Rattle.finite.specs.Laws.Bools.{either, look}
+use Rattle.verdict.specs.declared.Verdict.the-variants.{Accepted, Refused}
+use Rattle.trailer.specs.File.{trailerBytes, fileLimit, trailerAt, distance, startOf}
+use Rattle.trailer.specs.Refusal.{item2, trailerVerdict}
+use Rattle.trailer.specs.Pieces.{pieceIn, siteIn, conditionIn, sheetIn}
+use Rattle.trailer.specs.Laws.Verdict.{Laid, laid, unrefused, accepted-laid, refused-2}
+
+-- ---- where the pieces start
+
+pub start-in : (k : ℕ) (file : List ℕ) → startOf k file ≤ trailerAt file
+unfolding startOf
+start-in k file = omega arith
+
+module _ (file : List ℕ) (l : Laid file) where
+  pub distance-in : (k : ℕ) → k < 3 → distance k file ≤ trailerAt file
+  distance-in zero h = omega (arith, l .sheet-first, l .condition-next, l .site-last)
+  distance-in (suc zero) h = omega (arith, l .condition-next, l .site-last)
+  distance-in (suc (suc zero)) h = omega (arith, l .site-last)
+  distance-in (suc (suc (suc k))) h = absurd (omega arith)
+
+  pub site-start : startOf 2 file ≡ 0
+  unfolding startOf
+  site-start = omega (arith, l .site-last)
+
+  pub condition-start : startOf 2 file ≤ startOf 1 file
+  condition-start = omega (arith, site-start)
+
+  pub sheet-start : startOf 1 file ≤ startOf 0 file
+  unfolding startOf
+  sheet-start = omega (arith, l .sheet-first)
+
+-- ---- a piece of a file that is refused, and of one that is not
+
+pub piece-none : (a e : ℕ) (file : List ℕ) → item2 file ≡ true → pieceIn a e file ≡ []
+unfolding pieceIn
+piece-none a e file p = rw p
+
+pub piece-is : (a e : ℕ) (file : List ℕ) → item2 file ≡ false → pieceIn a e file ≡ take (e - a) (drop a file)
+unfolding pieceIn
+piece-is a e file p = rw p
+
+-- the part that is handed back, from where it starts and ends
+pub piece-at : (file : List ℕ) {a e a′ e′ : ℕ} → a ≡ a′ → e ≡ e′ → item2 file ≡ false → take (e - a) (drop a file) ≡ pieceIn a′ e′ file
+piece-at file p q u = rw (p, q) (sym (piece-is _ _ file u))
+
+-- a refused file has empty pieces
+module _ (file : List ℕ) {n w : ℕ} (v : trailerVerdict file ≡ Refused n w) where
+  pub site-none : siteIn file ≡ []
+  unfolding siteIn
+  site-none = piece-none _ _ file (refused-2 file v .0)
+
+  pub condition-none : conditionIn file ≡ []
+  unfolding conditionIn
+  condition-none = piece-none _ _ file (refused-2 file v .0)
+
+  pub sheet-none : sheetIn file ≡ []
+  unfolding sheetIn
+  sheet-none = piece-none _ _ file (refused-2 file v .0)
+
+-- ---- the pieces and the trailer are the file
+
+piece-next : (a e : ℕ) (file : List ℕ) → Laid file → a ≤ e → pieceIn a e file ++ drop e file ≡ drop a file
+piece-next a e file l h =
+    let to-end : a + (e - a) ≡ e = omega arith in
+    let rest : drop (e - a) (drop a file) ≡ drop e file = drop-drop (e - a) a file ∙ ap (λ (k : ℕ). drop k file) to-end in
+    rw (piece-is a e file (unrefused file l), ← rest) (take-append-drop (e - a) (drop a file))
+
+-- the trailer's bytes
+abbrev pub trailerIn : List ℕ → List ℕ
+trailerIn file = drop (trailerAt file) file
+
+module _ (file : List ℕ) (v : trailerVerdict file ≡ Accepted) where
+  pub pieces-whole : siteIn file ++ (conditionIn file ++ (sheetIn file ++ trailerIn file)) ≡ file
+  unfolding siteIn conditionIn sheetIn
+  pieces-whole =
+      let l = accepted-laid file v in
+      rw (
+        piece-next (startOf 0 file) (trailerAt file) file l (start-in 0 file),
+        piece-next (startOf 1 file) (startOf 0 file) file l (sheet-start file l),
+        piece-next (startOf 2 file) (startOf 1 file) file l (condition-start file l),
+        site-start file l,
+      )
+
+  pub trailer-length : length (trailerIn file) ≡ trailerBytes
+  trailer-length = simp length-drop (omega (arith, accepted-laid file v .enough))
+
+-- ---- lengths
+
+piece-fits : (a e : ℕ) (file : List ℕ) → e ≤ trailerAt file → length (pieceIn a e file) ≤ fileLimit - trailerBytes
+piece-fits a e file h =
+    either (look (item2 file))
+    (λ p. rw (piece-none a e file p) (omega arith))
+    (λ p. rw (piece-is a e file p) (simp (length-take, length-drop) (omega (arith, laid file p .at-most))))
+
+pub site-fits : (file : List ℕ) → length (siteIn file) ≤ fileLimit - trailerBytes
+unfolding siteIn
+site-fits file = piece-fits _ _ file (start-in 1 file)
+
+pub condition-fits : (file : List ℕ) → length (conditionIn file) ≤ fileLimit - trailerBytes
+unfolding conditionIn
+condition-fits file = piece-fits _ _ file (start-in 0 file)
+
+pub sheet-fits : (file : List ℕ) → length (sheetIn file) ≤ fileLimit - trailerBytes
+unfolding sheetIn
+sheet-fits file = piece-fits (startOf 0 file) (trailerAt file) file (omega arith)

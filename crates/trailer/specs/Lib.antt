@@ -1,0 +1,6 @@
+-- The job file: its layout, item 2, and its pieces.
+pub mod File
+pub mod Refusal
+pub mod Pieces
+-- what is proved of them
+pub mod Laws

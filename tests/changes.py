@@ -1,0 +1,369 @@
+#!/usr/bin/env python3
+"""Writes crates/changes/stdin and stdout: sites, conditions and sheets, and for each what applying, rewriting and listing answer.
+
+Written from document 01 alone and in another way than the crates: a site is a Python object with sets
+and dictionaries, and the blocks of rewriting are the paper's own postfix texts, read word by word.
+"""
+import copy
+import random
+import sys
+
+import lists
+import pieces
+
+
+# ---- applying
+
+class Site:
+    def __init__(self, d):
+        self.present = set(pieces.members(d, 0))
+        self.labels = {(p, s) for p in range(16) for s in pieces.members(d, pieces.LABELS_AT + 32 * p)}
+        self.names = list(d[pieces.NAMES_AT:pieces.NAMES_AT + 16])
+        self.links = {(f + 4, s, d[pieces.TARGETS_AT + 256 * f + s]) for f in range(4) for s in range(256)}
+        self.links = {(m, s, t) for m, s, t in self.links if t}
+        self.links |= {(m, s, t) for m in range(4) for s in range(256) for t in pieces.members(d, pieces.ROWS_AT + 8192 * m + 32 * s)}
+
+    def target(self, f, s):
+        return next((t for m, u, t in self.links if (m, u) == (f, s)), 0)
+
+    def bytes(self):
+        d = bytearray(pieces.SITE_BYTES)
+        for s in self.present:
+            pieces.put(d, 0, s)
+        for p, s in self.labels:
+            pieces.put(d, pieces.LABELS_AT + 32 * p, s)
+        d[pieces.NAMES_AT:pieces.NAMES_AT + 16] = bytes(self.names)
+        for m, s, t in self.links:
+            if m < 4:
+                pieces.put(d, pieces.ROWS_AT + 8192 * m + 32 * s, t)
+            else:
+                d[pieces.TARGETS_AT + 256 * (m - 4) + s] = t
+        return d
+
+
+def goes_through(site, edit):
+    op, x, y, z = edit
+    if op == 4:
+        here, there = site.names[y], site.names[z]
+        return here != 0 and there != 0 and (x < 4 or site.target(x, here) in (0, there))
+    if op == 7:
+        return y not in site.present
+    if op == 8:
+        return site.names[x] != 0
+    return True
+
+
+def change(site, edit):
+    """The site that the edit leaves; what it reads is the site before."""
+    op, x, y, z = edit
+    new, at = copy.deepcopy(site), site.names
+    if op == 0:
+        new.names[x] = at[y]
+    elif op == 1:
+        new.names[x] = site.target(z, at[y])
+    elif op == 2:
+        new.labels.add((y, at[x]))
+    elif op == 3:
+        new.labels.discard((y, at[x]))
+    elif op == 4:
+        new.links.add((x, at[y], at[z]))
+    elif op == 5:
+        new.links.discard((x, at[y], at[z]))
+    elif op == 6:
+        new.links = {(m, s, t) for m, s, t in site.links if (m, s) != (x, at[y])}
+    elif op == 7:
+        new.present.add(y)
+        new.names[x] = y
+    elif op == 8:
+        gone = at[x]
+        new.present.discard(gone)
+        new.labels = {(p, s) for p, s in site.labels if s != gone}
+        new.links = {(m, s, t) for m, s, t in site.links if gone not in (s, t)}
+        new.names = [0 if s == gone else s for s in at]
+    return new
+
+
+def edits_of(d):
+    return [tuple(d[i:i + 4]) for i in range(0, len(d), 4)]
+
+
+def apply(d, sheet):
+    site = Site(d)
+    for k, edit in enumerate(edits_of(sheet)):
+        if not goes_through(site, edit):
+            return None, (13, k)
+        site = change(site, edit)
+    return site.bytes(), None
+
+
+# ---- rewriting: the paper's texts
+
+def text(edit, kind, param):
+    """The block of a node of this kind and parameter, in the words of document 01; None where it is copied."""
+    op, x, y, z = edit
+    names = {}
+    if kind in (8, 9):
+        way = param
+        if way == 16:
+            return None
+        link, back = way % 8, way >= 8
+        names = {"m": way, "f": way, "f-": way}
+    if op == 0 and kind == 3 and param == x:
+        return "n2", {"n2": y}
+    if op == 1 and kind == 3 and param == x:
+        return "n2 <f-> nil n2 t <f> & <E> ! & |", {"n2": y, "f": z, "f-": z + 8}
+    if op == 2 and kind == 2 and param == y:
+        return "p n |", {"p": y, "n": x}
+    if op == 3 and kind == 2 and param == y:
+        return "p n ! &", {"p": y, "n": x}
+    if op in (4, 5) and kind in (8, 9) and link == x:
+        names["n1"], names["n2"] = (z, y) if back else (y, z)
+        texts = {
+            (4, 8): "T <m> n1 n2 T & <E> & |", (4, 9): "T [m] n1 ! n2 ! T | [E] | &",
+            (5, 8): "n1 ! T <m> & n2 ! T & <m> |", (5, 9): "n1 T [m] | n2 T | [m] &",
+        }
+        return texts[op, kind], names
+    if op == 6 and kind in (8, 9) and link == x:
+        names["n"] = y
+        texts = {
+            (8, False): "n ! T <f> &", (9, False): "n T [f] |", (8, True): "n ! T & <f->", (9, True): "n T | [f-]",
+        }
+        return texts[kind, back], names
+    if op == 7 and kind == 3 and param == x:
+        return "k", {"k": y}
+    if op == 7 and kind == 1:
+        return "h k |", {"k": y}
+    if op == 8:
+        if kind == 1:
+            return "h n ! &", {"n": x}
+        if kind == 2:
+            return "p n ! &", {"p": param, "n": x}
+        if kind == 3 and param != 0:
+            return "y n ! & nil n y & <E> & |", {"y": param, "n": x}
+        if kind in (8, 9):
+            names["n"] = x
+            return ("n ! n ! T & <m> &" if kind == 8 else "n n T | [m] |"), names
+    return None
+
+
+def put_text(out, words, names, image):
+    stack = []
+
+    def node(*fields):
+        out.append(fields)
+        stack.append(len(out) - 1)
+
+    for word in words.split():
+        if word == "T":
+            stack.append(image)
+        elif word == "!":
+            node(5, 0, stack.pop(), 0)
+        elif word in "&|":
+            right, left = stack.pop(), stack.pop()
+            node(7 if word == "&" else 6, 0, left, right)
+        elif word[0] in "<[":
+            way = 16 if word[1:-1] == "E" else names[word[1:-1]]
+            node(8 if word[0] == "<" else 9, way, stack.pop(), 0)
+        elif word == "t":
+            node(0, 0, 0, 0)
+        elif word == "h":
+            node(1, 0, 0, 0)
+        elif word == "k":
+            node(12, names["k"], 0, 0)
+        elif word == "p":
+            node(2, names["p"], 0, 0)
+        elif word == "nil":
+            node(3, 0, 0, 0)
+        else:
+            node(3, names[word], 0, 0)
+    assert len(stack) == 1
+    return stack[0]
+
+
+def rewrite_edit(edit, nodes):
+    out, images = [], []
+    for kind, param, left, right in nodes:
+        block = text(edit, kind, param)
+        if block:
+            images.append(put_text(out, *block, images[left] if kind in (8, 9) else None))
+        else:
+            two, one = kind in pieces.BINARY, kind in pieces.UNARY
+            out.append((kind, param, images[left] if one or two else 0, images[right] if two else 0))
+            images.append(len(out) - 1)
+    return out
+
+
+def rewrite(condition, sheet):
+    nodes = lists.nodes_of(condition)
+    for edit in reversed(edits_of(sheet)):
+        nodes = rewrite_edit(edit, nodes)
+        if len(nodes) > 2048:
+            return None, (14, 0)
+    return pieces.table(*nodes), None
+
+
+# ---- what is printed
+
+def refused(verdict):
+    return "refused %d %d" % verdict
+
+
+def answer(site, condition, sheet):
+    after, table = None, None
+    verdict = pieces.judge_site(site) or pieces.judge_sheet(sheet)
+    if not verdict:
+        after, verdict = apply(site, sheet)
+    if verdict:
+        applied = refused(verdict)
+    else:
+        applied = "applied" + "".join(" %d:%d" % (k, b) for k, b in enumerate(after) if b != site[k])
+    verdict = pieces.judge_condition(condition) or pieces.judge_sheet(sheet)
+    if not verdict:
+        table, verdict = rewrite(condition, sheet)
+    if verdict:
+        nodes = refused(verdict)
+    else:
+        nodes = "%d nodes %s" % (len(table) // 6, table.hex())
+    lines = [applied, nodes]
+    if after is not None and table is not None:
+        one, two = lists.answer(after, condition), lists.answer(site, table)
+        assert one == two, (one, two)
+        lines += ["after " + one, "today " + two]
+    return lines
+
+
+# ---- cases
+
+def random_edit(rng, site):
+    op = rng.randrange(9)
+    new = rng.choice([s for s in range(1, 256) if s not in site.present] or [255])
+    operands = {pieces.name: lambda: rng.choice((rng.randrange(16), rng.randrange(1, 4))), pieces.moved: lambda: rng.choice((rng.randrange(1, 16), rng.randrange(1, 4))),
+                pieces.link: lambda: rng.choice((rng.randrange(8), rng.choice((0, 4)))), pieces.functional: lambda: rng.choice((rng.randrange(4, 8), 4)),
+                pieces.unused: lambda: 0, pieces.slot: lambda: new}
+    return (op, *(operands[o]() for o in pieces.OPERANDS[op]))
+
+
+def random_sheet(rng, d, length):
+    """Edits that go through, for the most part."""
+    site, sheet = Site(d), bytearray()
+    for _ in range(length):
+        for _ in range(20):
+            edit = random_edit(rng, site)
+            if goes_through(site, edit) or rng.random() < 0.01:
+                break
+        else:
+            continue
+        sheet += bytes(edit)
+        if goes_through(site, edit):
+            site = change(site, edit)
+    return sheet
+
+
+def every_kind():
+    """A condition with every kind of node, each way under a diamond and under a box, names and labels of every number."""
+    nodes = [(0, 0, 0, 0), (1, 0, 0, 0), (4, 0, 0, 0), (12, 7, 0, 0), (4, 1, 0, 0), (11, 1, 4, 0)]
+    nodes += [(2, p, 0, 0) for p in range(16)] + [(3, n, 0, 0) for n in range(16)]
+    for way in range(17):
+        nodes += [(8, way, (0, 1, 2, 3, 6, 7, 22, 23, 24, 25)[way % 10], 0), (9, way, len(nodes) - 3, 0)]
+    nodes += [(5, 0, 1, 0), (7, 0, len(nodes), len(nodes) - 1), (6, 0, 2, len(nodes) + 1), (10, 0, len(nodes) + 2, 0)]
+    return pieces.table(*nodes)
+
+
+def damaged(rng, d):
+    d = bytearray(d)
+    if d:
+        d[rng.randrange(len(d))] ^= 1 << rng.randrange(8)
+    return d
+
+
+def cases(rng):
+    a, r = pieces.site_a(), pieces.R
+    sheet = lambda *edits: bytearray(b for edit in edits for b in (list(edit) + [0, 0, 0])[:4])
+    name = lambda n: pieces.table((3, n, 0, 0))
+    yield a, r, sheet((6, 4, 1))
+    yield a, r, sheet()
+    yield a, r, sheet((8, 1))
+    yield a, name(1), sheet((8, 1))
+    yield a, r, sheet((0, 1, 2), (6, 4, 1))
+    yield a, r, sheet((6, 4, 1), (0, 1, 2))
+    yield a, name(3), sheet((7, 3, 4))
+    yield a, name(3), sheet((7, 3, 3))
+    yield a, r, sheet((4, 4, 1, 2))
+    yield a, r, sheet((4, 4, 1, 1))
+    yield a, name(1), sheet((1, 1, 1, 4))
+    yield a, name(1), sheet((1, 1, 3, 4))
+    # R through k edits: 5 + 8(2^k - 1) nodes
+    for k in range(10):
+        yield a, r, sheet(*[(5, 4, 1, 2)] * k)
+    # every operation on every kind and way, on a dense little site
+    site = bytearray(a)
+    for s in (1, 2, 3):
+        for m in range(4):
+            for t in (1, 2, 3):
+                if (s + t + m) % 3:
+                    pieces.put(site, pieces.ROWS_AT + 8192 * m + 32 * s, t)
+        for f in range(4):
+            site[pieces.TARGETS_AT + 256 * f + s] = (s + f) % 4
+        for p in range(16):
+            if (s + p) % 3:
+                pieces.put(site, pieces.LABELS_AT + 32 * p, s)
+    pieces.put(site, pieces.LABELS_AT, 0)
+    site[pieces.NAMES_AT + 3] = 2
+    condition = every_kind()
+    one = [sheet((0, x, y)) for x, y in ((1, 2), (2, 1), (3, 3), (1, 0), (15, 1))]
+    one += [sheet((1, x, y, f)) for x, y, f in ((1, 2, 4), (1, 1, 4), (2, 1, 5), (3, 0, 6), (1, 3, 7))]
+    one += [sheet((op, n, p)) for op in (2, 3) for n, p in ((1, 0), (2, 3), (0, 0), (3, 15))]
+    one += [sheet((op, m, x, y)) for op in (4, 5) for m in range(8) for x, y in ((1, 2), (2, 1), (1, 1), (0, 1), (3, 1), (0, 0))]
+    one += [sheet((6, f, n)) for f in range(4, 8) for n in (0, 1, 2)]
+    one += [sheet((7, n, k)) for n, k in ((1, 4), (1, 255), (3, 7), (2, 0), (2, 3))]
+    one += [sheet((8, n)) for n in (0, 1, 2, 3)]
+    for s in one:
+        yield site, condition, s
+    # the order of the items: the site before the sheet, the condition before the sheet, 12 before 13 before 14
+    yield a[:-1], r[:-1], sheet((9,))
+    yield a, r[:-1], sheet((9,))
+    absent, labelled = bytearray(a), bytearray(a)
+    absent[0] = 14
+    pieces.put(labelled, pieces.LABELS_AT + 32, 9)
+    yield absent, r, sheet((6, 4, 1))
+    yield labelled, r, sheet((9,))
+    yield a, r, sheet((8, 0), (9,))
+    yield a, r, sheet((8, 0))[:-1]
+    yield a, r, sheet((8, 0), *[(5, 4, 1, 2)] * 9)
+    yield a, r, sheet(*[(5, 4, 1, 2)] * 9)
+    yield a, pieces.table((4, 0, 0, 0), (5, 0, 0, 0), (10, 0, 1, 0)), sheet((8, 0))
+    yield a, pieces.table((4, 0, 0, 0)), sheet((6, 4, 1))
+    yield a, r, sheet(*[(0, 1, 2)] * 64)
+    yield a, r, sheet(*[(0, 1, 2)] * 65)
+    yield a, r, sheet(*[(0, 1, 2)] * 63, (8, 0))
+    full = pieces.table((2, 0, 0, 0), *((6, 0, i, i) for i in range(2047)))
+    yield a, full, sheet((6, 4, 1))
+    yield a, full, sheet((2, 1, 0))
+    yield a, full + pieces.table((6, 0, 2047, 2047)), sheet()
+    for _ in range(150):
+        site = lists.random_site(rng, rng.choice((0, 5, 30, 120)))
+        condition = lists.random_condition(rng)
+        edits = random_sheet(rng, site, rng.choice((1, 2, 3, 4, 6)))
+        part = rng.randrange(8)
+        yield damaged(rng, site) if part == 0 else site, damaged(rng, condition) if part == 1 else condition, damaged(rng, edits) if part == 2 else edits
+
+
+def main():
+    sys.setrecursionlimit(20000)
+    rng = random.Random(34352)
+    stdin, stdout, count = bytearray(), [], {}
+    for site, condition, sheet in cases(rng):
+        for kind, d in ((pieces.SITE, site), (pieces.CONDITION, condition), (pieces.SHEET, sheet)):
+            stdin += pieces.encode(kind, d)
+        lines = answer(site, condition, sheet)
+        stdout += lines
+        for line in lines:
+            words = line.split()
+            key = " ".join(words[:2]) if words[0] == "refused" else "nodes" if "nodes" in words else words[0]
+            count[key] = count.get(key, 0) + 1
+    pieces.write("changes", stdin, stdout)
+    print(count, file=sys.stderr)
+
+
+if __name__ == "__main__":
+    main()

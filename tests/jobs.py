@@ -1,0 +1,319 @@
+#!/usr/bin/env python3
+"""Writes crates/job/stdin and stdout, and those of crates/jobs: jobs, and for each what is printed of it.
+
+The trailer, the order of the items and the class numbers are written here from document 01 alone, the
+classes in another way than the crates': blocks of slots are split by what reaches a block until none is
+left that splits. The single items, applying, rewriting and listing are those of pieces.py, changes.py and lists.py.
+
+A job is stored as a piece of at most 65,535 bytes (pieces.py) and, behind it, zeros: the piece's kind is one more than their number.
+"""
+import random
+import struct
+import sys
+
+import changes
+import lists
+import pieces
+
+LONGEST = 65536
+
+
+# ---- the file
+
+def job(site, condition, sheet):
+    near, middle, far = len(sheet), len(condition) + len(sheet), len(site) + len(condition) + len(sheet)
+    return bytes(site) + bytes(condition) + bytes(sheet) + struct.pack("<3I", near, middle, far)
+
+
+def parts(file):
+    """Site, condition and sheet; None where item 2 is met."""
+    if not 12 <= len(file) <= LONGEST:
+        return None
+    end = len(file) - 12
+    near, middle, far = struct.unpack_from("<3I", file, end)
+    if middle < near or far < middle or far != end:
+        return None
+    return file[end - far:end - middle], file[end - middle:end - near], file[end - near:end]
+
+
+# ---- classes
+
+def class_numbers(d):
+    site = lists.Site(d)
+    alike = {}
+    for s in lists.ALL:
+        labels = tuple(s in label for label in site.labels)
+        names = tuple(s == place for place in site.names)
+        alike.setdefault((s in site.present, labels, names), set()).add(s)
+    blocks = list(alike.values())
+    waiting = list(blocks)
+    while waiting:
+        splitter = waiting.pop()
+        for way in range(16):
+            reach = {s for s, targets in site.next[way].items() if targets & splitter}
+            for block in [b for b in blocks if b & reach and b - reach]:
+                blocks.remove(block)
+                blocks += [block & reach, block - reach]
+                waiting += [block & reach, block - reach]
+    numbers = bytearray(256)
+    for block in blocks:
+        for s in block:
+            numbers[s] = min(block)
+    return numbers
+
+
+# ---- what is printed
+
+def checksum(d):
+    h = 0
+    for b in d:
+        h = (257 * h + b + 1) % 4294967291
+    return h
+
+
+def answer(file):
+    """The lines of `job`, and one more of `jobs` where nothing is refused."""
+    verdict, three = (2, 0), parts(file)
+    if three:
+        site, condition, sheet = three
+        verdict = pieces.judge_site(site) or pieces.judge_condition(condition) or pieces.judge_sheet(sheet)
+        if not verdict:
+            after, verdict = changes.apply(site, sheet)
+        if not verdict:
+            table, verdict = changes.rewrite(condition, sheet)
+    if verdict:
+        return ["refused %d %d" % verdict]
+    one, two, numbers = lists.answer(after, condition), lists.answer(site, table), class_numbers(after)
+    assert one == two, (one, two)
+    long = table + bytes(12288 - len(table))
+    return [
+        "after " + one, "today " + two, "nodes %d" % (len(table) // 6), "classes %d" % len(set(numbers)),
+        "site %d table %d numbers %s" % (checksum(after), checksum(long), numbers.hex()),
+    ]
+
+
+# ---- cases
+
+def sheet(*edits):
+    return bytearray(b for edit in edits for b in (list(edit) + [0, 0, 0])[:4])
+
+
+def name(n):
+    return pieces.table((3, n, 0, 0))
+
+
+def with_bytes(d, *changed):
+    d = bytearray(d)
+    for at, value in changed:
+        d[at] = value
+    return d
+
+
+def with_trailer(file, *numbers):
+    return file[:-12] + struct.pack("<3I", *numbers)
+
+
+A, R = pieces.site_a(), pieces.R
+DT2 = sheet((6, 4, 1))
+J = job(A, R, DT2)
+DOUBLE = [(5, 4, 1, 2)]
+ODD = pieces.table((4, 0, 0, 0), (5, 0, 0, 0), (10, 0, 1, 0))
+OPEN = pieces.table((0, 0, 0, 0), (4, 3, 0, 0))
+FULL = pieces.table((2, 0, 0, 0), *((6, 0, i, i) for i in range(2047)))
+
+
+def by_hand():
+    """Document 01's small sites."""
+    yield A, R, sheet()
+    yield A, R, sheet((8, 1))
+    yield A, R, sheet((0, 1, 2), (6, 4, 1))
+    yield A, R, sheet((6, 4, 1), (0, 1, 2))
+    yield A, name(3), sheet((7, 3, 4))
+    yield A, name(3), sheet((7, 3, 3))
+    yield A, R, sheet((4, 4, 1, 2))
+    yield A, R, sheet((4, 4, 1, 1))
+    yield A, name(1), sheet((1, 1, 1, 4))
+    yield A, name(1), sheet((1, 1, 3, 4))
+    yield A, pieces.table((0, 0, 0, 0), (5, 0, 0, 0), (9, 4, 1, 0)), sheet()
+    ring = with_bytes(A, (pieces.TARGETS_AT + 1, 3))
+    for kind in (11, 10):
+        yield ring, pieces.table((4, 0, 0, 0), (8, 4, 0, 0), (kind, 0, 1, 0)), sheet()
+    yield A, ODD, sheet()
+    yield A, pieces.table((4, 0, 0, 0), (5, 0, 0, 0), (5, 0, 1, 0), (10, 0, 2, 0)), sheet()
+    # both class 4; absent slots 6
+    yield with_bytes(A, (0, 63), (pieces.TARGETS_AT + 4, 1), (pieces.TARGETS_AT + 5, 1)), R, sheet()
+    yield A, FULL, sheet()
+    yield A, FULL, DT2
+    yield A, FULL + pieces.table((6, 0, 2047, 2047)), sheet()
+    yield A, pieces.table((12, 200, 0, 0), *((5, 0, i, 0) for i in range(2047))), sheet(*[(0, 1, 2)] * 64)
+
+
+def files():
+    """Item 2: each of its reasons, and what just passes."""
+    end = len(J) - 12
+    yield b""
+    yield J[-11:]
+    yield bytes(12)
+    yield with_trailer(J, 34, 4, end)
+    yield with_trailer(J, 35, 34, end)
+    yield with_trailer(J, 4, end, 34)
+    yield with_trailer(J, 4, end + 1, end)
+    yield with_trailer(J, 4, 34, end - 1)
+    yield with_trailer(J, 4, 34, end + 1)
+    yield with_trailer(J, 4, 34, 0)
+    yield with_trailer(J, *[0xFFFFFFFF] * 3)
+    yield with_trailer(J, 0xFFFFFFFF, 34, end)
+    yield with_trailer(J, 4, 0xFFFFFFFF, end)
+    yield with_trailer(J, 4, 34, 0xFFFFFFFF)
+    for high in (1 << 16, 1 << 24, 1 << 31):
+        yield with_trailer(J, 4, 34, end + high)
+        yield with_trailer(J, 4 + high, 34 + high, end)
+    yield J[1:]
+    yield J[:-1]
+    yield J + b"\0"
+    # equal distances: empty pieces
+    yield job(A, R, b"")
+    yield job(A, b"", DT2)
+    yield job(b"", R, DT2)
+    yield with_trailer(J, 34, 34, end)
+    yield with_trailer(J, 4, end, end)
+    yield with_trailer(J, end, end, end)
+    # the longest file, and one byte more
+    for n in (LONGEST - 1, LONGEST, LONGEST + 1):
+        yield job(A, bytes(n - 12 - len(A) - len(DT2)), DT2)
+        yield job(bytes(n - 12 - len(R) - len(DT2)), R, DT2)
+    yield bytes(LONGEST + 1)
+
+
+def refusals():
+    """Items 3 to 14, with W."""
+    yield A[:-1], R, DT2
+    yield A + b"\0", R, DT2
+    yield with_bytes(A, (0, 14)), R, DT2
+    yield with_bytes(A, (pieces.NAMES_AT, 1)), R, DT2
+    yield with_bytes(A, (pieces.NAMES_AT + 5, 9)), R, DT2
+    yield with_bytes(A, (pieces.LABELS_AT + 1, 1)), R, DT2
+    yield with_bytes(A, (pieces.TARGETS_AT + 1, 9)), R, DT2
+    yield with_bytes(A, (pieces.ROWS_AT + 32, 1)), R, DT2
+    for n in (0, 5, 7, 12294):
+        yield A, bytes(n), DT2
+    yield A, R[:-4] + pieces.table((13, 0, 0, 0))[:4], DT2
+    yield A, R + pieces.table((13, 0, 0, 0), (14, 0, 0, 0)), DT2
+    yield A, R + pieces.table((5, 0, 5, 0)), DT2
+    yield A, pieces.table((0, 0, 0, 0)) * 300 + pieces.table((6, 0, 299, 300)), DT2
+    yield A, ODD, DT2
+    yield A, R + pieces.table((0, 0, 0, 0)) * 300 + pieces.table((4, 1, 0, 0), (5, 0, 305, 0), (11, 1, 306, 0), (10, 1, 306, 0)), DT2
+    yield A, OPEN, DT2
+    yield A, pieces.table((0, 0, 0, 0)) * 2047 + pieces.table((4, 0, 0, 0)), DT2
+    yield A, R, DT2[:3]
+    yield A, R, DT2 + b"\6"
+    yield A, R, DT2 * 64
+    yield A, R, DT2 * 65
+    yield A, R, sheet((9,))
+    yield A, R, DT2 * 63 + sheet((6, 3, 1))
+    yield A, R, DT2 + sheet((7, 0, 9), (7, 0, 9))
+    yield A, R, sheet((0, 1, 2, 1))
+    yield A, R, sheet((8, 0))
+    yield A, R, sheet((8, 1), (8, 1))
+    yield A, R, sheet((7, 1, 9), (7, 1, 9), (8, 0))
+    yield A, R, DT2 * 63 + sheet((4, 4, 0, 1))
+    yield A, R, sheet(*DOUBLE * 8)
+    yield A, R, sheet(*DOUBLE * 9)
+    yield A, FULL, sheet((2, 1, 0))
+    yield A, FULL, sheet((3, 1, 0), (0, 1, 2))
+
+
+def collisions():
+    """Two items met: the lower number is answered."""
+    unmarked = with_bytes(A, (pieces.LABELS_AT + 1, 1))
+    unlinked = with_bytes(A, (pieces.TARGETS_AT + 9, 1))
+    unfit = R + pieces.table((13, 0, 0, 0))
+    yield A[:-1], R[:-1], DT2[:-1]
+    yield with_bytes(A, (0, 14), (pieces.LABELS_AT + 1, 1), (pieces.TARGETS_AT + 9, 1)), R[:-1], DT2
+    yield with_bytes(unmarked, (pieces.TARGETS_AT + 9, 1)), R[:-1], DT2
+    yield unlinked, R[:-1], DT2[:-1]
+    yield unlinked, R, sheet((9,))
+    yield A, R[:-1], DT2[:-1]
+    yield A, R[:-1], sheet((8, 0))
+    yield A, ODD + pieces.table((13, 0, 0, 0)), DT2
+    yield A, unfit, sheet((9,))
+    yield A, ODD + OPEN[:6] + pieces.table((4, 3, 0, 0)), DT2[:-1]
+    yield A, OPEN, DT2[:-1]
+    yield A, OPEN, sheet((8, 0))
+    yield A, R, sheet((9,), (8, 0))[:-1]
+    yield A, R, sheet((8, 0), (9,))
+    yield A, R, sheet((8, 0), *DOUBLE * 9)
+    yield A, R, sheet(*DOUBLE * 9, (8, 0))
+    yield A, R, sheet(*DOUBLE * 9, (9,))
+    yield A, R, sheet(*DOUBLE * 9)[:-1]
+    yield A, FULL, sheet((2, 1, 0), (8, 0))
+
+
+def classing():
+    """Sites whose classes take several rounds, and the links of a sheet that joins or parts them."""
+    chain = bytearray(pieces.SITE_BYTES)
+    for s in range(41):
+        pieces.put(chain, 0, s)
+        if 0 < s < 40:
+            chain[pieces.TARGETS_AT + s] = s + 1
+    two = with_bytes(chain, (pieces.TARGETS_AT + 20, 0))
+    for s in range(1, 21):
+        pieces.put(two, pieces.ROWS_AT + 8192 * (s % 4) + 32 * s, 20 + s)
+        pieces.put(two, pieces.ROWS_AT + 8192 * (s % 4) + 32 * (20 + s), s)
+    rings = bytearray(pieces.SITE_BYTES)
+    for s in range(30):
+        pieces.put(rings, 0, s)
+        if s > 2:
+            rings[pieces.TARGETS_AT + 512 + s] = s - s % 3 + (s + 1) % 3
+    rings[pieces.TARGETS_AT + 512 + 1], rings[pieces.TARGETS_AT + 512 + 2] = 5, 3
+    for site in (chain, two, rings):
+        yield site, R, sheet()
+        yield site, R, sheet((7, 1, 250), (7, 2, 251), (4, 2, 1, 2), (2, 1, 7))
+    rings[pieces.NAMES_AT + 1], rings[pieces.NAMES_AT + 2] = 5, 28
+    yield rings, R, sheet((6, 6, 1), (0, 1, 0), (0, 2, 0))
+    yield rings, R, sheet((7, 3, 255), (8, 2), (5, 6, 1, 1))
+
+
+def cases(rng):
+    yield J
+    yield from files()
+    for make in (by_hand, refusals, collisions, classing):
+        for three in make():
+            yield job(*three)
+    for _ in range(60):
+        site = lists.random_site(rng, rng.choice((0, 5, 30, 120)))
+        condition = lists.random_condition(rng)
+        edits = changes.random_sheet(rng, site, rng.choice((1, 2, 3, 4, 6)))
+        three = [site, condition, edits]
+        part = rng.randrange(12)
+        if part < 3:
+            three[part] = changes.damaged(rng, three[part])
+        file = bytearray(job(*three))
+        if part == 3:
+            file[rng.randrange(-12, 0)] ^= 1 << rng.randrange(8)
+        yield file
+
+
+def encode(file):
+    more = max(0, len(file) - (LONGEST - 1))
+    assert not any(file[LONGEST - 1:])
+    return pieces.encode(1 + more, file[:LONGEST - 1])
+
+
+def main():
+    sys.setrecursionlimit(20000)
+    rng = random.Random(65536)
+    pieces.write("job", J, answer(J)[:4])
+    stdin, stdout, count = bytearray(), [], {}
+    for file in cases(rng):
+        stdin += encode(file)
+        lines = answer(file)
+        stdout += lines
+        key = " ".join(lines[0].split()[:2]) if len(lines) == 1 else "done"
+        count[key] = count.get(key, 0) + 1
+    pieces.write("jobs", stdin, stdout)
+    print(count, file=sys.stderr)
+
+
+if __name__ == "__main__":
+    main()
