@@ -204,26 +204,21 @@ def rewrite(condition, sheet):
 
 # ---- what is printed
 
-def refused(verdict):
-    return "refused %d %d" % verdict
+def outcome(verdict, work, show):
+    """What the work gives where nothing is refused before or by it, and the line for it."""
+    result = None
+    if not verdict:
+        result, verdict = work()
+    return result, "refused %d %d" % verdict if verdict else show(result)
 
 
 def answer(site, condition, sheet):
-    after, table = None, None
-    verdict = pieces.judge_site(site) or pieces.judge_sheet(sheet)
-    if not verdict:
-        after, verdict = apply(site, sheet)
-    if verdict:
-        applied = refused(verdict)
-    else:
-        applied = "applied" + "".join(" %d:%d" % (k, b) for k, b in enumerate(after) if b != site[k])
-    verdict = pieces.judge_condition(condition) or pieces.judge_sheet(sheet)
-    if not verdict:
-        table, verdict = rewrite(condition, sheet)
-    if verdict:
-        nodes = refused(verdict)
-    else:
-        nodes = "%d nodes %s" % (len(table) // 6, table.hex())
+    after, applied = outcome(
+        pieces.judge_site(site) or pieces.judge_sheet(sheet), lambda: apply(site, sheet),
+        lambda d: "applied" + "".join(" %d:%d" % (k, b) for k, b in enumerate(d) if b != site[k]))
+    table, nodes = outcome(
+        pieces.judge_condition(condition) or pieces.judge_sheet(sheet), lambda: rewrite(condition, sheet),
+        lambda d: "%d nodes %s" % (len(d) // 6, d.hex()))
     lines = [applied, nodes]
     if after is not None and table is not None:
         one, two = lists.answer(after, condition), lists.answer(site, table)
