@@ -18,7 +18,7 @@ fn answer(file: &[u8]) {
         &mut classes,
         &mut work,
     );
-    job_print::print(r, &after, &today);
+    job_text::print(r, &after, &today);
 }
 
 fn main() {

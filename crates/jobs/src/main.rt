@@ -101,7 +101,7 @@ fn answer(file: &[u8]) {
         &mut classes,
         &mut work,
     );
-    job_print::print(r, &after, &today);
+    job_text::print(r, &after, &today);
     if is_refused(r) {
         complain(!pieces::all_zero(&site), b"site left\n");
         complain(!pieces::all_zero(&table), b"table left\n");
