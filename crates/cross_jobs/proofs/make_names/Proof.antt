@@ -1,0 +1,69 @@
+-- `cross_jobs::make_names` ends, and its slices keep their lengths.
+use mathlib.Core.Path.{_≡_}
+use Prim.Native.Nat.{_≤_, _-_}
+use native.Mathlib.Omega.{arith}
+use borrow.Author.Needs.{needs}
+use lib.ListN.{length}
+use Rattle.cross_jobs.proofs.make_names.Statement.{statement}
+use Rattle.cross_jobs.proofs.make_names.Tie as tie
+
+abbrev Inv-loop : tie.InvT-loop
+Inv-loop file₀ job n k₀ file k = (k ≤ 15) × (length file ≡ length file₀)
+
+abbrev μ-loop : tie.MeasureT-loop
+μ-loop file₀ job n k₀ file k = 15 - k
+
+loop-holds : tie.Need-loop-holds Inv-loop μ-loop
+loop-holds c = omega arith
+
+add-put-byte : tie.Need-add-put-byte Inv-loop μ-loop
+add-put-byte c = omega arith
+
+add-pick : tie.Need-add-pick Inv-loop μ-loop
+add-pick c = omega arith
+
+add-requires : tie.Need-add-requires Inv-loop μ-loop
+add-requires c κs = search needs
+
+pick-requires : tie.Need-pick-requires Inv-loop μ-loop
+pick-requires c κs = search needs
+
+slot-requires : tie.Need-slot-requires Inv-loop μ-loop
+slot-requires c κs = search needs
+
+put-byte-requires : tie.Need-put-byte-requires Inv-loop μ-loop
+put-byte-requires c κs = search needs
+
+add-k : tie.Need-add-k Inv-loop μ-loop
+add-k c = omega arith
+
+loop-less : tie.Need-loop-less Inv-loop μ-loop
+loop-less c = omega arith
+
+loop-again : tie.Need-loop-again Inv-loop μ-loop
+loop-again c = omega arith
+
+same-length : tie.Need-same-length Inv-loop μ-loop
+same-length c = omega arith
+
+returns : tie.Need-returns Inv-loop μ-loop
+returns c = search needs
+
+pub make-names-spec : {M : Type 1} → statement M
+make-names-spec =
+    tie.close
+    (tie.spec
+    Inv-loop
+    μ-loop
+    loop-holds
+    add-put-byte
+    add-pick
+    add-requires
+    pick-requires
+    slot-requires
+    put-byte-requires
+    add-k
+    loop-less
+    loop-again
+    same-length
+    returns)

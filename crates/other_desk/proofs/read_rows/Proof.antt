@@ -1,0 +1,49 @@
+-- `other_desk::read_rows` ends, and its slices keep their lengths.
+use mathlib.Core.Path.{_≡_}
+use Prim.Native.Nat.{_≤_, _-_}
+use native.Mathlib.Omega.{arith}
+use borrow.Author.Needs.{needs}
+use lib.ListN.{length}
+use Rattle.other_desk.proofs.read_rows.Statement.{statement}
+use Rattle.other_desk.proofs.read_rows.Tie as tie
+
+abbrev Inv-loop : tie.InvT-loop
+Inv-loop site form₀ i₀ form i = (i ≤ 32768) × (length form ≡ length form₀)
+
+abbrev μ-loop : tie.MeasureT-loop
+μ-loop site form₀ i₀ form i = 32768 - i
+
+loop-holds : tie.Need-loop-holds Inv-loop μ-loop
+loop-holds c = omega arith
+
+read-row-byte-requires : tie.Need-read-row-byte-requires Inv-loop μ-loop
+read-row-byte-requires c κs = search needs
+
+add-i : tie.Need-add-i Inv-loop μ-loop
+add-i c = omega arith
+
+loop-less : tie.Need-loop-less Inv-loop μ-loop
+loop-less c = omega arith
+
+loop-again : tie.Need-loop-again Inv-loop μ-loop
+loop-again c = omega arith
+
+same-length : tie.Need-same-length Inv-loop μ-loop
+same-length c = omega arith
+
+returns : tie.Need-returns Inv-loop μ-loop
+returns c = search needs
+
+pub read-rows-spec : {M : Type 1} → statement M
+read-rows-spec =
+    tie.close
+    (tie.spec
+    Inv-loop
+    μ-loop
+    loop-holds
+    read-row-byte-requires
+    add-i
+    loop-less
+    loop-again
+    same-length
+    returns)

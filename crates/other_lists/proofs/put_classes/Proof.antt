@@ -1,0 +1,53 @@
+-- `other_lists::put_classes` ends, and its slices keep their lengths.
+use mathlib.Core.Path.{_≡_}
+use Prim.Native.Nat.{_≤_, _-_}
+use native.Mathlib.Omega.{arith}
+use borrow.Author.Needs.{needs}
+use lib.ListN.{length}
+use Rattle.other_lists.proofs.put_classes.Statement.{statement}
+use Rattle.other_lists.proofs.put_classes.Tie as tie
+
+abbrev Inv-loop : tie.InvT-loop
+Inv-loop pairs numbers₀ n₀ s₀ numbers n s = (s ≤ 256) × (length numbers ≡ length numbers₀)
+
+abbrev μ-loop : tie.MeasureT-loop
+μ-loop pairs numbers₀ n₀ s₀ numbers n s = 256 - s
+
+loop-holds : tie.Need-loop-holds Inv-loop μ-loop
+loop-holds c = omega arith
+
+put-class-requires : tie.Need-put-class-requires Inv-loop μ-loop
+put-class-requires c κs = search needs
+
+add-requires : tie.Need-add-requires Inv-loop μ-loop
+add-requires c κs = search needs
+
+add-s : tie.Need-add-s Inv-loop μ-loop
+add-s c = omega arith
+
+loop-less : tie.Need-loop-less Inv-loop μ-loop
+loop-less c = omega arith
+
+loop-again : tie.Need-loop-again Inv-loop μ-loop
+loop-again c = omega arith
+
+same-length : tie.Need-same-length Inv-loop μ-loop
+same-length c = omega arith
+
+returns : tie.Need-returns Inv-loop μ-loop
+returns c = search needs
+
+pub put-classes-spec : {M : Type 1} → statement M
+put-classes-spec =
+    tie.close
+    (tie.spec
+    Inv-loop
+    μ-loop
+    loop-holds
+    put-class-requires
+    add-requires
+    add-s
+    loop-less
+    loop-again
+    same-length
+    returns)
