@@ -45,16 +45,6 @@ pub fn clear(set: &mut [u8])
     }
 }
 
-// Puts every slot in.
-pub fn fill(set: &mut [u8])
-    requires { ⌜ length (now set) ≡ setBytes ⌝ }
-    ensures { λ _. ⌜ Is (now (set .exit)) (λ s. true) × (now (set .exit) ≡ replicate setBytes 255) ⌝ }
-{
-    for i in 0..SET_BYTES {
-        set[i] = 255;
-    }
-}
-
 // The slots of either set, into `dst`.
 pub fn union_with(dst: &mut [u8], src: &[u8])
     requires { ⌜ (length (now dst) ≡ setBytes) × (length (now src) ≡ setBytes) ⌝ }
@@ -98,30 +88,28 @@ pub fn equal(a: &[u8], b: &[u8]) -> bool
     true
 }
 
-// Is every slot of `a` in `b`?
+// Is every slot of `a` in `b`? All bytes are looked at, so that the compiler takes many at a time.
 pub fn subset(a: &[u8], b: &[u8]) -> bool
     requires { ⌜ (length (now a) ≡ setBytes) × (length (now b) ≡ setBytes) ⌝ }
     ensures { λ r. ⌜ r ≡ all setSlots (λ s. not (has (now (a .entry)) s) || has (now (b .entry)) s) ⌝ }
 {
+    let mut outside = 0u8;
     for i in 0..SET_BYTES {
-        if a[i] & !b[i] != 0 {
-            return false;
-        }
+        outside = outside | (a[i] & !b[i]);
     }
-    true
+    outside == 0
 }
 
-// Is some slot in both?
+// Is some slot in both? All bytes are looked at, as in `subset`.
 pub fn meets(a: &[u8], b: &[u8]) -> bool
     requires { ⌜ (length (now a) ≡ setBytes) × (length (now b) ≡ setBytes) ⌝ }
     ensures { λ r. ⌜ r ≡ any setSlots (λ s. has (now (a .entry)) s && has (now (b .entry)) s) ⌝ }
 {
+    let mut both = 0u8;
     for i in 0..SET_BYTES {
-        if a[i] & b[i] != 0 {
-            return true;
-        }
+        both = both | (a[i] & b[i]);
     }
-    false
+    both != 0
 }
 
 // How many slots the set holds: its bits that are set.

@@ -1,12 +1,15 @@
 // Blocks of nodes, spelled as texts, written into the buffer of a rewritten table. Document 01, "Rewriting".
+use buffer::wide;
 ghost use mathlib.Core.Path.{_≡_};
 ghost use Prim.Native.Nat.{_+_, _/_, _%_, _≤_, _<_};
 ghost use lib.ListN.{length};
 ghost use Rattle.blocks.specs.Text.{kindBy, paramBy, childBy, textNodes};
 ghost use Rattle.blocks.specs.Write.{tableBytes, put, puts};
 
-// The most nodes of a table.
+// The most nodes of a table, and their bytes.
 pub const TABLE_NODES: usize = 2048;
+
+pub const TABLE_BYTES: usize = 6 * TABLE_NODES;
 
 // Kinds of nodes.
 pub const TRUE: u8 = 0;
@@ -37,12 +40,6 @@ pub const SLOT: u8 = 12;
 
 // The way that leads everywhere.
 pub const EVERY: u8 = 16;
-
-fn wide(x: u8) -> usize
-    ensures { λ r. ⌜ (r ≡ x) × (r < 256) ⌝ }
-{
-    x as usize
-}
 
 fn low(x: usize) -> u8
     ensures { λ r. ⌜ r ≡ x % 256 ⌝ }

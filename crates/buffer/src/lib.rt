@@ -1,7 +1,7 @@
-// Buffers that a caller lends, of whatever length.
+// Buffers that a caller lends, of whatever length; and a byte as an index.
 ghost use mathlib.Core.Path.{_≡_};
 ghost use mathlib.Core.List.{_++_};
-ghost use Prim.Native.Nat.{_≤_};
+ghost use Prim.Native.Nat.{_≤_, _<_};
 ghost use lib.ListN.{length, take, drop, replicate};
 
 // Every byte becomes 0.
@@ -25,4 +25,11 @@ pub fn copy(dst: &mut [u8], src: &[u8], n: usize)
         dst[i] = src[i];
         i += 1;
     }
+}
+
+// A byte as a number, with its bound, so that it may be an index.
+pub fn wide(x: u8) -> usize
+    ensures { λ r. ⌜ (r ≡ x) × (r < 256) ⌝ }
+{
+    x as usize
 }

@@ -3,7 +3,7 @@
 // A refusal is printed as `refused N W`. What a buffer should not hold, and a buffer of another length that is not refused, is said.
 use libc::STDOUT_FILENO;
 use list_entry::Listing;
-use rewrite_entry::Rewriting;
+use rewriting::Rewriting;
 use verdict::Verdict;
 
 fn print_refusal(item: u8, place: u16) {
@@ -53,9 +53,7 @@ fn short_site_is_refused(site: &[u8], sheet: &[u8]) -> bool {
 fn short_table_is_refused(cond: &[u8], sheet: &[u8]) -> bool {
     let mut result = [170u8; 12287];
     let r = rewrite_entry::rewrite(cond, sheet, &mut result);
-    is_item_1(rewrite_entry::verdict(r))
-        & (rewrite_entry::nodes(r) == 0)
-        & pieces::all_zero(&result)
+    is_item_1(rewriting::verdict(r)) & (rewriting::nodes(r) == 0) & pieces::all_zero(&result)
 }
 
 // Applies and prints; true where the sheet is applied.
@@ -102,7 +100,7 @@ fn rewrite(cond: &[u8], sheet: &[u8], result: &mut [u8]) -> usize {
     }
     complain(!short_table_is_refused(cond, sheet), b" short buffer taken");
     io::write_all(STDOUT_FILENO, b"\n");
-    6 * rewrite_entry::nodes(r) as usize
+    6 * rewriting::nodes(r) as usize
 }
 
 fn print_list(site: &[u8], cond: &[u8]) {

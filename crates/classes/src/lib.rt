@@ -1,9 +1,10 @@
 // The class numbers of a site's slots: a partition, refined round by round until a round changes nothing.
+use buffer::wide;
 ghost use mathlib.Core.Path.{_≡_};
-ghost use Prim.Native.Nat.{_<_};
+ghost use Prim.Native.Nat.{_+_, _*_, _≤_, _<_};
 ghost use lib.ListN.{length, getD};
 ghost use Rattle.finite.specs.Tests.{same, any, all};
-ghost use Rattle.bitset.specs.Set.{setSlots};
+ghost use Rattle.bitset.specs.Set.{setBytes, setSlots};
 ghost use Rattle.semantics.specs.Laws.Refine.{like};
 ghost use Rattle.site.specs.Layout.{siteBytes, rowsBytes};
 ghost use Rattle.site.specs.Site.{siteOf};
@@ -11,7 +12,7 @@ ghost use Rattle.partition.specs.Gains.{Gains};
 ghost use Rattle.partition.specs.Rows.{waysBytes};
 ghost use Rattle.partition.specs.Partition.{Partition, Parts, Next};
 ghost use Rattle.classes.specs.Classes.{Classes, different};
-ghost use Rattle.classes.specs.Marks.{marks, mark, Marked, marking};
+ghost use Rattle.classes.specs.Marks.{namesFrom, marks, mark, Marked, marking};
 use bitset::SET_BYTES;
 use bitset::SET_SLOTS;
 use neighbours::WAYS;
@@ -25,12 +26,6 @@ const LABELS_FROM: usize = 1;
 const NAMES_FROM: usize = LABELS_FROM + LABELS;
 
 const MARKS: usize = NAMES_FROM + NAMES;
-
-fn wide(x: u8) -> usize
-    ensures { λ r. ⌜ (r ≡ x) × (r < setSlots) ⌝ }
-{
-    x as usize
-}
 
 // Is mark c said of slot s?
 fn has_mark(site: &[u8], s: usize, c: usize) -> bool
@@ -57,14 +52,48 @@ fn put_mark(site: &[u8], s: usize, c: usize, sig: &mut [u8])
     bitset::insert(sig, SET_SLOTS * s + c);
 }
 
-// Puts all that is said of s into row s.
-fn put_marks(site: &[u8], s: usize, sig: &mut [u8])
-    requires { ⌜ (length (now site) ≡ siteBytes) × ((s < setSlots) × (length (now sig) ≡ rowsBytes)) ⌝ }
-    ensures { λ _. ⌜ Gains (λ y. any marks (λ c. marking (siteOf (now (site .entry))) s c y)) (now (sig .entry)) (now (sig .exit)) ⌝ }
+// Puts mark c, which the site has as the set at byte 32 * c, into the rows of the eight slots of byte i.
+fn put_eight(site: &[u8], c: usize, i: usize, sig: &mut [u8])
+    requires { ⌜ (length (now site) ≡ siteBytes) × ((c < namesFrom) × ((i < setBytes) × (length (now sig) ≡ rowsBytes))) ⌝ }
+    ensures { λ _. ⌜ Gains (λ y. any 8 (λ j. marking (siteOf (now (site .entry))) (8 * i + j) c y)) (now (sig .entry)) (now (sig .exit)) ⌝ }
 {
-    for c in 0..MARKS {
-        put_mark(site, s, c, sig);
+    if site[SET_BYTES * c + i] == 0 {
+        return;
     }
+    for j in 0..8 {
+        put_mark(site, 8 * i + j, c, sig);
+    }
+}
+
+// Puts it into the rows of all slots.
+fn put_set(site: &[u8], c: usize, sig: &mut [u8])
+    requires { ⌜ (length (now site) ≡ siteBytes) × ((c < namesFrom) × (length (now sig) ≡ rowsBytes)) ⌝ }
+    ensures { λ _. ⌜ Gains (λ y. any setSlots (λ s. marking (siteOf (now (site .entry))) s c y)) (now (sig .entry)) (now (sig .exit)) ⌝ }
+{
+    for i in 0..SET_BYTES {
+        put_eight(site, c, i, sig);
+    }
+}
+
+// Puts mark c, a name, into the row of its slot.
+fn put_name(site: &[u8], c: usize, sig: &mut [u8])
+    requires { ⌜ (length (now site) ≡ siteBytes) × ((namesFrom ≤ c) × ((c < marks) × (length (now sig) ≡ rowsBytes))) ⌝ }
+    ensures { λ _. ⌜ Gains (λ y. any setSlots (λ s. marking (siteOf (now (site .entry))) s c y)) (now (sig .entry)) (now (sig .exit)) ⌝ }
+{
+    let s = site::place(site, c - NAMES_FROM);
+    put_mark(site, s, c, sig);
+}
+
+// Puts mark c into the rows of the slots that it is said of.
+fn put_marks(site: &[u8], c: usize, sig: &mut [u8])
+    requires { ⌜ (length (now site) ≡ siteBytes) × ((c < marks) × (length (now sig) ≡ rowsBytes)) ⌝ }
+    ensures { λ _. ⌜ Gains (λ y. any setSlots (λ s. marking (siteOf (now (site .entry))) s c y)) (now (sig .entry)) (now (sig .exit)) ⌝ }
+{
+    if c < NAMES_FROM {
+        put_set(site, c, sig);
+        return;
+    }
+    put_name(site, c, sig);
 }
 
 // What is said of each slot.
@@ -73,8 +102,8 @@ fn marks_of(site: &[u8]) -> [u8; ROWS_BYTES]
     ensures { λ r. ⌜ Marked (siteOf (now (site .entry))) r ⌝ }
 {
     let mut sig = [0u8; ROWS_BYTES];
-    for s in 0..SET_SLOTS {
-        put_marks(site, s, &mut sig);
+    for c in 0..MARKS {
+        put_marks(site, c, &mut sig);
     }
     sig
 }

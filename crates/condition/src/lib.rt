@@ -1,4 +1,5 @@
 // The node table of a condition: reading a node's fields, and items 7 and 8.
+use buffer::wide;
 ghost use mathlib.Core.Path.{_≡_};
 ghost use mathlib.Core.Bool.{true};
 ghost use Prim.Native.Nat.{_+_, _*_, _≤_, _<_};
@@ -22,12 +23,6 @@ pub fn size_fits(n: usize) -> bool
         return false;
     }
     true
-}
-
-fn wide(x: u8) -> usize
-    ensures { λ r. ⌜ (r ≡ x) × (r < 256) ⌝ }
-{
-    x as usize
 }
 
 fn word(table: &[u8], at: usize) -> usize
@@ -129,7 +124,7 @@ fn child_limit(k: u8, lo: u8, hi: u8, i: usize) -> usize
 }
 
 // Item 8 is not met by node i.
-pub fn node_fits(table: &[u8], i: usize) -> bool
+fn node_fits(table: &[u8], i: usize) -> bool
     requires { ⌜ 6 * i + 6 ≤ length (now table) ⌝ }
     ensures { λ r. ⌜ r ≡ nodeFits i (nodeAt (now (table .entry)) i) ⌝ }
 {

@@ -22,9 +22,8 @@ use Rattle.condition.specs.Refusal.{conditionVerdict}
 use Rattle.sheet.specs.Bytes.{editsOf}
 use Rattle.sheet.specs.Refusal.{sheetVerdict}
 use Rattle.blocks.specs.Write.{tableBytes}
-use Rattle.rewriting.specs.Result.{tooLong}
-use Rattle.listing.specs.Listed.{Listed}
-use Rattle.refusals.specs.Refusal.{workBytes}
+use Rattle.rewriting.specs.Refusal.{tooLong}
+use Rattle.listing.specs.Listed.{workBytes, Listed}
 use Rattle.classes_entry.specs.Refusal.{classesBytes}
 use Rattle.desk.specs.Returned.{ReturnedList, ReturnedApply, ReturnedRewrite, ReturnedClasses}
 
@@ -48,7 +47,7 @@ pub record RewriteCall (table sheet : List ℕ) : Type 0 where
   pub result-size : length result ≡ tableBytes
   pub returned : ReturnedRewrite table sheet result result′ reason place nodes
 
--- the set is a slice of bytes: it keeps its length, and each byte is below 256
+-- the set is a slice of bytes, each below 256
 pub record ListCall (site table : List ℕ) : Type 0 where
   pub set : List ℕ
   pub set′ : List ℕ
@@ -58,7 +57,6 @@ pub record ListCall (site table : List ℕ) : Type 0 where
   pub place : ℕ
   pub count : ℕ
   pub set-size : length set ≡ setBytes
-  pub set-stays : length set′ ≡ setBytes
   pub set-bytes : (k : ℕ) → getD set′ k 0 < 256
   pub work-size : length work ≡ workBytes
   pub returned : ReturnedList site table set set′ work work′ reason place count

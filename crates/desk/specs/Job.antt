@@ -4,8 +4,7 @@ use mathlib.Core.Path.{_≡_}
 use mathlib.Core.Logic.{_↔_}
 use mathlib.Core.List.{List}
 use Prim.Native.Nat.{ℕ, _*_, _<_}
-use lib.ListN.{length, getD, take}
-use Rattle.bitset.specs.Set.{setBytes}
+use lib.ListN.{getD, take}
 use Rattle.verdict.specs.declared.Verdict.the-variants.{Accepted}
 use Rattle.semantics.specs.Form.{slots}
 use Rattle.semantics.specs.Holds.{Env}
@@ -22,8 +21,8 @@ use Rattle.job_entry.specs.Buffers.{Buffers, Sized}
 use Rattle.desk.specs.Returned.{ReturnedJob}
 use Rattle.desk.specs.Demands.{Runnable, ToldApart}
 
--- a call of a job: six buffers of the stated lengths, and whatever it returns and leaves in them (′). The two sets are slices of bytes:
--- they keep their length, and each byte is below 256
+-- a call of a job: six buffers of the stated lengths, and whatever it returns and leaves in them (′). The two sets are slices of bytes,
+-- each below 256
 pub record JobCall (file : List ℕ) : Type 0 where
   pub lent : Buffers
   pub lent′ : Buffers
@@ -34,9 +33,7 @@ pub record JobCall (file : List ℕ) : Type 0 where
   pub nodes : ℕ
   pub classes : ℕ
   pub sized : Sized lent
-  pub after-stays : length (lent′ .after) ≡ setBytes
   pub after-bytes : (k : ℕ) → getD (lent′ .after) k 0 < 256
-  pub today-stays : length (lent′ .today) ≡ setBytes
   pub today-bytes : (k : ℕ) → getD (lent′ .today) k 0 < 256
   pub returned : ReturnedJob file lent lent′ reason place after today nodes classes
 

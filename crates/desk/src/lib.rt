@@ -79,10 +79,10 @@ pub extern "C" fn desk_rewrite(table: &[u8], sheet: &[u8], result: &mut [u8]) ->
     ensures { λ r. ⌜ ReturnedRewrite (now (table .entry)) (now (sheet .entry)) (now (result .entry)) (now (result .exit)) (r .reason) (r .place) (r .nodes) ⌝ }
 {
     let r = rewrite_entry::rewrite(table, sheet, result);
-    let v = rewrite_entry::verdict(r);
+    let v = rewriting::verdict(r);
     let number = verdict::reason(v);
     let fault = verdict::place(v);
-    let size = rewrite_entry::nodes(r);
+    let size = rewriting::nodes(r);
     RewriteAnswer {
         reason: number,
         place: fault,

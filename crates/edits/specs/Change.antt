@@ -147,13 +147,13 @@ namesTo M x i = record {
   link = M .link;
 }
 
--- link m leads neither from slots below i to slot x nor from x to them
-unfoldable pub linkTo : Model → ℕ → ℕ → ℕ → Model
-linkTo M m x i = record {
+-- link m does not lead from slots below i to slot x
+unfoldable pub columnTo : Model → ℕ → ℕ → ℕ → Model
+columnTo M m x i = record {
   present = M .present;
   marked = M .marked;
   place = M .place;
-  link = λ l s t. M .link l s t && not (same l m && ((same t x && below s i) || (same s x && below t i)));
+  link = λ l s t. M .link l s t && not (same l m && (same t x && below s i));
 }
 
 -- links below i lead neither from slot x nor to it

@@ -9,7 +9,7 @@ ghost use Rattle.semantics.specs.Edit.{CN1, CN2, AP, DP, AT, DT1, DT2, AS, DS, 
 ghost use Rattle.site.specs.Layout.{siteBytes, generalLinks, targetAt};
 ghost use Rattle.site.specs.Site.{siteOf};
 ghost use Rattle.sheet.specs.Bytes.{editOf};
-ghost use Rattle.edits.specs.Change.{withName, withLabel, withoutLabel, withLink, withoutLink, withoutName, withoutLinksOf, withoutLabels, withoutNames, withoutLinks, joins};
+ghost use Rattle.edits.specs.Change.{withName, withLabel, withoutLabel, withLink, withoutLink, withoutTarget, withoutName, columnTo, withoutLinksOf, withoutLabels, withoutNames, withoutLinks, joins};
 use bitset::SET_BYTES;
 use bitset::SET_SLOTS;
 use sheet::Op;
@@ -119,15 +119,45 @@ fn take_names(site: &mut [u8], s: usize)
     }
 }
 
-// Link m leads neither from slot s nor to it: its row and its column go.
+// Link m leads to slot s from nowhere.
+fn take_column(site: &mut [u8], m: usize, s: usize)
+    requires { ⌜ (length (now site) ≡ siteBytes) × ((m < links) × (s < setSlots)) ⌝ }
+    ensures { λ _. ⌜ siteOf (now (site .exit)) ≡ columnTo (siteOf (now (site .entry))) m s setSlots ⌝ }
+{
+    for t in 0..SET_SLOTS {
+        take_link(site, m, t, s);
+    }
+}
+
+// The general link m leads from slot s nowhere.
+fn clear_row(site: &mut [u8], m: usize, s: usize)
+    requires { ⌜ (length (now site) ≡ siteBytes) × ((m < generalLinks) × (s < setSlots)) ⌝ }
+    ensures { λ _. ⌜ siteOf (now (site .exit)) ≡ withoutTarget (siteOf (now (site .entry))) m s ⌝ }
+{
+    let b = ROWS_AT + ROWS_BYTES * m + SET_BYTES * s;
+    let e = b + SET_BYTES;
+    bitset::clear(&mut site[b..e]);
+}
+
+// Link m leads from slot s nowhere.
+fn take_row(site: &mut [u8], m: usize, s: usize)
+    requires { ⌜ (length (now site) ≡ siteBytes) × ((m < links) × (s < setSlots)) ⌝ }
+    ensures { λ _. ⌜ siteOf (now (site .exit)) ≡ withoutTarget (siteOf (now (site .entry))) m s ⌝ }
+{
+    if m < GENERAL_LINKS {
+        clear_row(site, m, s);
+    } else {
+        put_target(site, m, s, 0);
+    }
+}
+
+// Link m leads neither from slot s nor to it.
 fn take_row_and_column(site: &mut [u8], m: usize, s: usize)
     requires { ⌜ (length (now site) ≡ siteBytes) × ((m < links) × (s < setSlots)) ⌝ }
     ensures { λ _. ⌜ siteOf (now (site .exit)) ≡ withoutLinksOf (siteOf (now (site .entry))) m s ⌝ }
 {
-    for t in 0..SET_SLOTS {
-        take_link(site, m, t, s);
-        take_link(site, m, s, t);
-    }
+    take_column(site, m, s);
+    take_row(site, m, s);
 }
 
 // No link leads from slot s or to it.

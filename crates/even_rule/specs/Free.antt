@@ -16,10 +16,14 @@ pub record FreeRows (S rows : List ℕ) : Type 0 where
   pub node : (i v : ℕ) → i < length (tableOf S) → v < variables → bit (getD rows i 0) v ≡ free v (treeAt (tableOf S) i)
   pub rest : (i : ℕ) → length (tableOf S) ≤ i → getD rows i 0 ≡ 0
 
+-- 2,048 masks, all 0
+abbrev pub noMasks : List ℕ
+noMasks = replicate 2048 0
+
 -- the masks after a verdict: all are 0 where the table is refused
 unfoldable pub FreeAfter : Verdict → List ℕ → List ℕ → Type 0
 FreeAfter Accepted S rows = FreeRows S rows
-FreeAfter (Refused n w) S rows = rows ≡ replicate 2048 0
+FreeAfter (Refused n w) S rows = rows ≡ noMasks
 
 -- the check of the table S answers r and leaves these masks
 pub record Checked (S rows : List ℕ) (r : Verdict) : Type 0 where

@@ -11,7 +11,7 @@ ghost use Rattle.semantics.specs.Form.{even};
 ghost use Rattle.semantics.specs.Table.{treeAt, nodesFit};
 ghost use Rattle.condition.specs.Bytes.{tableOf};
 ghost use Rattle.condition.specs.Refusal.{sizeFits, firstUneven};
-ghost use Rattle.even_rule.specs.Free.{Checked};
+ghost use Rattle.even_rule.specs.Free.{noMasks, Checked};
 ghost use Rattle.even_rule.specs.Masks.{Shows, Children, Rows, Odds, Fit, Ready, Visited, ChildrenVisited, United};
 
 // The mask of the variable v alone.
@@ -208,17 +208,18 @@ fn no_flags() -> [u8; 2048]
     [0; 2048]
 }
 
-fn no_masks() -> [u16; 2048]
-    ensures { λ r. ⌜ r ≡ replicate 2048 0 ⌝ }
+// Room for the masks of a table's free variables.
+pub fn no_masks() -> [u16; 2048]
+    ensures { λ r. ⌜ r ≡ noMasks ⌝ }
 {
-    [0; 2048]
+    [0u16; 2048]
 }
 
 // Items 9 and 10 of a table that meets neither 7 nor 8.
 fn check_rules(table: &[u8], free: &mut [u16]) -> Verdict
     requires { ⌜ sizeFits (length (now table)) ≡ true ⌝ }
     requires { ⌜ nodesFit 0 (tableOf (now table)) ≡ true ⌝ }
-    requires { ⌜ now free ≡ replicate 2048 0 ⌝ }
+    requires { ⌜ now free ≡ noMasks ⌝ }
     ensures { λ r. ⌜ Checked (now (table .entry)) (now (free .exit)) r ⌝ }
 {
     let mut done = no_flags();

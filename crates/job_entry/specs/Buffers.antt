@@ -6,7 +6,7 @@ use lib.ListN.{length}
 use Rattle.bitset.specs.Set.{setBytes}
 use Rattle.site.specs.Layout.{siteBytes}
 use Rattle.blocks.specs.Write.{tableBytes}
-use Rattle.refusals.specs.Refusal.{workBytes}
+use Rattle.listing.specs.Listed.{workBytes}
 use Rattle.classes_entry.specs.Refusal.{classesBytes}
 
 -- the results, and the work buffer

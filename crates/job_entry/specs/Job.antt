@@ -5,9 +5,9 @@ use Prim.Native.Nat.{ℕ, _*_}
 use lib.ListN.{length, take, replicate}
 use Rattle.verdict.specs.declared.Verdict.{Verdict}
 use Rattle.trailer.specs.Pieces.{siteIn, conditionIn, sheetIn}
+use Rattle.rewriting.specs.Rewriting.{TableAfter}
 use Rattle.list_entry.specs.Listing.{SetAfter}
 use Rattle.apply_entry.specs.Applying.{SiteAfter}
-use Rattle.rewrite_entry.specs.Rewriting.{TableAfter}
 use Rattle.classes_entry.specs.Classing.{ClassesAfter}
 use Rattle.job_entry.specs.Buffers.{Buffers}
 use Rattle.job_entry.specs.Refusal.{jobVerdict}

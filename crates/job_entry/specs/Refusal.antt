@@ -17,7 +17,8 @@ use Rattle.applying.specs.Refusal.{goesVerdict}
 use Rattle.rewriting.specs.Refusal.{lengthVerdict}
 use Rattle.trailer.specs.Refusal.{trailerVerdict}
 use Rattle.trailer.specs.Pieces.{siteIn, conditionIn, sheetIn}
-use Rattle.refusals.specs.Refusal.{workBytes, bufferVerdict}
+use Rattle.listing.specs.Listed.{workBytes}
+use Rattle.refusals.specs.Refusal.{bufferVerdict}
 use Rattle.classes_entry.specs.Refusal.{classesBytes}
 use Rattle.job_entry.specs.Buffers.{Buffers}
 

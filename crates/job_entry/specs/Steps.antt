@@ -16,18 +16,14 @@ use Rattle.site.specs.Refusal.{siteVerdict}
 use Rattle.condition.specs.Bytes.{tableOf}
 use Rattle.condition.specs.Refusal.{conditionVerdict}
 use Rattle.even_rule.specs.Free.{FreeRows}
-use Rattle.sheet.specs.Bytes.{editsOf}
 use Rattle.sheet.specs.Refusal.{sheetVerdict}
-use Rattle.blocks.specs.Write.{tableBytes}
-use Rattle.applying.specs.Refusal.{goesVerdict}
-use Rattle.rewriting.specs.Refusal.{lengthVerdict}
-use Rattle.listing.specs.Listed.{Listed}
+use Rattle.blocks.specs.Write.{tableNodes, tableBytes}
+use Rattle.listing.specs.Listed.{workBytes, Listed}
 use Rattle.classes.specs.Classes.{Classes, different}
 use Rattle.trailer.specs.Refusal.{trailerVerdict}
 use Rattle.trailer.specs.Pieces.{siteIn, conditionIn, sheetIn}
-use Rattle.refusals.specs.Refusal.{workBytes}
 use Rattle.classes_entry.specs.Refusal.{classesBytes}
-use Rattle.job_steps.specs.Steps.{Judged}
+use Rattle.job_steps.specs.Steps.{Judged, changeVerdict}
 use Rattle.job_entry.specs.declared.Job.{Job}
 use Rattle.job_entry.specs.Buffers.{Buffers, Sized}
 use Rattle.job_entry.specs.Answer.{verdictOf, afterOf, todayOf, nodesOf, classesOf}
@@ -41,13 +37,10 @@ sizesFit site table after today classes work =
 abbrev pub sizesVerdict : Bool → Verdict
 sizesVerdict b = cond b Accepted (Refused 1 0)
 
--- items 2 to 12 of a file, and 13 and 14 of its pieces
+-- items 2 to 12 of a file
 unfoldable pub fileVerdict : List ℕ → Verdict
 fileVerdict file =
     trailerVerdict file then siteVerdict (siteIn file) then conditionVerdict (conditionIn file) then sheetVerdict (sheetIn file)
-
-unfoldable pub changeVerdict : (site table sheet : List ℕ) → Verdict
-changeVerdict site table sheet = goesVerdict (editsOf sheet) (siteOf site) then lengthVerdict (editsOf sheet) (tableOf table)
 
 -- items 1 to 12 are judged with v, and these masks of the condition's free variables are handed on
 abbrev pub FileJudged : (sizes : Bool) (file masks : List ℕ) → Verdict → Type 0
@@ -67,7 +60,7 @@ pub record Ready (old cond sheet free : List ℕ) (b : Buffers) : Type 0 where
   pub old-accepted : siteVerdict old ≡ Accepted
   pub cond-accepted : conditionVerdict cond ≡ Accepted
   pub sheet-accepted : sheetVerdict sheet ≡ Accepted
-  pub free-size : length free ≡ 2048
+  pub free-size : length free ≡ tableNodes
   pub free-rows : FreeRows cond free
   pub sized : Sized b
 
@@ -75,7 +68,7 @@ pub record Ready (old cond sheet free : List ℕ) (b : Buffers) : Type 0 where
 pub record Listable (old cond free site table : List ℕ) (n : ℕ) : Type 0 where
   pub old-size : length old ≡ siteBytes
   pub cond-accepted : conditionVerdict cond ≡ Accepted
-  pub free-size : length free ≡ 2048
+  pub free-size : length free ≡ tableNodes
   pub free-rows : FreeRows cond free
   pub site-size : length site ≡ siteBytes
   pub room : 6 * n ≤ length table

@@ -1,19 +1,18 @@
 // A job, for every input: the file is judged, its sheet is applied and its condition rewritten, and both are listed; or it is refused.
 use bitset::SET_BYTES;
 use bitset::SET_SLOTS;
-use job_steps::Outcome;
+use blocks::TABLE_BYTES;
+use listing::WORK_BYTES;
+use rewriting::Rewriting;
 use site::SITE_BYTES;
 use verdict::Verdict;
 ghost use mathlib.Core.Path.{_≡_};
 ghost use lib.ListN.{length, replicate};
+ghost use Rattle.blocks.specs.Write.{tableNodes};
 ghost use Rattle.job_entry.specs.Buffers.{six, Sets};
 ghost use Rattle.job_entry.specs.Answer.{verdictOf, afterOf, todayOf, nodesOf, classesOf};
 ghost use Rattle.job_entry.specs.Steps.{sizesFit, FileJudged, Zeros, Ready, Listable, Finished, Worked};
 ghost use Rattle.job_entry.specs.Job.{Answered};
-
-const TABLE_BYTES: usize = 12288;
-
-const WORK_BYTES: usize = 65536;
 
 // The answer of a job: how many slots are listed on the site after and today, how many nodes the rewritten table has, and how many
 // different class numbers there are; or the item that is met and its W.
@@ -22,34 +21,28 @@ pub enum Job {
     Refused(u8, u16),
 }
 
-fn no_masks() -> [u16; 2048]
-    ensures { λ r. ⌜ r ≡ replicate 2048 0 ⌝ }
-{
-    [0; 2048]
-}
-
-// Item 1 is not met by buffers of these lengths.
+// Item 1 is not met by these buffers.
 fn sizes_fit(
-    site: usize,
-    table: usize,
-    after: usize,
-    today: usize,
-    classes: usize,
-    work: usize,
+    site: &[u8],
+    table: &[u8],
+    after: &[u8],
+    today: &[u8],
+    classes: &[u8],
+    work: &[u8],
 ) -> bool
-    ensures { λ r. ⌜ r ≡ sizesFit site table after today classes work ⌝ }
+    ensures { λ r. ⌜ r ≡ sizesFit (length (now (site .entry))) (length (now (table .entry))) (length (now (after .entry))) (length (now (today .entry))) (length (now (classes .entry))) (length (now (work .entry))) ⌝ }
 {
-    (site == SITE_BYTES)
-        & (table == TABLE_BYTES)
-        & (after == SET_BYTES)
-        & (today == SET_BYTES)
-        & (classes == SET_SLOTS)
-        & (work == WORK_BYTES)
+    (site.len() == SITE_BYTES)
+        & (table.len() == TABLE_BYTES)
+        & (after.len() == SET_BYTES)
+        & (today.len() == SET_BYTES)
+        & (classes.len() == SET_SLOTS)
+        & (work.len() == WORK_BYTES)
 }
 
 // Items 1 to 12. The free variables of an accepted condition's nodes are written to `free`.
 fn judge(sizes: bool, file: &[u8], free: &mut [u16]) -> Verdict
-    requires { ⌜ length (now free) ≡ 2048 ⌝ }
+    requires { ⌜ length (now free) ≡ tableNodes ⌝ }
     ensures { λ r. ⌜ FileJudged sizes (now (file .entry)) (now (free .exit)) r ⌝ }
 {
     if !sizes {
@@ -138,8 +131,19 @@ fn work_on(
 {
     let r = job_steps::change(old, cond, sheet, site, table);
     match r {
-        Outcome::Nodes(n) => done(old, cond, free, site, table, n, after, today, classes, work),
-        Outcome::Refused(item, w) => refused(item, w, site, table, after, today, classes, work),
+        Rewriting::Rewritten(n) => done(
+            old,
+            cond,
+            free,
+            site,
+            table,
+            n,
+            after,
+            today,
+            classes,
+            work,
+        ),
+        Rewriting::Refused(item, w) => refused(item, w, site, table, after, today, classes, work),
     }
 }
 
@@ -155,15 +159,8 @@ pub fn run(
 ) -> Job
     ensures { λ r. ⌜ Answered (now (file .entry)) (six (now (site .entry)) (now (table .entry)) (now (after .entry)) (now (today .entry)) (now (classes .entry)) (now (work .entry))) (six (now (site .exit)) (now (table .exit)) (now (after .exit)) (now (today .exit)) (now (classes .exit)) (now (work .exit))) (verdictOf r) (afterOf r) (todayOf r) (nodesOf r) (classesOf r) ⌝ }
 {
-    let mut free = no_masks();
-    let sizes = sizes_fit(
-        site.len(),
-        table.len(),
-        after.len(),
-        today.len(),
-        classes.len(),
-        work.len(),
-    );
+    let mut free = even_rule::no_masks();
+    let sizes = sizes_fit(site, table, after, today, classes, work);
     let v = judge(sizes, file, &mut free);
     match v {
         Verdict::Accepted => {

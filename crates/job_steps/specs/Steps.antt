@@ -4,35 +4,30 @@ use mathlib.Core.List.{List}
 use Prim.Native.Nat.{ℕ}
 use Rattle.verdict.specs.Verdict.{_then_}
 use Rattle.verdict.specs.declared.Verdict.{Verdict}
-use Rattle.verdict.specs.declared.Verdict.the-variants as verdicts
+use Rattle.verdict.specs.declared.Verdict.the-variants.{Accepted}
 use Rattle.site.specs.Site.{siteOf}
 use Rattle.condition.specs.Bytes.{tableOf}
 use Rattle.even_rule.specs.Free.{FreeRows}
 use Rattle.sheet.specs.Bytes.{editsOf}
 use Rattle.applying.specs.Refusal.{goesVerdict}
+use Rattle.rewriting.specs.declared.Rewriting.{Rewriting}
+use Rattle.rewriting.specs.declared.Rewriting.the-variants.{Rewritten}
 use Rattle.rewriting.specs.Refusal.{lengthVerdict}
+use Rattle.rewriting.specs.Answer.{verdictOf}
+use Rattle.rewriting.specs.Rewriting.{TableAfter}
 use Rattle.apply_entry.specs.Applying.{SiteAfter}
-use Rattle.rewrite_entry.specs.Rewriting.{TableAfter}
-use Rattle.job_steps.specs.declared.Outcome.{Outcome}
-use Rattle.job_steps.specs.declared.Outcome.the-variants.{Nodes, Refused}
 
 -- inputs that have the verdict `due` are judged with v; an accepted table's free variables are handed on in these masks
 pub record Judged (due : Verdict) (table masks : List ℕ) (v : Verdict) : Type 0 where
   pub verdict : v ≡ due
-  pub rows : v ≡ verdicts.Accepted → FreeRows table masks
+  pub rows : v ≡ Accepted → FreeRows table masks
 
--- the verdict of each case
-abbrev pub outcomeOf : Outcome → Verdict
-outcomeOf (Nodes n) = verdicts.Accepted
-outcomeOf (Refused item w) = verdicts.Refused item w
-
--- rewriting answers r
-pub record Rewrote (table sheet result result′ : List ℕ) (r : Outcome) : Type 0 where
-  pub verdict : outcomeOf r ≡ lengthVerdict (editsOf sheet) (tableOf table)
-  pub table-after : (n : ℕ) → r ≡ Nodes n → TableAfter verdicts.Accepted table sheet result result′ n
+-- 13, then 14
+unfoldable pub changeVerdict : (site table sheet : List ℕ) → Verdict
+changeVerdict site table sheet = goesVerdict (editsOf sheet) (siteOf site) then lengthVerdict (editsOf sheet) (tableOf table)
 
 -- applying and rewriting answer r
-pub record Changed (site table sheet after after′ result result′ : List ℕ) (r : Outcome) : Type 0 where
-  pub verdict : outcomeOf r ≡ goesVerdict (editsOf sheet) (siteOf site) then lengthVerdict (editsOf sheet) (tableOf table)
-  pub site-after : (n : ℕ) → r ≡ Nodes n → SiteAfter verdicts.Accepted site sheet after after′
-  pub table-after : (n : ℕ) → r ≡ Nodes n → TableAfter verdicts.Accepted table sheet result result′ n
+pub record Changed (site table sheet after after′ result result′ : List ℕ) (r : Rewriting) : Type 0 where
+  pub verdict : verdictOf r ≡ changeVerdict site table sheet
+  pub site-after : (n : ℕ) → r ≡ Rewritten n → SiteAfter Accepted site sheet after after′
+  pub table-after : (n : ℕ) → r ≡ Rewritten n → TableAfter Accepted table sheet result result′ n

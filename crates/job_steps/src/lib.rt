@@ -1,5 +1,5 @@
 // The steps of a job on its pieces: they are judged, the sheet is applied and the condition rewritten, and conditions are listed.
-use rewriting::Rewritten;
+use rewriting::Rewriting;
 use verdict::Verdict;
 ghost use mathlib.Core.Path.{_≡_};
 ghost use Prim.Native.Nat.{_*_, _≤_};
@@ -14,13 +14,13 @@ ghost use Rattle.site.specs.Refusal.{siteVerdict};
 ghost use Rattle.condition.specs.Bytes.{tableOf};
 ghost use Rattle.condition.specs.Refusal.{conditionVerdict};
 ghost use Rattle.sheet.specs.Refusal.{sheetVerdict};
-ghost use Rattle.blocks.specs.Write.{tableBytes};
-ghost use Rattle.listing.specs.Listed.{Listed};
-ghost use Rattle.job_steps.specs.Steps.{Judged, Rewrote, Changed};
+ghost use Rattle.blocks.specs.Write.{tableNodes, tableBytes};
+ghost use Rattle.listing.specs.Listed.{workBytes, Listed};
+ghost use Rattle.job_steps.specs.Steps.{Judged, Changed};
 
 // Items 7 to 10 of the condition, then 11 and 12 of the sheet.
 fn judge_table(table: &[u8], sheet: &[u8], free: &mut [u16]) -> Verdict
-    requires { ⌜ length (now free) ≡ 2048 ⌝ }
+    requires { ⌜ length (now free) ≡ tableNodes ⌝ }
     ensures { λ r. ⌜ Judged (conditionVerdict (now (table .entry)) then sheetVerdict (now (sheet .entry))) (now (table .entry)) (now (free .exit)) r ⌝ }
 {
     let v = even_rule::check(table, free);
@@ -32,31 +32,13 @@ fn judge_table(table: &[u8], sheet: &[u8], free: &mut [u16]) -> Verdict
 
 // Items 3 to 12 of the three pieces. The free variables of an accepted condition's nodes are written to `free`.
 pub fn judge(site: &[u8], table: &[u8], sheet: &[u8], free: &mut [u16]) -> Verdict
-    requires { ⌜ length (now free) ≡ 2048 ⌝ }
+    requires { ⌜ length (now free) ≡ tableNodes ⌝ }
     ensures { λ r. ⌜ Judged (siteVerdict (now (site .entry)) then conditionVerdict (now (table .entry)) then sheetVerdict (now (sheet .entry))) (now (table .entry)) (now (free .exit)) r ⌝ }
 {
     let v = site::check(site);
     match v {
         Verdict::Accepted => judge_table(table, sheet, free),
         Verdict::Refused(item, place) => Verdict::Refused(item, place),
-    }
-}
-
-// What became of the pieces: the rewritten table has so many nodes, or an item is met, with its W.
-pub enum Outcome {
-    Nodes(u32),
-    Refused(u8, u16),
-}
-
-// The rewritten table, or item 14.
-fn rewrite(table: &[u8], sheet: &[u8], result: &mut [u8]) -> Outcome
-    requires { ⌜ (conditionVerdict (now table) ≡ Accepted) × ((sheetVerdict (now sheet) ≡ Accepted) × (length (now result) ≡ tableBytes)) ⌝ }
-    ensures { λ r. ⌜ Rewrote (now (table .entry)) (now (sheet .entry)) (now (result .entry)) (now (result .exit)) r ⌝ }
-{
-    let r = rewriting::rewrite_sheet(table, sheet, result);
-    match r {
-        Rewritten::Table(n) => Outcome::Nodes(n as u32),
-        Rewritten::TooLong => Outcome::Refused(14, 0),
     }
 }
 
@@ -67,32 +49,26 @@ pub fn change(
     sheet: &[u8],
     after: &mut [u8],
     result: &mut [u8],
-) -> Outcome
+) -> Rewriting
     requires { ⌜ (siteVerdict (now site) ≡ Accepted) × ((conditionVerdict (now table) ≡ Accepted) × (sheetVerdict (now sheet) ≡ Accepted)) ⌝ }
     requires { ⌜ (length (now after) ≡ siteBytes) × (length (now result) ≡ tableBytes) ⌝ }
     ensures { λ r. ⌜ Changed (now (site .entry)) (now (table .entry)) (now (sheet .entry)) (now (after .entry)) (now (after .exit)) (now (result .entry)) (now (result .exit)) r ⌝ }
 {
     let v = applying::apply(site, sheet, after);
     match v {
-        Verdict::Accepted => rewrite(table, sheet, result),
-        Verdict::Refused(item, place) => Outcome::Refused(item, place),
+        Verdict::Accepted => rewriting::rewrite_sheet(table, sheet, result),
+        Verdict::Refused(item, place) => Rewriting::Refused(item, place),
     }
-}
-
-fn no_masks() -> [u16; 2048]
-    ensures { λ r. ⌜ r ≡ replicate 2048 0 ⌝ }
-{
-    [0; 2048]
 }
 
 // What an accepted table lists on a site.
 fn list(site: &[u8], table: &[u8], set: &mut [u8], work: &mut [u8]) -> u32
     requires { ⌜ (length (now site) ≡ siteBytes) × (conditionVerdict (now table) ≡ Accepted) ⌝ }
-    requires { ⌜ (length (now set) ≡ setBytes) × (length (now work) ≡ 65536) ⌝ }
+    requires { ⌜ (length (now set) ≡ setBytes) × (length (now work) ≡ workBytes) ⌝ }
     ensures { λ r. ⌜ Listed (siteOf (now (site .entry))) (formOf (tableOf (now (table .entry)))) (now (set .exit)) r ⌝ }
-    ensures { λ _. ⌜ now (work .exit) ≡ replicate 65536 0 ⌝ }
+    ensures { λ _. ⌜ now (work .exit) ≡ replicate workBytes 0 ⌝ }
 {
-    let mut free = no_masks();
+    let mut free = even_rule::no_masks();
     even_rule::check(table, &mut free);
     listing::list(site, table, &free, set, work)
 }
@@ -100,9 +76,9 @@ fn list(site: &[u8], table: &[u8], set: &mut [u8], work: &mut [u8]) -> u32
 // What the table of the first n nodes lists on a site.
 pub fn list_first(site: &[u8], table: &[u8], n: u32, set: &mut [u8], work: &mut [u8]) -> u32
     requires { ⌜ (length (now site) ≡ siteBytes) × ((6 * n ≤ length (now table)) × (conditionVerdict (take (6 * n) (now table)) ≡ Accepted)) ⌝ }
-    requires { ⌜ (length (now set) ≡ setBytes) × (length (now work) ≡ 65536) ⌝ }
+    requires { ⌜ (length (now set) ≡ setBytes) × (length (now work) ≡ workBytes) ⌝ }
     ensures { λ r. ⌜ Listed (siteOf (now (site .entry))) (formOf (tableOf (take (6 * n) (now (table .entry))))) (now (set .exit)) r ⌝ }
-    ensures { λ _. ⌜ now (work .exit) ≡ replicate 65536 0 ⌝ }
+    ensures { λ _. ⌜ now (work .exit) ≡ replicate workBytes 0 ⌝ }
 {
     let end = 6 * (n as usize);
     list(site, &table[..end], set, work)

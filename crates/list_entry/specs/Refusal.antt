@@ -6,7 +6,8 @@ use Rattle.verdict.specs.Verdict.{_then_}
 use Rattle.verdict.specs.declared.Verdict.{Verdict}
 use Rattle.site.specs.Refusal.{siteVerdict}
 use Rattle.condition.specs.Refusal.{conditionVerdict}
-use Rattle.refusals.specs.Refusal.{workBytes, bufferVerdict}
+use Rattle.listing.specs.Listed.{workBytes}
+use Rattle.refusals.specs.Refusal.{bufferVerdict}
 
 -- listing: 1 of its two buffers, then 3 to 6, then 7 to 10
 unfoldable pub listVerdict : (setLen workLen : ℕ) (site table : List ℕ) → Verdict

@@ -1,12 +1,12 @@
 // Listing, for every input: the inputs are judged, then it lists or refuses.
 use bitset::SET_BYTES;
+use listing::WORK_BYTES;
 use verdict::Verdict;
 ghost use mathlib.Core.Path.{_≡_};
 ghost use lib.ListN.{length, replicate};
+ghost use Rattle.even_rule.specs.Free.{noMasks};
 ghost use Rattle.list_entry.specs.Answer.{verdictOf, countOf};
 ghost use Rattle.list_entry.specs.Listing.{Judged, Answered};
-
-const WORK_BYTES: usize = 65536;
 
 // The answer of listing: how many slots the condition lists, or the item that is met and its W.
 pub enum Listing {
@@ -14,16 +14,10 @@ pub enum Listing {
     Refused(u8, u16),
 }
 
-fn no_masks() -> [u16; 2048]
-    ensures { λ r. ⌜ r ≡ replicate 2048 0 ⌝ }
-{
-    [0; 2048]
-}
-
 // The first of items 1, 3 to 6 and 7 to 10 that the inputs meet, from the lengths of the set and of the work buffer, the site and the
 // condition. The free variables of an accepted condition's nodes are written to `free`.
 fn judge(set: usize, work: usize, site: &[u8], cond: &[u8], free: &mut [u16]) -> Verdict
-    requires { ⌜ now free ≡ replicate 2048 0 ⌝ }
+    requires { ⌜ now free ≡ noMasks ⌝ }
     ensures { λ r. ⌜ Judged set work (now (site .entry)) (now (cond .entry)) (now (free .exit)) r ⌝ }
 {
     if set != SET_BYTES {
@@ -54,7 +48,7 @@ fn refused(set: &mut [u8], work: &mut [u8], item: u8, place: u16) -> Listing
 pub fn list(site: &[u8], cond: &[u8], set: &mut [u8], work: &mut [u8]) -> Listing
     ensures { λ r. ⌜ Answered (now (site .entry)) (now (cond .entry)) (now (set .entry)) (now (set .exit)) (now (work .entry)) (now (work .exit)) (verdictOf r) (countOf r) ⌝ }
 {
-    let mut free = no_masks();
+    let mut free = even_rule::no_masks();
     let v = judge(set.len(), work.len(), site, cond, &mut free);
     match v {
         Verdict::Accepted => Listing::Listed(listing::list(site, cond, &free, set, work)),

@@ -4,13 +4,19 @@ use mathlib.Core.Logic.{_↔_}
 use mathlib.Core.List.{List}
 use mathlib.Core.Bool.{true}
 use Prim.Native.Nat.{ℕ, _<_}
+use lib.ListN.{length}
 use Rattle.finite.specs.Tests.{count}
-use Rattle.bitset.specs.Set.{has}
+use Rattle.bitset.specs.Set.{setBytes, has}
 use Rattle.semantics.specs.Form.{slots, Form}
 use Rattle.semantics.specs.Holds.{Env, Model, Holds}
 
--- the set holds the slots where the condition φ holds on the site M, and they are n. A condition without a free variable holds at the
--- same slots under every valuation
+-- how many bytes the work buffer has: a set for each of 2,048 nodes
+abbrev pub workBytes : ℕ
+workBytes = 65536
+
+-- the set is 32 bytes and holds the slots where the condition φ holds on the site M, and they are n. A condition without a free
+-- variable holds at the same slots under every valuation
 pub record Listed (M : Model) (φ : Form) (set : List ℕ) (n : ℕ) : Type 0 where
+  pub size : length set ≡ setBytes
   pub listed : (ρ : Env) (s : ℕ) → s < slots → (has set s ≡ true) ↔ Holds M ρ φ s
   pub counted : n ≡ count slots (has set)

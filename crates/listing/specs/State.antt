@@ -13,7 +13,9 @@ use Rattle.site.specs.Layout.{siteBytes}
 use Rattle.site.specs.Site.{siteOf}
 use Rattle.condition.specs.Bytes.{tableOf}
 use Rattle.even_rule.specs.Free.{FreeRows}
+use Rattle.blocks.specs.Write.{tableNodes, tableBytes}
 use Rattle.listing_sets.specs.Places.{setAt}
+use Rattle.listing.specs.Listed.{workBytes}
 
 -- the set of node j of the table S under the valuation ρ
 abbrev pub nodeSet : List ℕ → List ℕ → Env → ℕ → Set
@@ -26,13 +28,13 @@ Good site S env fresh work = (j : ℕ) → 6 * j + 6 ≤ length S → getD fresh
 -- what each call asks
 pub record Ready (site S free env fresh work : List ℕ) : Type 0 where
   pub site-size : length site ≡ siteBytes
-  pub few : length S ≤ 12288
+  pub few : length S ≤ tableBytes
   pub fits : nodesFit 0 (tableOf S) ≡ true
   pub rows : FreeRows S free
-  pub free-size : length free ≡ 2048
+  pub free-size : length free ≡ tableNodes
   pub env-size : length env ≡ 512
-  pub fresh-size : length fresh ≡ 2048
-  pub work-size : length work ≡ 65536
+  pub fresh-size : length fresh ≡ tableNodes
+  pub work-size : length work ≡ workBytes
   pub good : Good site S env fresh work
 
 -- what it leaves: the variables' sets as they were, flags that are right, and node i's set at its place

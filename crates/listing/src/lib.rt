@@ -14,10 +14,15 @@ ghost use Rattle.verdict.specs.declared.Verdict.the-variants.{Accepted};
 ghost use Rattle.condition.specs.Bytes.{nodeAt, tableOf};
 ghost use Rattle.condition.specs.Refusal.{conditionVerdict};
 ghost use Rattle.even_rule.specs.Free.{FreeRows};
-ghost use Rattle.listing.specs.Listed.{Listed};
+ghost use Rattle.blocks.specs.Write.{tableNodes};
+ghost use Rattle.listing.specs.Listed.{workBytes, Listed};
 ghost use Rattle.listing.specs.State.{Ready, Done};
 use bitset::SET_BYTES;
 use bitset::SET_SLOTS;
+use blocks::TABLE_NODES;
+
+// The work buffer has a set for each node of a table.
+pub const WORK_BYTES: usize = SET_BYTES * TABLE_NODES;
 
 // Node i's set, written at its place, unless it stands there.
 fn eval(
@@ -150,10 +155,10 @@ fn fixpoint(
     listing_sets::store(work, i, set);
 }
 
-fn no_flags() -> [u8; 2048]
-    ensures { λ r. ⌜ r ≡ replicate 2048 0 ⌝ }
+fn no_flags() -> [u8; TABLE_NODES]
+    ensures { λ r. ⌜ r ≡ replicate tableNodes 0 ⌝ }
 {
-    [0; 2048]
+    [0; TABLE_NODES]
 }
 
 fn no_sets() -> [u8; 512]
@@ -166,10 +171,10 @@ fn no_sets() -> [u8; 512]
 pub fn list(site: &[u8], table: &[u8], free: &[u16], set: &mut [u8], work: &mut [u8]) -> u32
     requires { ⌜ length (now site) ≡ siteBytes ⌝ }
     requires { ⌜ conditionVerdict (now table) ≡ Accepted ⌝ }
-    requires { ⌜ (length (now free) ≡ 2048) × FreeRows (now table) (now free) ⌝ }
-    requires { ⌜ (length (now set) ≡ setBytes) × (length (now work) ≡ 65536) ⌝ }
+    requires { ⌜ (length (now free) ≡ tableNodes) × FreeRows (now table) (now free) ⌝ }
+    requires { ⌜ (length (now set) ≡ setBytes) × (length (now work) ≡ workBytes) ⌝ }
     ensures { λ r. ⌜ Listed (siteOf (now (site .entry))) (formOf (tableOf (now (table .entry)))) (now (set .exit)) r ⌝ }
-    ensures { λ _. ⌜ now (work .exit) ≡ replicate 65536 0 ⌝ }
+    ensures { λ _. ⌜ now (work .exit) ≡ replicate workBytes 0 ⌝ }
 {
     let mut env = no_sets();
     let mut fresh = no_flags();

@@ -1,5 +1,6 @@
 // Sets of slots at their places in a buffer: set j is the 32 bytes from byte 32 * j on. Each write lends that part of the buffer to
 // an operation on sets, and says what the whole buffer becomes.
+use buffer::wide;
 ghost use mathlib.Core.Path.{_≡_};
 ghost use mathlib.Core.Logic.{_⊎_};
 ghost use mathlib.Core.Bool.{true, not, _&&_, _||_};
@@ -19,11 +20,13 @@ ghost use Rattle.listing_sets.specs.Places.{setAt, Written, Cleared};
 ghost use Rattle.listing_sets.specs.Nodes.{startOf, applied};
 use bitset::SET_BYTES;
 
+// The bound is no constant, so that the compiler copies the set whole and does not take it apart into bytes.
 fn copy(dst: &mut [u8], src: &[u8])
     requires { ⌜ (length (now dst) ≡ setBytes) × (length (now src) ≡ setBytes) ⌝ }
     ensures { λ _. ⌜ Is (now (dst .exit)) (has (now (src .entry))) ⌝ }
 {
-    for k in 0..SET_BYTES {
+    let n = dst.len();
+    for k in 0..n {
         dst[k] = src[k];
     }
 }
@@ -148,12 +151,6 @@ pub fn start(kind: u8) -> [u8; SET_BYTES]
         return no_slots();
     }
     all_slots()
-}
-
-fn wide(x: u8) -> usize
-    ensures { λ r. ⌜ (r ≡ x) × (r < 256) ⌝ }
-{
-    x as usize
 }
 
 // The set of node i, which has no child.

@@ -1,7 +1,8 @@
 // Diamonds and boxes of a site's ways on sets of slots, by whole rows.
+use buffer::wide;
 ghost use mathlib.Core.Path.{_≡_};
 ghost use mathlib.Core.Bool.{not, _&&_, _||_};
-ghost use Prim.Native.Nat.{_<_};
+ghost use Prim.Native.Nat.{_+_, _*_, _<_};
 ghost use lib.ListN.{length};
 ghost use Rattle.finite.specs.Tests.{same, any, all};
 ghost use Rattle.bitset.specs.Set.{setBytes, setSlots, has, Is};
@@ -95,14 +96,28 @@ fn add_targets_from(site: &[u8], m: usize, t: usize, set: &[u8], found: &mut [u8
     add_targets(site, m, t, found);
 }
 
+// The same for the eight slots of byte i, up to the last that is in the set.
+// A loop of eight turns would be unrolled, and each union done byte by byte.
+fn add_eight(site: &[u8], m: usize, i: usize, set: &[u8], found: &mut [u8])
+    requires { ⌜ (length (now site) ≡ siteBytes) × ((m < links) × ((i < setBytes) × ((length (now set) ≡ setBytes) × (length (now found) ≡ setBytes)))) ⌝ }
+    ensures { λ _. ⌜ Is (now (found .exit)) (λ s. has (now (found .entry)) s || any 8 (λ j. siteOf (now (site .entry)) .link m (i * 8 + j) s && has (now (set .entry)) (i * 8 + j))) ⌝ }
+{
+    let byte = wide(set[i]);
+    let mut j: usize = 0;
+    while byte >> j != 0 {
+        add_targets_from(site, m, i * 8 + j, set, found);
+        j += 1;
+    }
+}
+
 // The slots that link m leads to from the set.
 fn image(site: &[u8], m: usize, set: [u8; SET_BYTES]) -> [u8; SET_BYTES]
     requires { ⌜ (length (now site) ≡ siteBytes) × (m < links) ⌝ }
     ensures { λ r. ⌜ Is r (λ s. any slots (λ t. siteOf (now (site .entry)) .link m t s && has set t)) ⌝ }
 {
     let mut found = [0u8; SET_BYTES];
-    for t in 0..SET_SLOTS {
-        add_targets_from(site, m, t, &set, &mut found);
+    for i in 0..SET_BYTES {
+        add_eight(site, m, i, &set, &mut found);
     }
     found
 }

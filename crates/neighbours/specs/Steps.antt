@@ -22,5 +22,12 @@ linkJoins M m s t y = M .link m s t && joins m s t y
 unfoldable pub eightJoins : Model → ℕ → ℕ → ℕ → ℕ → Bool
 eightJoins M m s i y = any 8 (λ j. linkJoins M m s (8 * i + j) y)
 
+-- its two halves: the slots t in row s of way m, and s in their rows of its reverse
+unfoldable pub alongJoins : Model → ℕ → ℕ → ℕ → ℕ → Bool
+alongJoins M m s i y = any 8 (λ j. M .link m s (8 * i + j) && same y (at m s (8 * i + j)))
+
+unfoldable pub backJoins : Model → ℕ → ℕ → ℕ → ℕ → Bool
+backJoins M m s i y = any 8 (λ j. M .link m s (8 * i + j) && same y (at (m + links) (8 * i + j) s))
+
 unfoldable pub targetJoins : Model → ℕ → ℕ → ℕ → Bool
 targetJoins M m s y = any setSlots (λ t. linkJoins M m s t y)

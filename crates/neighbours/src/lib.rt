@@ -1,15 +1,16 @@
 // The neighbours of each slot by the ways 0 to 15, as rows of bits: read off a site once, before the rounds of refinement.
 ghost use mathlib.Core.Path.{_≡_};
-ghost use Prim.Native.Nat.{_≤_, _<_};
+ghost use mathlib.Core.Bool.{_&&_, cond};
+ghost use Prim.Native.Nat.{_/_, _%_, _^_, _≤_, _<_};
 ghost use lib.ListN.{length};
-ghost use Rattle.finite.specs.Tests.{any};
+ghost use Rattle.finite.specs.Tests.{same, any};
 ghost use Rattle.bitset.specs.Set.{setBytes, setSlots};
 ghost use Rattle.semantics.specs.Form.{links};
 ghost use Rattle.site.specs.Layout.{siteBytes, generalLinks};
 ghost use Rattle.site.specs.Site.{siteOf};
 ghost use Rattle.partition.specs.Gains.{Gains};
 ghost use Rattle.partition.specs.Rows.{waysBytes, Neighbours};
-ghost use Rattle.neighbours.specs.Steps.{joins, linkJoins, eightJoins, targetJoins};
+ghost use Rattle.neighbours.specs.Steps.{joins, alongJoins, backJoins, eightJoins, targetJoins};
 use bitset::SET_BYTES;
 use bitset::SET_SLOTS;
 use site::GENERAL_LINKS;
@@ -33,15 +34,47 @@ fn join(m: usize, s: usize, t: usize, ways: &mut [u8])
     bitset::insert(ways, WAY_BITS * (m + LINKS) + (SET_SLOTS * t + s));
 }
 
-// Joins s and t where the general link m leads from s to t.
-fn join_linked(site: &[u8], m: usize, s: usize, t: usize, ways: &mut [u8])
-    requires { ⌜ (length (now site) ≡ siteBytes) × ((m < generalLinks) × ((s < setSlots) × ((t < setSlots) × (length (now ways) ≡ waysBytes)))) ⌝ }
-    ensures { λ _. ⌜ Gains (linkJoins (siteOf (now (site .entry))) m s t) (now (ways .entry)) (now (ways .exit)) ⌝ }
+// The weight of bit x in its byte, where `put`, and else 0.
+fn weight_if(x: usize, put: bool) -> u8
+    ensures { λ r. ⌜ r ≡ cond put (2 ^ (x % 8)) 0 ⌝ }
 {
-    if !bitset::member(site, (ROWS_AT + ROWS_BYTES * m + SET_BYTES * s) * 8 + t) {
-        return;
+    if put {
+        return 1 << (x % 8);
     }
-    join(m, s, t, ways);
+    0
+}
+
+// Puts bit x in, where `put`. The byte is written in any case, so that the processor has no branch to guess.
+fn put_if(ways: &mut [u8], x: usize, put: bool)
+    requires { ⌜ x / 8 < length (now ways) ⌝ }
+    ensures { λ _. ⌜ Gains (λ y. put && same y x) (now (ways .entry)) (now (ways .exit)) ⌝ }
+{
+    let w = weight_if(x, put);
+    ways[x / 8] = ways[x / 8] | w;
+}
+
+// Puts the targets of s by the general link m among the eight slots of byte i into row s of way m.
+fn join_along(site: &[u8], m: usize, s: usize, i: usize, ways: &mut [u8])
+    requires { ⌜ (length (now site) ≡ siteBytes) × ((m < generalLinks) × ((s < setSlots) × ((i < setBytes) × (length (now ways) ≡ waysBytes)))) ⌝ }
+    ensures { λ _. ⌜ Gains (alongJoins (siteOf (now (site .entry))) m s i) (now (ways .entry)) (now (ways .exit)) ⌝ }
+{
+    for j in 0..8 {
+        let t = 8 * i + j;
+        let there = bitset::member(site, (ROWS_AT + ROWS_BYTES * m + SET_BYTES * s) * 8 + t);
+        put_if(ways, WAY_BITS * m + (SET_SLOTS * s + t), there);
+    }
+}
+
+// Puts s into their rows of the reverse of m.
+fn join_back(site: &[u8], m: usize, s: usize, i: usize, ways: &mut [u8])
+    requires { ⌜ (length (now site) ≡ siteBytes) × ((m < generalLinks) × ((s < setSlots) × ((i < setBytes) × (length (now ways) ≡ waysBytes)))) ⌝ }
+    ensures { λ _. ⌜ Gains (backJoins (siteOf (now (site .entry))) m s i) (now (ways .entry)) (now (ways .exit)) ⌝ }
+{
+    for j in 0..8 {
+        let t = 8 * i + j;
+        let here = bitset::member(site, (ROWS_AT + ROWS_BYTES * m + SET_BYTES * s) * 8 + t);
+        put_if(ways, WAY_BITS * (m + LINKS) + (SET_SLOTS * t + s), here);
+    }
 }
 
 // Joins s and its targets by the general link m among the eight slots of byte i.
@@ -52,9 +85,8 @@ fn join_eight(site: &[u8], m: usize, s: usize, i: usize, ways: &mut [u8])
     if site[ROWS_AT + ROWS_BYTES * m + SET_BYTES * s + i] == 0 {
         return;
     }
-    for j in 0..8 {
-        join_linked(site, m, s, 8 * i + j, ways);
-    }
+    join_along(site, m, s, i, ways);
+    join_back(site, m, s, i, ways);
 }
 
 // Joins s and its targets by the general link m.

@@ -1,8 +1,9 @@
 -- Rows: 256 sets of 32 bytes, one for each slot. A slot's signature is the row of the classes that its neighbours are in.
 use mathlib.Core.Path.{_≡_}
-use mathlib.Core.Bool.{Bool, _&&_, _||_, Bool·beq}
+use mathlib.Core.Bool.{Bool, true, _&&_, _||_, Bool·beq}
 use mathlib.Core.List.{List}
-use Prim.Native.Nat.{ℕ, _+_, _*_, _<_}
+use Prim.Native.Nat.{ℕ, _+_, _-_, _*_, _<_}
+use lib.Bits.{bitAnd}
 use lib.ListN.{getD}
 use Rattle.finite.specs.Tests.{same, any, all}
 use Rattle.bitset.specs.Set.{setSlots, has}
@@ -39,6 +40,10 @@ turn R p s t y = inRow R s t && same y (setSlots * s + getD p t 0)
 unfoldable pub eight : List ℕ → List ℕ → ℕ → ℕ → ℕ → Bool
 eight R p s i y = any 8 (λ j. turn R p s (8 * i + j) y)
 
+-- the same for the eight bytes of row s from byte 8 * g on
+unfoldable pub part : List ℕ → List ℕ → ℕ → ℕ → ℕ → Bool
+part R p s g y = any 8 (λ k. eight R p s (8 * g + k) y)
+
 -- slot t has its own number: it is the lowest of its class
 unfoldable pub owns : List ℕ → ℕ → Bool
 owns p t = same (getD p t 0) t
@@ -46,6 +51,28 @@ owns p t = same (getD p t 0) t
 -- those of the eight slots from 8 * i on that are not in O are in class c
 unfoldable pub othersIn : List ℕ → List ℕ → ℕ → ℕ → Bool
 othersIn p O i c = all 8 (λ j. has O (8 * i + j) || same (getD p (8 * i + j) 0) c)
+
+-- what those of the eight slots put in that are in O
+unfoldable pub ownEight : List ℕ → List ℕ → List ℕ → ℕ → ℕ → ℕ → Bool
+ownEight R p O s i y = any 8 (λ j. has O (8 * i + j) && turn R p s (8 * i + j) y)
+
+-- byte i of row s has no slot that is not in O
+unfoldable pub noOther : List ℕ → List ℕ → ℕ → ℕ → Bool
+noOther R O s i = same (bitAnd (getD R (32 * s + i) 0) (255 - getD O i 0)) 0
+
+-- the same three for the eight bytes from byte 8 * g on
+unfoldable pub partOthersIn : List ℕ → List ℕ → ℕ → ℕ → Bool
+partOthersIn p O g c = all 8 (λ k. othersIn p O (8 * g + k) c)
+
+unfoldable pub ownPart : List ℕ → List ℕ → List ℕ → ℕ → ℕ → ℕ → Bool
+ownPart R p O s g y = any 8 (λ k. ownEight R p O s (8 * g + k) y)
+
+unfoldable pub noOthers : List ℕ → List ℕ → ℕ → ℕ → Bool
+noOthers R O s g = all 8 (λ k. noOther R O s (8 * g + k))
+
+-- C has for each of the first n groups of eight bytes a class that those of its slots are in that are not in O, or no class
+abbrev pub OthersIn : List ℕ → List ℕ → List ℕ → ℕ → Type 0
+OthersIn p O C n = (g : ℕ) → g < n → getD C g 0 < setSlots → partOthersIn p O g (getD C g 0) ≡ true
 
 -- the rows of the ways 0 to 15, way after way: slot t is in row s of way w where w reaches t from s
 abbrev pub waysBytes : ℕ

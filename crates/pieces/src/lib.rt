@@ -1,5 +1,6 @@
 // Pieces of jobs, read on standard input for the test programs, and bytes shown. A piece is written as its kind, its length, how many of its bytes
 // are not 0, and each of these behind its place (tests/pieces.py).
+use buffer::wide;
 use libc::STDIN_FILENO;
 use libc::STDOUT_FILENO;
 ghost use mathlib.Core.Path.{_≡_};
@@ -14,12 +15,6 @@ pub const CONDITION: u8 = 2;
 pub struct Piece {
     pub kind: u8,
     pub len: usize,
-}
-
-fn wide(x: u8) -> usize
-    ensures { λ r. ⌜ r < 256 ⌝ }
-{
-    x as usize
 }
 
 // A number of two bytes, low byte first.

@@ -1,13 +1,9 @@
--- Item 1 of document 01, "Reasons for sending a job back", and the length of the work buffer.
+-- Item 1 of document 01, "Reasons for sending a job back".
 use mathlib.Core.Bool.{not, cond}
 use Prim.Native.Nat.{ℕ}
 use Rattle.finite.specs.Tests.{same}
 use Rattle.verdict.specs.declared.Verdict.{Verdict}
 use Rattle.verdict.specs.declared.Verdict.the-variants.{Accepted, Refused}
-
--- how many bytes the work buffer has
-abbrev pub workBytes : ℕ
-workBytes = 65536
 
 -- a result or work buffer has another length than stated
 unfoldable pub bufferVerdict : (len stated : ℕ) → Verdict

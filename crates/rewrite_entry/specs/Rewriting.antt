@@ -1,26 +1,11 @@
 -- What rewriting answers and leaves in its buffer, for all inputs. The buffer is named twice: as it was, and as it is at return (′).
 use mathlib.Core.Path.{_≡_}
-use mathlib.Core.List.{List, _++_}
-use Prim.Native.Nat.{ℕ, _*_, _-_}
-use lib.ListN.{length, replicate}
+use mathlib.Core.List.{List}
+use Prim.Native.Nat.{ℕ}
+use lib.ListN.{length}
 use Rattle.verdict.specs.declared.Verdict.{Verdict}
-use Rattle.verdict.specs.declared.Verdict.the-variants.{Accepted, Refused}
-use Rattle.semantics.specs.Table.{Node}
-use Rattle.semantics.specs.Block.{rewriteSheet}
-use Rattle.condition.specs.Bytes.{tableOf, bytesOf}
-use Rattle.sheet.specs.Bytes.{editsOf}
-use Rattle.blocks.specs.Write.{tableBytes}
+use Rattle.rewriting.specs.Rewriting.{TableAfter}
 use Rattle.rewrite_entry.specs.Refusal.{rewriteVerdict}
-
--- the rewritten table
-abbrev pub rewritten : (table sheet : List ℕ) → List Node
-rewritten table sheet = rewriteSheet (editsOf sheet) (tableOf table)
-
--- the result and the node count after a verdict: the rewritten table's bytes and then zeros; zeros where an input is refused
-unfoldable pub TableAfter : Verdict → (table sheet result result′ : List ℕ) (n : ℕ) → Type 0
-TableAfter Accepted table sheet result result′ n =
-    (n ≡ length (rewritten table sheet)) × (result′ ≡ bytesOf (rewritten table sheet) ++ replicate (tableBytes - 6 * n) 0)
-TableAfter (Refused item w) table sheet result result′ n = (n ≡ 0) × (result′ ≡ replicate (length result) 0)
 
 -- rewriting answers the verdict v and the node count n
 pub record Answered (table sheet result result′ : List ℕ) (v : Verdict) (n : ℕ) : Type 0 where

@@ -1,26 +1,12 @@
 // Rewriting, for every input: the inputs are judged, then it rewrites or refuses.
-use rewriting::Rewritten;
+use blocks::TABLE_BYTES;
+use rewriting::Rewriting;
 use verdict::Verdict;
 ghost use mathlib.Core.Path.{_≡_};
 ghost use lib.ListN.{length, replicate};
-ghost use Rattle.verdict.specs.declared.Verdict.the-variants.{Accepted};
+ghost use Rattle.rewriting.specs.Answer.{verdictOf, nodesOf};
 ghost use Rattle.rewrite_entry.specs.Judged.{inputVerdict};
-ghost use Rattle.rewrite_entry.specs.Answer.{verdictOf, nodesOf};
 ghost use Rattle.rewrite_entry.specs.Rewriting.{Answered};
-
-const TABLE_BYTES: usize = 12288;
-
-// The answer of rewriting: how many nodes the rewritten table has, or the item that is met and its W.
-pub enum Rewriting {
-    Rewritten(u32),
-    Refused(u8, u16),
-}
-
-fn no_masks() -> [u16; 2048]
-    ensures { λ r. ⌜ r ≡ replicate 2048 0 ⌝ }
-{
-    [0; 2048]
-}
 
 // The first of items 1, 7 to 10, 11 and 12 that the inputs meet, from the length of the result, the condition and the sheet.
 fn judge(result: usize, table: &[u8], sheet: &[u8]) -> Verdict
@@ -29,23 +15,11 @@ fn judge(result: usize, table: &[u8], sheet: &[u8]) -> Verdict
     if result != TABLE_BYTES {
         return Verdict::Refused(1, 0);
     }
-    let mut free = no_masks();
+    let mut free = even_rule::no_masks();
     let v = even_rule::check(table, &mut free);
     match v {
         Verdict::Accepted => sheet::check(sheet),
         Verdict::Refused(item, place) => Verdict::Refused(item, place),
-    }
-}
-
-// The answer to inputs that meet none of them: the rewritten table, or item 14.
-fn rewritten(table: &[u8], sheet: &[u8], result: &mut [u8]) -> Rewriting
-    requires { ⌜ inputVerdict (length (now result)) (now table) (now sheet) ≡ Accepted ⌝ }
-    ensures { λ r. ⌜ Answered (now (table .entry)) (now (sheet .entry)) (now (result .entry)) (now (result .exit)) (verdictOf r) (nodesOf r) ⌝ }
-{
-    let r = rewriting::rewrite_sheet(table, sheet, result);
-    match r {
-        Rewritten::Table(n) => Rewriting::Rewritten(n as u32),
-        Rewritten::TooLong => Rewriting::Refused(14, 0),
     }
 }
 
@@ -64,25 +38,7 @@ pub fn rewrite(table: &[u8], sheet: &[u8], result: &mut [u8]) -> Rewriting
 {
     let v = judge(result.len(), table, sheet);
     match v {
-        Verdict::Accepted => rewritten(table, sheet, result),
+        Verdict::Accepted => rewriting::rewrite_sheet(table, sheet, result),
         Verdict::Refused(item, place) => refused(result, item, place),
-    }
-}
-
-pub fn verdict(r: Rewriting) -> Verdict
-    ensures { λ v. ⌜ v ≡ verdictOf r ⌝ }
-{
-    match r {
-        Rewriting::Rewritten(_) => Verdict::Accepted,
-        Rewriting::Refused(item, w) => Verdict::Refused(item, w),
-    }
-}
-
-pub fn nodes(r: Rewriting) -> u32
-    ensures { λ n. ⌜ n ≡ nodesOf r ⌝ }
-{
-    match r {
-        Rewriting::Rewritten(n) => n,
-        Rewriting::Refused(_, _) => 0,
     }
 }

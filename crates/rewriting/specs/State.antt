@@ -10,7 +10,7 @@ use Rattle.semantics.specs.Edit.{Edit}
 use Rattle.semantics.specs.Block.{Block, old, block, root, emit, rewriteSheet}
 use Rattle.condition.specs.Bytes.{nodeAt, bytesOf}
 use Rattle.blocks.specs.Write.{tableNodes, tableBytes, Written}
-use Rattle.rewriting.specs.Result.{tooLong}
+use Rattle.rewriting.specs.Refusal.{tooLong}
 
 pub record State : Type 0 where
   pub images : List ℕ

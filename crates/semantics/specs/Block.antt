@@ -1,4 +1,5 @@
--- Rewriting a table through an edit: each node becomes a block of nodes in postfix order. Document 01, "Rewriting".
+-- Rewriting a table through an edit: each node becomes a block of nodes in postfix order. Document 01, "Rewriting". The table that comes out
+-- is the weakest precondition: it says before the edit what the old one says after it (Laws/Rewrite).
 use mathlib.Core.List.{List, [], _∷_, _++_}
 use mathlib.Core.Bool.{cond}
 use Prim.Native.Nat.{ℕ, suc, _+_}

@@ -1,4 +1,5 @@
--- Conditions as trees: formulas of the modal mu-calculus. The parts of document 01, "The condition", that speak of no node number.
+-- Conditions as trees: formulas of the modal mu-calculus, with converse and nominals. The parts of document 01, "The condition", that speak
+-- of no node number.
 use mathlib.Core.Bool.{Bool, true, false, not, _&&_, _||_}
 use Prim.Native.Nat.{ℕ}
 use Rattle.finite.specs.Tests.{same, all}
@@ -20,13 +21,14 @@ links = 8
 abbrev pub variables : ℕ
 variables = 16
 
--- the ways to go from a slot: along a link, against it (its reverse), and everywhere (E), to each of the slots
+-- the ways to go from a slot, a modality each: along a link, against it (its converse), and everywhere (E, the universal modality)
 pub data Way : Type 0 where
   along : ℕ → Way
   against : ℕ → Way
   every : Way
 
--- the thirteen kinds; `top` is true, `neg` is not, `dia` and `box` are the diamond and the box of a way
+-- the thirteen kinds; `top` is true, `neg` is not, `dia` and `box` are the diamond and the box of a way. `here` and `label` are propositions,
+-- `name` and `slot` are nominals, which hold at one slot, and `mu` and `nu` bind a variable by its least and its greatest fixed point
 pub data Form : Type 0 where
   top : Form
   here : Form
@@ -42,7 +44,7 @@ pub data Form : Type 0 where
   nu : ℕ → Form → Form
   slot : ℕ → Form
 
--- some free occurrence of the variable v stands under an even (`occ true`) or an odd (`occ false`) number of nots
+-- some free occurrence of the variable v stands under an even number of nots (`occ true`: it is positive) or an odd one (`occ false`: negative)
 unfoldable pub occ : Bool → ℕ → Form → Bool
 occ even v top = false
 occ even v here = false
@@ -66,7 +68,7 @@ free v φ = occ true v φ || occ false v φ
 unfoldable pub closed : Form → Bool
 closed φ = all variables (λ v. not (free v φ))
 
--- the even rule at the node itself: in a mu or nu's body no free occurrence of its variable stands under an odd number of nots
+-- the even rule at the node itself: in a mu or nu's body no free occurrence of its variable is negative
 unfoldable pub even : Form → Bool
 even top = true
 even here = true

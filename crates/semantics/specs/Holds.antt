@@ -1,4 +1,4 @@
--- What a condition says of a slot: the semantics of the modal mu-calculus over a site. Nothing is computed or iterated here.
+-- What a condition says of a slot: satisfaction in the modal mu-calculus, over a site as a Kripke structure. Nothing is computed or iterated here.
 use mathlib.Core.Path.{_≡_}
 use mathlib.Core.Logic.{_⊎_}
 use mathlib.Core.Bool.{Bool, true, cond}
@@ -18,7 +18,7 @@ Env = ℕ → Set
 unfoldable pub put : Env → ℕ → Set → Env
 put ρ v S u x = cond (same u v) (S x) (ρ u x)
 
--- a site, as a Kripke structure: which slots are present, the slots of each label, the slot of each name,
+-- a site, as a Kripke structure whose worlds are the slots: which slots are present, the slots of each label, the slot of each name,
 -- and the slots that link m leads to from each slot
 pub record Model : Type 0 where
   pub present : Set
@@ -26,13 +26,14 @@ pub record Model : Type 0 where
   pub place : ℕ → ℕ
   pub link : ℕ → ℕ → Set
 
--- the way w reaches t from s
+-- the way w reaches t from s: its accessibility relation
 unfoldable pub step : Model → Way → ℕ → Set
 step M (along m) s t = M .link m s t
 step M (against m) s t = M .link m t s
 step M every s t = true
 
--- the condition φ lists the slot s. Mu: s is in every set T with body(T) inside T. Nu: s is in some set T inside body(T)
+-- the condition φ lists the slot s, or holds there. Mu, the least fixed point: s is in every set T with body(T) inside T. Nu, the greatest:
+-- s is in some set T inside body(T)
 unfoldable pub Holds : Model → Env → Form → ℕ → Type 0
 Holds M ρ top s = Unit {0}
 Holds M ρ here s = M .present s ≡ true

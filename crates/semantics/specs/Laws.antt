@@ -3,11 +3,12 @@
 pub mod Ways
 pub mod TreeAt
 pub mod Emit
--- one condition on one site: growth in its variables, fixed points by iteration, the set computed
+-- one condition on one site: growth in its variables, fixed points by iteration, the set computed, the global modality
 pub mod Monotone
 pub mod FixedPoint
 pub mod Eval
 pub mod Agree
+pub mod Everywhere
 -- edits
 pub mod Edits
 -- rewriting

@@ -23,7 +23,7 @@ pub record Likeness (M : Model) (R : ℕ → ℕ → Type 0) : Type 0 where
   pub back : (w : Way) (s t t′ : ℕ) → Link w → s < slots → t < slots → R s t → t′ < slots → step M w t t′ ≡ true
       → (s′ : ℕ) × (s′ < slots) × (step M w s s′ ≡ true) × R s′ t′
 
--- some likeness relates s and t. A relation on slots is a set of pairs
+-- some likeness relates s and t: they are bisimilar. A relation on slots is a set of pairs
 unfoldable pub Alike : Model → ℕ → ℕ → Type 0
 Alike M s t = (R : ℕ → ℕ → Bool) × Likeness M (λ a b. R a b ≡ true) × (R s t ≡ true)
 

@@ -1,4 +1,5 @@
--- Conditions as tables of nodes, of any length, and the tree of each node. Document 01, "The condition", and items 8, 9 and 10.
+-- Conditions as tables of nodes, which are acyclic graphs, of any length; and the tree of each node. Document 01, "The condition", and items 8,
+-- 9 and 10.
 use mathlib.Core.Path.{_≡_}
 use mathlib.Core.List.{List, [], _∷_, _++_}
 use mathlib.Core.Bool.{Bool, true, not, _&&_, cond}

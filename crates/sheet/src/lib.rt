@@ -90,7 +90,7 @@ fn fits(o: u8, x: u8, y: u8, z: u8) -> bool
 }
 
 // Item 12 is not met by edit k of a sheet.
-pub fn edit_fits(sheet: &[u8], k: usize) -> bool
+fn edit_fits(sheet: &[u8], k: usize) -> bool
     requires { ⌜ 4 * k + 4 ≤ length (now sheet) ⌝ }
     ensures { λ r. ⌜ r ≡ fitsAt (now (sheet .entry)) k ⌝ }
 {

@@ -71,18 +71,6 @@ pub fn target(site: &[u8], f: usize, s: usize) -> usize
     site[TARGETS_AT + SET_SLOTS * (f - GENERAL_LINKS) + s] as usize
 }
 
-// Does link m lead from slot s to slot t?
-pub fn linked(site: &[u8], m: usize, s: usize, t: usize) -> bool
-    requires { ⌜ (length (now site) ≡ siteBytes) × ((m < links) × ((s < setSlots) × (t < setSlots))) ⌝ }
-    ensures { λ r. ⌜ r ≡ siteOf (now (site .entry)) .link m s t ⌝ }
-{
-    if m < GENERAL_LINKS {
-        bitset::member(site, (ROWS_AT + ROWS_BYTES * m + SET_BYTES * s) * 8 + t)
-    } else {
-        target(site, m, s) == t && t != 0
-    }
-}
-
 // Is every name at a present slot?
 fn names_present(site: &[u8]) -> bool
     requires { ⌜ length (now site) ≡ siteBytes ⌝ }
@@ -98,7 +86,7 @@ fn names_present(site: &[u8]) -> bool
 }
 
 // The site does not meet item 4.
-pub fn names_fit(site: &[u8]) -> bool
+fn names_fit(site: &[u8]) -> bool
     requires { ⌜ length (now site) ≡ siteBytes ⌝ }
     ensures { λ r. ⌜ r ≡ not (item4 (siteOf (now (site .entry)))) ⌝ }
 {
@@ -121,7 +109,7 @@ fn part_inside(site: &[u8], b: usize, set: &[u8]) -> bool
 }
 
 // The site does not meet item 5: each label's set lies inside the present slots.
-pub fn labels_fit(site: &[u8]) -> bool
+fn labels_fit(site: &[u8]) -> bool
     requires { ⌜ length (now site) ≡ siteBytes ⌝ }
     ensures { λ r. ⌜ r ≡ not (item5 (siteOf (now (site .entry)))) ⌝ }
 {
@@ -211,7 +199,7 @@ fn link_fits(site: &[u8], m: usize, ends: &[u8]) -> bool
 }
 
 // The site does not meet item 6.
-pub fn links_fit(site: &[u8]) -> bool
+fn links_fit(site: &[u8]) -> bool
     requires { ⌜ length (now site) ≡ siteBytes ⌝ }
     ensures { λ r. ⌜ r ≡ not (item6 (siteOf (now (site .entry)))) ⌝ }
 {

@@ -1,4 +1,5 @@
 // Classes of slots, split by the rows of their slots and by the classes that these rows are in.
+use buffer::wide;
 ghost use mathlib.Core.Path.{_≡_};
 ghost use mathlib.Core.Bool.{true};
 ghost use Prim.Native.Nat.{ℕ, _<_};
@@ -10,12 +11,6 @@ ghost use Rattle.partition.specs.Partition.{Partition, Parts, byRow, bySeen};
 use bitset::SET_BYTES;
 use bitset::SET_SLOTS;
 use site::ROWS_BYTES;
-
-fn wide(x: u8) -> usize
-    ensures { λ r. ⌜ (r ≡ x) × (r < 256) ⌝ }
-{
-    x as usize
-}
 
 // Are all rows empty?
 fn empty(rows: &[u8]) -> bool

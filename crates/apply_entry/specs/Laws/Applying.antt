@@ -1,10 +1,11 @@
 -- The answers of applying, case by case.
-use mathlib.Core.Path.{_≡_, refl, sym, _∙_, ap}
+use mathlib.Core.Path.{_≡_, sym, _∙_, ap}
 use mathlib.Core.List.{List}
 use mathlib.Core.Logic.{_≢_}
 use Prim.Native.Nat.{ℕ, _<_}
 use lib.ListN.{length, getD, replicate}
 use Rattle.verdict.specs.Verdict.{_then_}
+use Rattle.verdict.specs.Laws.{then-assoc}
 use Rattle.verdict.specs.declared.Verdict.{Verdict}
 use Rattle.verdict.specs.declared.Verdict.the-variants.{Accepted, Refused}
 use Rattle.site.specs.Layout.{siteBytes}
@@ -21,10 +22,6 @@ use Rattle.refusals.specs.Laws.Items.{buffer-in, buffer-out, buffer-not, then-o
 use Rattle.apply_entry.specs.Refusal.{applyVerdict}
 use Rattle.apply_entry.specs.Applying.{SiteAfter, Answered}
 use Rattle.apply_entry.specs.Judged.{judged}
-
-then-assoc : (u v w : Verdict) → (u then v) then w ≡ u then (v then w)
-then-assoc Accepted v w = refl
-then-assoc (Refused n k) v w = refl
 
 -- ---- the inputs are judged
 
@@ -54,9 +51,10 @@ module _ (n : ℕ) (site sheet : List ℕ) where
   verdict-last : applyVerdict n site sheet ≡ (judged n site sheet then goesVerdict (editsOf sheet) (siteOf site))
   unfolding applyVerdict judged
   verdict-last =
-      let b = bufferVerdict n siteBytes in
+      let s = siteVerdict site in
+      let e = sheetVerdict sheet in
       let g = goesVerdict (editsOf sheet) (siteOf site) in
-      sym (then-assoc b (siteVerdict site then sheetVerdict sheet) g ∙ ap (λ (v : Verdict). b then v) (then-assoc (siteVerdict site) (sheetVerdict sheet) g))
+      rw (then-assoc (bufferVerdict n siteBytes) (s then e) g, then-assoc s e g)
 
 -- ---- applying answers
 

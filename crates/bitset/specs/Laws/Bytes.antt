@@ -7,7 +7,9 @@ use native.Mathlib.Omega.{arith}
 use lib.ListN.{length, getD, replicate, getD-replicate}
 use lib.Seq.{ext-getD}
 use Rattle.finite.specs.Tests.{bit}
-use Rattle.finite.specs.Laws.Bits.{beq-eq, all-below}
+use Rattle.finite.specs.Laws.Bits.{all-below}
+use Rattle.finite.specs.Laws.Below.{pass}
+use Rattle.finite.specs.Laws.Bools.{beq-true}
 use Rattle.finite.specs.Laws.Weights.{bit-zero, same-bits}
 use Rattle.bitset.specs.Set.{setBytes, has, Is}
 
@@ -26,7 +28,7 @@ has-empty = has-like 0 false (λ k h. bit-zero k)
 
 pub has-full : Is (replicate setBytes 255) (λ s. true)
 unfolding bit
-has-full = has-like 255 true (λ k h. beq-eq _ _ (all-below (λ j. Bool·beq (bit 255 j) true) 8 tt k h))
+has-full = has-like 255 true (λ k h. beq-true _ _ (pass _ (all-below (λ j. Bool·beq (bit 255 j) true) 8 tt k h)))
 
 -- equal slots, equal bytes
 pub same-slots : (n : ℕ) (A B : List ℕ) → length A ≡ n → length B ≡ n → ((k : ℕ) → getD A k 0 < 256) → ((k : ℕ) → getD B k 0 < 256)

@@ -3,7 +3,7 @@ use mathlib.Core.Path.{_≡_, _∙_, ap, ap₂, subst}
 use mathlib.Core.List.{List, _++_}
 use Prim.Native.Nat.{ℕ, _+_, _-_, _*_, _/_, _%_, _≤_, _<_}
 use native.Mathlib.Omega.{arith}
-use lib.ListN.{length, getD, take, drop, length-append, length-drop, List·getD-append}
+use lib.ListN.{length, getD, take, drop, List·getD-append}
 use lib.Seq.{getD-take, getD-drop, getD-append-add, length-take-le}
 use Rattle.finite.specs.Tests.{bit}
 use Rattle.bitset.specs.Set.{has}
@@ -22,9 +22,6 @@ back S ys b k = take b S ++ (ys ++ drop k (drop b S))
 module _ (S ys : List ℕ) (b k : ℕ) (fits : b + k ≤ length S) (l : length ys ≡ k) where
   head-length : length (take b S) ≡ b
   head-length = length-take-le b S (omega arith)
-
-  pub back-length : length (back S ys b k) ≡ length S
-  back-length = simp (length-append, length-drop, head-length, l) (omega arith)
 
   pub back-below : (j : ℕ) → j < b → getD (back S ys b k) j 0 ≡ getD S j 0
   back-below j h = List·getD-append (take b S) _ 0 j (rw head-length h) ∙ getD-take b S j 0 h

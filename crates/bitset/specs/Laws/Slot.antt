@@ -1,6 +1,6 @@
 -- One slot put in or taken out: `inserted` and `removed`, slot by slot.
-use mathlib.Core.Path.{_≡_, refl, sym, _∙_, ap}
-use mathlib.Core.Bool.{Bool, true, false, not, _&&_, _||_}
+use mathlib.Core.Path.{_≡_, sym, _∙_, ap}
+use mathlib.Core.Bool.{Bool, false, not, _&&_, _||_, and-true, or-false}
 use mathlib.Core.List.{List}
 use Prim.Native.Nat.{ℕ, _-_, _*_, _/_, _%_, _^_, _<_}
 use native.Mathlib.Nat.{mod-lt, zero-lt-suc, one-mul, mod-eq-of-lt}
@@ -35,22 +35,14 @@ slot-set g keep S s v t h law =
 
 pub has-inserted : (S : List ℕ) (s t : ℕ) → s / 8 < length S → has (inserted S s) t ≡ (has S t || same t s)
 unfolding inserted
-has-inserted S s t h = slot-set _||_ keep S s _ t h (λ k l. bit-or (getD S (s / 8) 0) (2 ^ (s % 8)) k)
-  where
-    keep : (b : Bool) → (b || false) ≡ b
-    keep true = refl
-    keep false = refl
+has-inserted S s t h = slot-set _||_ or-false S s _ t h (λ k l. bit-or (getD S (s / 8) 0) (2 ^ (s % 8)) k)
 
 pub has-removed : (S : List ℕ) (s t : ℕ) → s / 8 < length S → has (removed S s) t ≡ (has S t && not (same t s))
 unfolding removed
 has-removed S s t h =
-    slot-set (λ a b. a && not b) keep S s _ t h (λ k l.
+    slot-set (λ a b. a && not b) and-true S s _ t h (λ k l.
     bit-and (getD S (s / 8) 0) (255 - 2 ^ (s % 8)) k
     ∙ ap (λ (b : Bool). bit (getD S (s / 8) 0) k && b) (bit-not 8 (2 ^ (s % 8)) k (pow-lt (mod-lt s (zero-lt-suc 7))) l))
-  where
-    keep : (b : Bool) → (b && true) ≡ b
-    keep true = refl
-    keep false = refl
 
 -- a byte that the slot is not in is as it was
 pub byte-inserted : (S : List ℕ) (s j : ℕ) → (j ≡ s / 8 → ⊥) → getD (inserted S s) j 0 ≡ getD S j 0
@@ -64,7 +56,3 @@ byte-removed S s j h = getD-set-other S (s / 8) j _ 0 h
 pub length-inserted : (S : List ℕ) (s : ℕ) → length (inserted S s) ≡ length S
 unfolding inserted
 length-inserted S s = length-set S (s / 8) _
-
-pub length-removed : (S : List ℕ) (s : ℕ) → length (removed S s) ≡ length S
-unfolding removed
-length-removed S s = length-set S (s / 8) _

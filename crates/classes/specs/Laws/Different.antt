@@ -11,7 +11,7 @@ use Rattle.partition.specs.Gains.{Gains}
 use Rattle.partition.specs.Laws.Gains.{gains-zeros}
 use Rattle.classes.specs.Classes.{different}
 
-same-turned : (a b : ℕ) → same a b ≡ same b a
+pub same-turned : (a b : ℕ) → same a b ≡ same b a
 same-turned a b = both (λ e. eq-same (sym (same-eq e))) (λ e. eq-same (sym (same-eq e)))
 
 pub count-different : (p : List ℕ) (n : ℕ) (S : List ℕ) → Gains (λ y. any setSlots (λ s. same y (getD p s 0))) (replicate n 0) S

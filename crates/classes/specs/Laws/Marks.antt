@@ -1,23 +1,27 @@
 -- Slots with the same marks agree, so their partition is that before the first round.
-use mathlib.Core.Path.{_≡_, sym, _∙_, ap}
+use mathlib.Core.Path.{_≡_, sym, _∙_, ap, subst}
 use mathlib.Core.Bool.{Bool, true, _&&_, Bool·beq}
 use mathlib.Core.List.{List}
-use Prim.Native.Nat.{ℕ, _+_, _-_, _*_, _≤_, _<_}
+use Prim.Native.Nat.{ℕ, _+_, _-_, _*_, _/_, _%_, _≤_, _<_}
 use native.Mathlib.Omega.{arith}
-use lib.ListN.{replicate}
+use lib.ListN.{getD, replicate}
 use Rattle.finite.specs.Tests.{same, below, any, all}
-use Rattle.finite.specs.Laws.Bools.{either, look, and-in, and-l, and-r, both, beq-true}
-use Rattle.finite.specs.Laws.Below.{same-eq, same-refl, eq-same, below-in, below-out, below-not, not-below, any-in, any-out, all-in, all-out}
+use Rattle.finite.specs.Laws.Bools.{either, look, and-in, and-l, and-r, both, beq-true, eq-beq}
+use Rattle.finite.specs.Laws.Below.{same-eq, same-refl, eq-same, below-in, below-out, below-not, not-below, any-in, any-out, all-in, all-out, none-any}
 use Rattle.finite.specs.Laws.First.{first-is, none-start}
-use Rattle.bitset.specs.Set.{setSlots}
-use Rattle.semantics.specs.Form.{labels, names}
+use Rattle.finite.specs.Laws.Weights.{bit-zero}
+use Rattle.bitset.specs.Set.{setBytes, setSlots, has}
+use Rattle.semantics.specs.Form.{slots, labels, names}
 use Rattle.semantics.specs.Holds.{Model}
-use Rattle.semantics.specs.Laws.Refine.{agree, like, eq-beq}
+use Rattle.semantics.specs.Laws.Refine.{agree, like}
+use Rattle.site.specs.Site.{siteOf}
+use Rattle.site.specs.Laws.Read.{present-is, marked-is}
 use Rattle.partition.specs.Gains.{Gains}
 use Rattle.partition.specs.Rows.{inRow, sameRow}
 use Rattle.partition.specs.Partition.{together, Partition, Parts, byRow}
-use Rattle.partition.specs.Laws.Gains.{zeros-at, gains-zeros}
+use Rattle.partition.specs.Laws.Gains.{zeros-at, gains-none, gains-map, gains-zeros}
 use Rattle.partition.specs.Laws.Parts.{parts-map}
+use Rattle.classes.specs.Laws.Different.{same-turned}
 use Rattle.classes.specs.Marks.{labelsFrom, namesFrom, marks, mark, Marked, marking}
 
 module _ (M : Model) where
@@ -47,29 +51,47 @@ module _ (M : Model) where
       (ap (λ (x : ℕ). same (M .place x) s) (omega arith))
 
   -- the marks as the loops put them in
-  pub all-marked : (n : ℕ) (G : List ℕ) → Gains (λ y. any setSlots (λ s. any marks (λ c. marking M s c y))) (replicate n 0) G → Marked M G
+  pub all-marked : (n : ℕ) (G : List ℕ) → Gains (λ y. any marks (λ c. any setSlots (λ s. marking M s c y))) (replicate n 0) G → Marked M G
   unfolding Marked marking
-  all-marked n G g s c h k = gains-zeros (λ y. any setSlots (λ s. any marks (λ c. marking M s c y))) n G g (setSlots * s + c) ∙ both
+  all-marked n G g s c h k = gains-zeros (λ y. any marks (λ c. any setSlots (λ s. marking M s c y))) n G g (setSlots * s + c) ∙ both
       (λ e.
-      let a = any-out setSlots _ e in
-      let b = any-out marks _ (a .2) in
-      let m : mark M (a .0) (b .0) ≡ true = and-l _ _ (b .2) in
-      let y : setSlots * s + c ≡ setSlots * a .0 + b .0 = same-eq (and-r (mark M (a .0) (b .0)) _ (b .2)) in
+      let b = any-out marks _ e in
+      let a = any-out setSlots _ (b .2) in
+      let m : mark M (a .0) (b .0) ≡ true = and-l _ _ (a .2) in
+      let y : setSlots * s + c ≡ setSlots * a .0 + b .0 = same-eq (and-r (mark M (a .0) (b .0)) _ (a .2)) in
       and-in (below-in c marks (omega (arith, b .1))) (moved (omega (arith, b .1)) (omega (arith, b .1)) m))
-      (λ e. any-in setSlots _ s h (any-in marks _ c (below-out c marks (and-l _ _ e)) (and-in (and-r (below c marks) _ e) (same-refl (setSlots * s + c)))))
+      (λ e. any-in marks _ c (below-out c marks (and-l _ _ e)) (any-in setSlots _ s h (and-in (and-r (below c marks) _ e) (same-refl (setSlots * s + c)))))
     where
       moved : {a b a′ b′ : ℕ} → a ≡ a′ → b ≡ b′ → mark M a b ≡ true → mark M a′ b′ ≡ true
       moved x y e = rw (← x, ← y) e
 
-  -- slots with the same marks agree, and the other way
-  turned : (x n : ℕ) → same x (M .place n) ≡ same (M .place n) x
-  turned x n = both (λ e. eq-same (sym (same-eq e))) (λ e. eq-same (sym (same-eq e)))
+  -- a mark put in eight slots at a time, and a name's at its slot alone
+  pub by-eights : (c : ℕ) (b a : List ℕ) → Gains (λ y. any setBytes (λ i. any 8 (λ j. marking M (8 * i + j) c y))) b a → Gains (λ y. any setSlots (λ s. marking M s c y)) b a
+  by-eights c b a = gains-map _ _ b a (λ y. both
+      (λ e.
+      let i = any-out setBytes _ e in
+      let j = any-out 8 _ (i .2) in
+      any-in setSlots _ (8 * i .0 + j .0) (omega (arith, i .1, j .1)) (j .2))
+      (λ e.
+      let s = any-out setSlots _ e in
+      let t : s .0 ≡ 8 * (s .0 / 8) + s .0 % 8 = omega arith in
+      any-in setBytes _ (s .0 / 8) (omega (arith, s .1)) (any-in 8 _ (s .0 % 8) (omega arith) (rw (← t) (s .2)))))
 
+  pub at-place : (c x : ℕ) (b a : List ℕ) → namesFrom ≤ c → x < setSlots → x ≡ M .place (c - namesFrom) → Gains (marking M x c) b a → Gains (λ y. any setSlots (λ s. marking M s c y)) b a
+  unfolding marking
+  at-place c x b a h l e = gains-map _ _ b a (λ y. both
+      (λ q. any-in setSlots _ x l q)
+      (λ q.
+      let s = any-out setSlots _ q in
+      let m : same (M .place (c - namesFrom)) (s .0) ≡ true = sym (mark-high (s .0) c h) ∙ and-l _ _ (s .2) in
+      subst (λ (z : ℕ). (mark M z c && same y (setSlots * z + c)) ≡ true) (sym (e ∙ same-eq m)) (s .2)))
+
+  -- slots with the same marks agree, and the other way
   marks-agree : (s t : ℕ) → ((c : ℕ) → c < marks → mark M s c ≡ mark M t c) → agree M s t ≡ true
   unfolding agree
   marks-agree s t f = and-in (eq-beq (sym (mark-low s 0 (omega arith)) ∙ f 0 (omega arith) ∙ mark-low t 0 (omega arith))) (and-in
       (all-in labels _ (λ p h. eq-beq (sym (mark-label s p h) ∙ f (labelsFrom + p) (omega arith) ∙ mark-label t p h)))
-      (all-in names _ (λ n h. eq-beq (turned s n ∙ sym (mark-name s n) ∙ f (namesFrom + n) (omega arith) ∙ mark-name t n ∙ sym (turned t n)))))
+      (all-in names _ (λ n h. eq-beq (same-turned s (M .place n) ∙ sym (mark-name s n) ∙ f (namesFrom + n) (omega arith) ∙ mark-name t n ∙ sym (same-turned t (M .place n))))))
 
   agree-marks : (s t : ℕ) → agree M s t ≡ true → (c : ℕ) → c < marks → mark M s c ≡ mark M t c
   unfolding agree
@@ -87,7 +109,7 @@ module _ (M : Model) where
       (λ y. let l = below-out c namesFrom y in
       mark-mid s c g l ∙ beq-true _ _ (all-out labels _ on-labels (c - labelsFrom) (omega arith)) ∙ sym (mark-mid t c g l))
       (λ y. let l = not-below c namesFrom y in
-      mark-high s c l ∙ sym (turned s (c - namesFrom)) ∙ beq-true _ _ (all-out names _ on-names (c - namesFrom) (omega arith)) ∙ turned t (c - namesFrom) ∙ sym (mark-high t c l)))
+      mark-high s c l ∙ sym (same-turned s (M .place (c - namesFrom))) ∙ beq-true _ _ (all-out names _ on-names (c - namesFrom) (omega arith)) ∙ same-turned t (M .place (c - namesFrom)) ∙ sym (mark-high t c l)))
 
   rows-agree : (G : List ℕ) → Marked M G → (s t : ℕ) → s < setSlots → t < setSlots → sameRow G s t ≡ agree M s t
   unfolding Marked sameRow
@@ -100,6 +122,23 @@ module _ (M : Model) where
       (look (below c marks))
       (λ b. ap (λ (x : Bool). below c marks && x) (agree-marks s t e c (below-out c marks b)))
       (λ b. rw b) ∙ sym (g t c k l))))
+
+-- the marks below the names are the sets at the start of a site, one after another
+mark-set : (S : List ℕ) (s c : ℕ) → c < namesFrom → s < setSlots → mark (siteOf S) s c ≡ has S (setSlots * c + s)
+unfolding slots
+mark-set S s c h k =
+    either
+    (look (below c labelsFrom))
+    (λ x. let l = below-out c labelsFrom x in mark-low (siteOf S) s c l ∙ present-is S s k ∙ ap (has S) (omega arith))
+    (λ x. let l = not-below c labelsFrom x in mark-mid (siteOf S) s c l h ∙ marked-is S (c - labelsFrom) s (omega arith) k ∙ ap (has S) (omega arith))
+
+-- a byte that is 0 marks none of its eight slots
+pub none-marked : (S : List ℕ) (c i : ℕ) (b : List ℕ) → c < namesFrom → i < setBytes → getD S (setBytes * c + i) 0 ≡ 0
+    → Gains (λ y. any 8 (λ j. marking (siteOf S) (8 * i + j) c y)) b b
+unfolding marking has
+none-marked S c i b h k e = gains-none _ b (λ y. none-any 8 _ (λ j l.
+    let q : (setSlots * c + (8 * i + j)) / 8 ≡ setBytes * c + i = omega arith in
+    rw (mark-set S (8 * i + j) c h (omega arith), q, e, bit-zero ((setSlots * c + (8 * i + j)) % 8))))
 
 -- all slots in one class
 module _ (n : ℕ) where

@@ -3,10 +3,9 @@ use mathlib.Core.Path.{_≡_}
 use mathlib.Core.List.{List}
 use Prim.Native.Nat.{ℕ}
 use Rattle.verdict.specs.declared.Verdict.the-variants.{Accepted}
-use Rattle.verdict.specs.Verdict.{reasonOf}
 use Rattle.site.specs.Refusal.{siteVerdict}
 use Rattle.refusals.specs.Refusal.{bufferVerdict}
-use Rattle.refusals.specs.Laws.Items.{buffer-out, then-out, Numbered, numbered-then, numbered-buffer, numbered-site}
+use Rattle.refusals.specs.Laws.Items.{buffer-out, then-out}
 use Rattle.classes_entry.specs.Refusal.{classesBytes, classesVerdict}
 
 pub record Accepts (classesLen : ℕ) (site : List ℕ) : Type 0 where
@@ -18,9 +17,3 @@ unfolding classesVerdict
 classes-accepts classesLen site e =
     let p = then-out (bufferVerdict classesLen classesBytes) (siteVerdict site) e in
     record { classes-size = buffer-out classesLen classesBytes (p .0); site-accepted = p .1 }
-
-pub classes-reason : (classesLen : ℕ) (site : List ℕ) → reasonOf (classesVerdict classesLen site) ≡ 0
-    → classesVerdict classesLen site ≡ Accepted
-unfolding classesVerdict Numbered
-classes-reason classesLen site =
-    numbered-then (bufferVerdict classesLen classesBytes) _ (numbered-buffer classesLen classesBytes) (numbered-site site)

@@ -1,4 +1,4 @@
--- `condition::child_limit` meets its contract.
+-- A child is below the node where the kind is in the range that has it, and else 0.
 use borrow.Author.Tests.{lt-ltb, le-ltb}
 use mathlib.Core.Path.{refl}
 use Rattle.condition.proofs.child_limit.Statement.{statement}

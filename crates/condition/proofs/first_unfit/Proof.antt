@@ -1,4 +1,4 @@
--- `condition::first_unfit` meets its contract.
+-- No node below i meets item 8.
 use Rattle.condition.specs.Laws.Bytes.{length-table}
 use Rattle.condition.specs.Refusal.{firstUnfit}
 use Rattle.condition.specs.Bytes.{nodeAt, tableOf}

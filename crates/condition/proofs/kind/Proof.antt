@@ -1,4 +1,4 @@
--- `condition::kind` meets its contract.
+-- The first byte of a node.
 use Rattle.condition.specs.Bytes.{nodeAt}
 use mathlib.Core.Path.{refl}
 use borrow.Author.Needs.{needs}

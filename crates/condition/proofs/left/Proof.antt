@@ -1,4 +1,4 @@
--- `condition::left` meets its contract.
+-- The word at bytes 2 and 3 of a node.
 use Rattle.condition.specs.Bytes.{nodeAt}
 use borrow.Author.Needs.{needs}
 use Rattle.condition.proofs.left.Statement.{statement}

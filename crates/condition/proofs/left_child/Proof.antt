@@ -1,4 +1,4 @@
--- `condition::left_child` meets its contract.
+-- A node of a table that fits has its left child below it.
 use Rattle.condition.specs.Laws.Limits.{left-lower}
 use Rattle.condition.specs.Laws.Fits.{node-fits}
 use Rattle.condition.specs.Bytes.{nodeAt}

@@ -1,4 +1,4 @@
--- `condition::node_fits` meets its contract.
+-- The kind, then the parameter, then the children, each by its bound.
 use native.Mathlib.Omega.{arith}
 use Prim.Native.Nat.{_≤_, _<_}
 use Rattle.condition.specs.Laws.Limits.{unfit-kind, unfit-param, unfit-left, fits-right}

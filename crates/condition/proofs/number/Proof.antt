@@ -1,4 +1,4 @@
--- `condition::number` meets its contract.
+-- A node of a table that fits has its parameter below its bound.
 use Rattle.condition.specs.Laws.Limits.{param-lower}
 use Rattle.condition.specs.Laws.Fits.{node-fits}
 use Rattle.condition.specs.Bytes.{nodeAt}

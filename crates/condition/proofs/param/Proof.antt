@@ -1,4 +1,4 @@
--- `condition::param` meets its contract.
+-- The second byte of a node.
 use Rattle.condition.specs.Bytes.{nodeAt}
 use mathlib.Core.Path.{refl}
 use borrow.Author.Needs.{needs}

@@ -1,4 +1,4 @@
--- `condition::param_limit` meets its contract.
+-- The bound of a parameter, range by range of the kinds.
 use Rattle.condition.specs.Laws.Limits.{number-limit}
 use borrow.Author.Tests.{lt-ltb, le-ltb}
 use native.Mathlib.Omega.{arith}

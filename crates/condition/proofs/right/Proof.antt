@@ -1,4 +1,4 @@
--- `condition::right` meets its contract.
+-- The word at bytes 4 and 5 of a node.
 use Rattle.condition.specs.Bytes.{nodeAt}
 use borrow.Author.Needs.{needs}
 use Rattle.condition.proofs.right.Statement.{statement}

@@ -1,4 +1,4 @@
--- `condition::right_child` meets its contract.
+-- A node of a table that fits has its right child below it.
 use Rattle.condition.specs.Laws.Limits.{right-lower}
 use Rattle.condition.specs.Laws.Fits.{node-fits}
 use Rattle.condition.specs.Bytes.{nodeAt}

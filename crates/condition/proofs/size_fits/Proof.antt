@@ -1,4 +1,4 @@
--- `condition::size_fits` meets its contract.
+-- The three tests of item 7, in their order.
 use Prim.Native.Nat.{_%_}
 use native.Mathlib.Omega.{arith}
 use Rattle.condition.specs.Refusal.{sizeFits}

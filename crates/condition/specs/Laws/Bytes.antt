@@ -4,7 +4,7 @@ use mathlib.Core.List.{List, [], _∷_, _++_, append-assoc, append-nil}
 use Prim.Native.Nat.{ℕ, zero, suc, _+_, _*_, _/_, _%_, _≤_, _<_}
 use native.Mathlib.Nat.{not-suc-le-zero}
 use native.Mathlib.Omega.{arith}
-use lib.ListN.{length, getD, drop, length-drop, drop-of-length-le}
+use lib.ListN.{length, getD, drop, length-drop}
 use lib.Seq.{getD-drop, drop-drop}
 use Rattle.semantics.specs.Table.{Node}
 use Rattle.condition.specs.Bytes.{nodeAt, nodes, tableOf, nodeBytes, bytesOf}
@@ -64,13 +64,10 @@ table-at S d i h = nodes-at S (length S / 6) d i (omega arith)
 digits : (n : ℕ) → n % 256 + 256 * (n / 256) ≡ n
 digits n = omega arith
 
-abbrev mk : ℕ → ℕ → ℕ → ℕ → Node
-mk k p l r = record { kind = k; param = p; left = l; right = r }
-
 pub read-back : (xs : List Node) (zs : List ℕ) → nodes (bytesOf xs ++ zs) (length xs) ≡ xs
 unfolding nodes bytesOf nodeBytes nodeAt
 read-back [] zs = refl
-read-back (x ∷ xs) zs = ap₂ _∷_ (ap₂ (mk (x .kind) (x .param)) (digits (x .left)) (digits (x .right))) (read-back xs zs)
+read-back (x ∷ xs) zs = ap₂ _∷_ (ap₂ (λ (l r : ℕ). record { kind = x .kind; param = x .param; left = l; right = r }) (digits (x .left)) (digits (x .right))) (read-back xs zs)
 
 pub table-back : (xs : List Node) → tableOf (bytesOf xs) ≡ xs
 unfolding tableOf
@@ -114,12 +111,3 @@ write-back S (suc n) h g =
     ∙ ap (λ (l : List ℕ). nodeBytes (nodeAt S 0) ++ (bytesOf (nodes (drop 6 S) n) ++ l)) e
     ∙ ap (λ (l : List ℕ). nodeBytes (nodeAt S 0) ++ l) (write-back (drop 6 S) n bytes (omega (arith, length-drop 6 S)))
     ∙ first-node S h (omega arith)
-
-pub bytes-back : (S : List ℕ) → ((i : ℕ) → getD S i 0 < 256) → length S % 6 ≡ 0 → bytesOf (tableOf S) ≡ S
-unfolding tableOf
-bytes-back S h e =
-    let whole : length S ≤ 6 * (length S / 6) = omega arith in
-    let end : drop (6 * (length S / 6)) S ≡ [] = drop-of-length-le S whole in
-    sym (append-nil (bytesOf (nodes S (length S / 6))))
-    ∙ ap (λ (l : List ℕ). bytesOf (nodes S (length S / 6)) ++ l) (sym end)
-    ∙ write-back S (length S / 6) h (omega arith)

@@ -35,7 +35,7 @@ use Rattle.list_entry.specs.Listing.{SetAfter}
 use Rattle.apply_entry.specs.Refusal.{applyVerdict}
 use Rattle.apply_entry.specs.Applying.{SiteAfter}
 use Rattle.rewrite_entry.specs.Refusal.{rewriteVerdict}
-use Rattle.rewrite_entry.specs.Rewriting.{TableAfter, rewritten}
+use Rattle.rewriting.specs.Rewriting.{TableAfter, rewritten}
 use Rattle.desk.specs.Demands.{ApplyCall, RewriteCall, ListCall, rewrittenTable, Runnable, SameLists, Demand2, Going, Demand3, ClassCall, SameClasses}
 use Rattle.desk.specs.Laws.Accepted.{list-accepted, apply-accepted, rewrite-accepted, classes-accepted}
 
@@ -122,7 +122,7 @@ module _ {site table sheet : List ℕ} (j : Runnable site table sheet) where
       let q = listed (left-accepted (j .going) a) (j .table-accepted) u in
       let s = accepted-sound table (j .table-accepted) in
       let e =
-      same-lists (t .set-stays) (u .set-stays) (t .set-bytes) (u .set-bytes)
+      same-lists (t .set-bytes) (u .set-bytes)
       (editsOf sheet) (legal (j .going)) (siteOf site) (valid (j .going)) (j .going .goes-through)
       (tableOf table) (s .fits) (omega (arith, s .some, length-table table))
       (rw (is-rewritten r) at p) (rw (left (j .going) a .1) at q)

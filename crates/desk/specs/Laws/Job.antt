@@ -105,8 +105,8 @@ module _ (file : List ℕ) (c : JobCall file) where
 
     -- either list
     abbrev lists : (site table set set′ : List ℕ) (n : ℕ) → siteVerdict site ≡ Accepted → conditionVerdict table ≡ Accepted → length set ≡ setBytes
-        → length set′ ≡ setBytes → ((k : ℕ) → getD set′ k 0 < 256) → SetAfter Accepted site table set set′ n → ListCall site table
-    lists site table set set′ n a b size stays bytes after =
+        → ((k : ℕ) → getD set′ k 0 < 256) → SetAfter Accepted site table set set′ n → ListCall site table
+    lists site table set set′ n a b size bytes after =
         let v =
         list-accepted (length set) (length (c .lent .work)) site table
         (record { set-size = size; work-size = c .sized .sets .work-size; site-accepted = a; table-accepted = b }) in
@@ -119,7 +119,6 @@ module _ (file : List ℕ) (c : JobCall file) where
           place = 0;
           count = n;
           set-size = size;
-          set-stays = stays;
           set-bytes = bytes;
           work-size = c .sized .sets .work-size;
           returned =
@@ -134,12 +133,12 @@ module _ (file : List ℕ) (c : JobCall file) where
     abbrev today : ListCall (siteIn file) (rewrittenTable rewritten)
     today =
         lists (siteIn file) (rewrittenTable rewritten) (c .lent .today) (c .lent′ .today) (c .today) (pieces .going .site-accepted)
-        (table-accepted pieces rewritten) (c .sized .sets .today-size) (c .today-stays) (c .today-bytes) (left .list-today)
+        (table-accepted pieces rewritten) (c .sized .sets .today-size) (c .today-bytes) (left .list-today)
 
     abbrev after : ListCall (applied .result′) (conditionIn file)
     after =
         lists (applied .result′) (conditionIn file) (c .lent .after) (c .lent′ .after) (c .after) (left-accepted (pieces .going) applied)
-        (pieces .table-accepted) (c .sized .sets .after-size) (c .after-stays) (c .after-bytes) (left .list-after)
+        (pieces .table-accepted) (c .sized .sets .after-size) (c .after-bytes) (left .list-after)
 
     abbrev numbered : ClassCall (applied .result′)
     numbered =

@@ -2,22 +2,14 @@
 use mathlib.Core.Path.{_≡_, sym, _∙_, ap}
 use mathlib.Core.List.{List}
 use Prim.Native.Nat.{ℕ}
-use lib.ListN.{length}
 use Rattle.verdict.specs.Verdict.{reasonOf, whereOf}
 use Rattle.verdict.specs.declared.Verdict.{Verdict}
-use Rattle.verdict.specs.declared.Verdict.the-variants.{Accepted}
-use Rattle.semantics.specs.Table.{formOf}
-use Rattle.site.specs.Site.{siteOf}
-use Rattle.condition.specs.Bytes.{tableOf}
-use Rattle.listing.specs.Listed.{Listed}
 use Rattle.list_entry.specs.declared.Listing.{Listing}
-use Rattle.list_entry.specs.Refusal.{listVerdict}
 use Rattle.list_entry.specs.Answer.{verdictOf, countOf}
-use Rattle.list_entry.specs.Listing.{SetAfter, Answered}
-use Rattle.list_entry.specs.Laws.Refusal.{Accepts, list-accepts, list-reason}
+use Rattle.list_entry.specs.Listing.{Answered}
 use Rattle.apply_entry.specs.Applying as applying
-use Rattle.rewrite_entry.specs.declared.Rewriting.{Rewriting}
-use Rattle.rewrite_entry.specs.Answer as answer
+use Rattle.rewriting.specs.declared.Rewriting.{Rewriting}
+use Rattle.rewriting.specs.Answer as answer
 use Rattle.rewrite_entry.specs.Rewriting as rewriting
 use Rattle.classes_entry.specs.declared.Classing.{Classing}
 use Rattle.classes_entry.specs.Answer as number
@@ -40,18 +32,6 @@ module _ {site table set set′ work work′ : List ℕ} where
         set-after = rw (g, sym (a .verdict)) (a .set-after);
         work-zero = a .work-zero;
       }
-
-  -- the reason 0: the inputs are accepted, and the set is the one that the semantics give
-  module _ {w n : ℕ} (h : ReturnedList site table set set′ work work′ 0 w n) where
-    accepted : listVerdict (length set) (length work) site table ≡ Accepted
-    accepted = list-reason (length set) (length work) site table (sym (h .reason-is))
-
-    pub list-inputs : Accepts (length set) (length work) site table
-    list-inputs = list-accepts (length set) (length work) site table accepted
-
-    pub lists : Listed (siteOf site) (formOf (tableOf table)) set′ n
-    unfolding SetAfter
-    lists = rw accepted at (h .set-after)
 
 -- ---- applying
 

@@ -1,63 +1,25 @@
--- The link leads neither from the slots below the loop's to the slot nor back.
-use mathlib.Core.Path.{_≡_, _∙_}
-use Prim.Native.Nat.{_-_, _≤_}
+-- The column, then the row.
 use native.Mathlib.Omega.{arith}
-use lib.ListN.{length}
 use Rattle.bitset.specs.Set.{setSlots}
 use Rattle.semantics.specs.Form.{slots}
-use Rattle.site.specs.Layout.{siteBytes}
-use Rattle.site.specs.Site.{siteOf}
-use Rattle.edits.specs.Laws.Loops.{link-start, link-more, link-end}
-use Rattle.edits.specs.Change.{linkTo}
+use Rattle.edits.specs.Laws.Loops.{crossed}
 use Rattle.edits.proofs.take_row_and_column.Statement.{statement}
 use Rattle.edits.proofs.take_row_and_column.Tie as tie
 
-abbrev Inv-loop : tie.InvT-loop
-Inv-loop site₀ m s t₀ site t = (siteOf site ≡ linkTo (siteOf site₀) m s t) × ((length site ≡ siteBytes) × (t ≤ setSlots))
+take-column-requires : tie.Need-take-column-requires
+take-column-requires c κs = omega arith
 
-abbrev μ-loop : tie.MeasureT-loop
-μ-loop site₀ m s t₀ site t = setSlots - t
+take-row-requires : tie.Need-take-row-requires
+take-row-requires c κs = omega arith
 
-loop-holds : tie.Need-loop-holds Inv-loop μ-loop
-loop-holds c = let s = c .before in (link-start (siteOf (s .args .site .now)) (s .args .s) (s .args .m), (s .pre .0, omega arith))
-
-take-link-requires : tie.Need-take-link-requires Inv-loop μ-loop
-take-link-requires c κs = omega arith
-
-take-link-requires-2 : tie.Need-take-link-requires-2 Inv-loop μ-loop
-take-link-requires-2 c κs = omega arith
-
-add-t : tie.Need-add-t Inv-loop μ-loop
-add-t c = omega arith
-
-loop-less : tie.Need-loop-less Inv-loop μ-loop
-loop-less c = omega arith
-
-loop-again : tie.Need-loop-again Inv-loop μ-loop
-loop-again c = let s = c .before .before .before .before .before .before .before .before .before .before .before in
-    let l = c .before .before .before .before .before .before .before .before .before .loop in
-    let j = c .before .before .before .before .before .before .take-link in
-    let k = c .before .before .take-link2 in
-    (link-more (siteOf (s .args .site .now)) (s .args .s) (s .args .m) (l .t) (l .inv .0) (j .ensures) (k .ensures), (k .kept .0 ∙ j .kept .0 ∙ l .inv .1 .0, omega arith))
-
-same-length : tie.Need-same-length Inv-loop μ-loop
+same-length : tie.Need-same-length
 same-length c = omega arith
 
-returns : tie.Need-returns Inv-loop μ-loop
+returns : tie.Need-returns
 unfolding slots
-returns c = let s = c .before .before .before in c .before .loop .inv .0 ∙ link-end (s .args .site .now) (s .args .s) (s .args .m) (c .before .loop .t) (omega arith)
+returns c = let s = c .before .before .before .before .before .before .before .before .before in
+    crossed (s .args .site .now) (s .args .s) (s .args .m) setSlots (omega arith) (c .before .before .before .before .before .before .take-column .ensures) (c .before .before .take-row .ensures)
 
 pub take-row-and-column-spec : {M : Type 1} → statement M
 take-row-and-column-spec =
-    tie.close
-    (tie.spec
-    Inv-loop
-    μ-loop
-    loop-holds
-    take-link-requires
-    take-link-requires-2
-    add-t
-    loop-less
-    loop-again
-    same-length
-    returns)
+    tie.close (tie.spec take-column-requires take-row-requires same-length returns)

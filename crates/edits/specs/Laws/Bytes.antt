@@ -3,14 +3,16 @@ use mathlib.Core.Path.{_≡_, refl, sym, _∙_, ap, ap₂}
 use mathlib.Core.Logic.{_⊎_, inl, inr, _≢_}
 use mathlib.Core.Bool.{Bool, true, false, not, _&&_, _||_, cond, and-true, and-false}
 use mathlib.Core.List.{List}
-use Prim.Native.Nat.{ℕ, _+_, _*_, _/_, _≤_, _<_}
+use Prim.Native.Nat.{ℕ, _+_, _*_, _/_, _%_, _≤_, _<_}
 use native.Mathlib.Omega.{arith}
+use native.Mathlib.Decide.{decLt}
 use lib.ListN.{length, getD, set}
 use lib.Seq.{getD-set-same, getD-set-other}
-use Rattle.finite.specs.Tests.{same}
-use Rattle.finite.specs.Laws.Bools.{either, look, clash, both, no-true, and-in, and-l, and-r, or-out, or-r, not-in, not-out}
+use Rattle.finite.specs.Tests.{same, bit}
+use Rattle.finite.specs.Laws.Bools.{either, look, clash, both, no-true, and-in, and-l, and-r, or-out, or-r, not-in, not-out, cond-comes, cond-was}
 use Rattle.finite.specs.Laws.Below.{equal?, same-eq, same-refl, eq-same, ne-same}
-use Rattle.bitset.specs.Set.{has, inserted, removed}
+use Rattle.bitset.specs.Set.{setBytes, has, Is, inserted, removed}
+use Rattle.bitset.specs.Laws.Part.{back, back-below, back-above, back-has}
 use Rattle.bitset.specs.Laws.Slot.{has-inserted, has-removed, byte-inserted, byte-removed}
 use Rattle.semantics.specs.Form.{slots, labels, names, links}
 use Rattle.semantics.specs.Holds.{Model}
@@ -18,9 +20,9 @@ use Rattle.semantics.specs.Edit.{functional, target}
 use Rattle.site.specs.Layout.{generalLinks, siteBytes, labelAt, nameAt, targetAt, rowAt}
 use Rattle.site.specs.Site.{siteOf}
 use Rattle.site.specs.Laws.Read.{present-is, present-in, marked-is, marked-in, place-is, row-is, target-is, link-in, functional-in}
-use Rattle.site.specs.Laws.Target.{target-byte}
+use Rattle.site.specs.Laws.Target.{nil-none, target-byte}
 use Rattle.edits.specs.Change.{withName, withSlot, withoutSlot, withLabel, withoutLabel, withLink, withoutLink, withoutTarget, joins}
-use Rattle.edits.specs.Laws.Cases.{cond-yes, cond-no, same-by, takes, Changes, puts-changes, takes-changes, at-cond, cond-comes, cond-off, cond-was}
+use Rattle.edits.specs.Laws.Cases.{cond-yes, cond-no, same-by, takes, Changes, puts-changes, takes-changes, at-cond, cond-off}
 use Rattle.edits.specs.Laws.Areas.{alike, present-kept, marked-kept, place-kept-at, place-kept, row-kept, target-kept, link-kept, presents-are, marks-are, links-are}
 
 -- ---- a name's byte
@@ -111,7 +113,7 @@ module _ (g : Bool → Bool → Bool) (ch : Changes g) (S S′ : List ℕ) where
             ∙ at-cond g ch (siteOf S .marked q s) (same q p) (same s x))
             (λ q s e.
             either
-            (cond-comes g ch (siteOf S .marked q s) (same q p) (same s x) e)
+            (cond-comes g (ch .comes) (siteOf S .marked q s) (same q p) (same s x) e)
             (marked-in S q s)
             (λ r. let u = same-eq (r .0) in let v = same-eq (r .1) in (omega arith, omega arith)));
         place-alike = place-kept S S′ (λ j u v. w .others j (λ e. omega arith));
@@ -144,7 +146,7 @@ module _ (g : Bool → Bool → Bool) (ch : Changes g) (S S′ : List ℕ) where
             ∙ sym (cond-no (g (N l s t) (same s x && same t y)) (N l s t) (ne-same (λ e. omega arith))))
             (λ l s t p.
             either
-            (cond-comes g ch (N l s t) (same l m) (same s x && same t y) p)
+            (cond-comes g (ch .comes) (N l s t) (same l m) (same s x && same t y) p)
             (link-in S l s t)
             (λ r.
             let e = same-eq (r .0) in
@@ -228,10 +230,6 @@ target-put S f x v P len hg hf hx off on inside =
           inside;
     })
 
--- nothing is at nil
-nil-none : (t : ℕ) → (same 0 t && not (same t 0)) ≡ false
-nil-none t = no-true (λ p. not-out (same t 0) (and-r (same 0 t) _ p) (eq-same (sym (same-eq (and-l (same 0 t) _ p)))))
-
 -- a link that can be added: its byte is 0 or y, and y is not 0
 joined : (S : List ℕ) (f x y : ℕ) → generalLinks ≤ f → f < links → x < slots → getD S (targetAt f x) 0 < slots → joins (siteOf S) f x y ≡ true
     → ((getD S (targetAt f x) 0 ≡ 0) ⊎ (getD S (targetAt f x) 0 ≡ y)) × (y ≢ 0)
@@ -311,10 +309,10 @@ module _ (S : List ℕ) (f x : ℕ) (len : length S ≡ siteBytes) (hg : general
       ap siteOf c
       ∙ target-put S f x y (λ l s t. cond (same l f) (N l s t || (same s x && same t y)) (N l s t)) len hg hf hx
       (λ l s t p. cond-off _||_ puts-changes (N l s t) (same l f) (same s x) (same t y) p)
-      (λ t ht. both (λ p. cond-yes (N f x t || (same x x && same t y)) (N f x t) (same-refl f) ∙ or-r (N f x t) _ (and-in (same-refl x) (to t p))) (λ p. from t ht (cond-comes _||_ puts-changes (N f x t) (same f f) (same x x && same t y) p)))
+      (λ t ht. both (λ p. cond-yes (N f x t || (same x x && same t y)) (N f x t) (same-refl f) ∙ or-r (N f x t) _ (and-in (same-refl x) (to t p))) (λ p. from t ht (cond-comes _||_ or-out (N f x t) (same f f) (same x x && same t y) p)))
       (λ l s t p.
       either
-      (cond-comes _||_ puts-changes (N l s t) (same l f) (same s x && same t y) p)
+      (cond-comes _||_ or-out (N l s t) (same l f) (same s x && same t y) p)
       (link-in S l s t)
       (λ r.
       let e = same-eq (r .0) in
@@ -340,3 +338,63 @@ module _ (S : List ℕ) (f x : ℕ) (len : length S ≡ siteBytes) (hg : general
           (λ r.
           let e = same-eq (and-r (same x x) (same t y) (r .1)) in
           and-in (eq-same (sym e)) (not-in (λ q. old .1 (sym e ∙ same-eq q))))
+
+-- ---- a general link's row, lent whole
+
+back-other : (S ys : List ℕ) (b k : ℕ) → b + k ≤ length S → length ys ≡ k → (a : ℕ) → (b ≤ a / 8 → a / 8 < b + k → ⊥) → has (back S ys b k) a ≡ has S a
+unfolding has
+back-other S ys b k fits l a h = ap (λ (x : ℕ). bit x (a % 8)) (go (decLt (a / 8) b))
+  where
+    go : Dec (a / 8 < b) → getD (back S ys b k) (a / 8) 0 ≡ getD S (a / 8) 0
+    go (yes p) = back-below S ys b k fits l (a / 8) p
+    go (no p) = back-above S ys b k fits l (a / 8) (above (decLt (a / 8) (b + k)))
+      where
+        above : Dec (a / 8 < b + k) → b + k ≤ a / 8
+        above (yes q) = absurd (h (omega arith) q)
+        above (no q) = omega arith
+
+-- the targets of slot x by link m come back as ys, with no slot
+pub row-cleared : (S ys : List ℕ) (m x k : ℕ) → length S ≡ siteBytes → m < generalLinks → x < slots → k ≡ setBytes → length ys ≡ k → Is ys (λ t. false)
+    → siteOf (back S ys (rowAt m x) k) ≡ withoutTarget (siteOf S) m x
+unfolding withoutTarget slots
+row-cleared S ys m x k len hm hx hk ly none =
+    alike (record {
+      present-alike = present-kept S S′ (λ j a b. below j (omega arith));
+      marked-alike = marked-kept S S′ (λ j a b. below j (omega arith));
+      place-alike = place-kept S S′ (λ j a b. below j (omega arith));
+      link-alike =
+          links-are S′ (λ l s t. cond (same l m) (N l s t && not (same s x)) (N l s t))
+          (λ l s t hl hs ht.
+          either
+          (look (same l m && same s x))
+          (λ p.
+          let e = same-eq (and-l (same l m) (same s x) p) in
+          let d = same-eq (and-r (same l m) (same s x) p) in
+          ap₂ (λ (a b : ℕ). has S′ (rowAt a b * 8 + t)) e d
+          ∙ back-has S ys (rowAt m x) k (omega arith) ly t (omega arith)
+          ∙ none t (omega arith)
+          ∙ sym (cond-yes (N l s t && not (same s x)) (N l s t) (and-l (same l m) (same s x) p)
+          ∙ ap (λ (b : Bool). N l s t && not b) (and-r (same l m) (same s x) p)
+          ∙ and-false (N l s t)))
+          (λ p.
+          outside (rowAt l s * 8 + t) (λ h k. clash (and-in (let e : l ≡ m = omega arith in eq-same e) (let e : s ≡ x = omega arith in eq-same e)) p)
+          ∙ sym (row-is S l s t hl hs ht)
+          ∙ cond-off takes takes-changes (N l s t) (same l m) (same s x) true p
+          ∙ ap (λ (b : Bool). cond (same l m) (N l s t && not b) (N l s t)) (and-true (same s x))))
+          (λ l s t hg hl hs ht.
+          target-kept S S′ (λ j a b. below j (omega arith)) l s t hg hl hs ht
+          ∙ sym (cond-no (N l s t && not (same s x)) (N l s t) (ne-same (λ e. omega arith))))
+          (λ l s t p. link-in S l s t (cond-was (N l s t) (same l m) _ p));
+    })
+  where
+    S′ : List ℕ
+    S′ = back S ys (rowAt m x) k
+
+    N : ℕ → ℕ → ℕ → Bool
+    N = siteOf S .link
+
+    below : (j : ℕ) → j < rowAt m x → getD S′ j 0 ≡ getD S j 0
+    below j h = back-below S ys (rowAt m x) k (omega arith) ly j h
+
+    outside : (a : ℕ) → (rowAt m x ≤ a / 8 → a / 8 < rowAt m x + k → ⊥) → has S′ a ≡ has S a
+    outside a h = back-other S ys (rowAt m x) k (omega arith) ly a h

@@ -1,6 +1,6 @@
 -- Booleans by cases, as the laws of the changes need them.
 use mathlib.Core.Path.{_≡_, refl, sym, _∙_}
-use mathlib.Core.Logic.{_⊎_, inl, inr}
+use mathlib.Core.Logic.{_⊎_, inl}
 use mathlib.Core.Bool.{Bool, true, false, not, _&&_, _||_, cond, and-true, or-false}
 use Prim.Native.Nat.{ℕ, _+_}
 use native.Mathlib.Omega.{arith}
@@ -50,19 +50,10 @@ module _ (g : Bool → Bool → Bool) (ch : Changes g) where
   at-cond a true d = refl
   at-cond a false d = ch .keeps a
 
-  pub cond-comes : (a b d : Bool) → cond b (g a d) a ≡ true → (a ≡ true) ⊎ ((b ≡ true) × (d ≡ true))
-  cond-comes a true d p = either (ch .comes a d p) inl (λ q. inr (refl, q))
-  cond-comes a false d p = inl p
-
   pub cond-off : (a b c d : Bool) → (b && c) ≡ false → a ≡ cond b (g a (c && d)) a
   cond-off a true true d p = clash refl p
   cond-off a true false d p = sym (ch .keeps a)
   cond-off a false c d p = refl
-
--- what is taken out was in
-pub cond-was : (a b d : Bool) → cond b (a && d) a ≡ true → a ≡ true
-cond-was a true d p = and-l a d p
-cond-was a false d p = p
 
 -- ---- one more turn of a loop: e is "this one", b is "one before it"
 
@@ -107,24 +98,21 @@ more-place true e w x = go e (same w x) (same w x) refl refl
     go false p false f g = refl
 more-place false e w x = refl
 
--- in link m, the pairs (s, x) and (x, s) for one more s: p is "to x", q is "from x"
-pub more-pairs : (a m p q bs bt es et : Bool)
-    → cond m ((cond m ((a && not (m && ((p && bs) || (q && bt)))) && not (es && p)) (a && not (m && ((p && bs) || (q && bt))))) && not (q && et))
-    (cond m ((a && not (m && ((p && bs) || (q && bt)))) && not (es && p)) (a && not (m && ((p && bs) || (q && bt)))))
-    ≡ (a && not (m && ((p && (bs || es)) || (q && (bt || et)))))
-more-pairs a false p q bs bt es et = refl
-more-pairs false true p q bs bt es et = refl
-more-pairs true true true true true bt es et = refl
-more-pairs true true true true false true true et = refl
-more-pairs true true true true false true false et = refl
-more-pairs true true true true false false true et = refl
-more-pairs true true true true false false false et = refl
-more-pairs true true true false true bt es et = refl
-more-pairs true true true false false bt true et = refl
-more-pairs true true true false false bt false et = refl
-more-pairs true true false true bs true true et = refl
-more-pairs true true false true bs true false et = refl
-more-pairs true true false true bs false true et = refl
-more-pairs true true false true bs false false et = refl
-more-pairs true true false false bs bt true et = refl
-more-pairs true true false false bs bt false et = refl
+-- in link m, the pair (s, x) for one more s: p is "to x"
+pub more-pairs : (a m p b e : Bool) → cond m ((a && not (m && (p && b))) && not (e && p)) (a && not (m && (p && b))) ≡ (a && not (m && (p && (b || e))))
+more-pairs a false p b e = refl
+more-pairs false true p b e = refl
+more-pairs true true true true e = refl
+more-pairs true true true false true = refl
+more-pairs true true true false false = refl
+more-pairs true true false b true = refl
+more-pairs true true false b false = refl
+
+-- in link m, all pairs with x: p is "to x", q is "from x"
+pub all-pairs : (a m p q : Bool) → cond m ((a && not (m && (p && true))) && not q) (a && not (m && (p && true))) ≡ (a && not (m && (q || p)))
+all-pairs a false p q = refl
+all-pairs false true p q = refl
+all-pairs true true true true = refl
+all-pairs true true true false = refl
+all-pairs true true false true = refl
+all-pairs true true false false = refl

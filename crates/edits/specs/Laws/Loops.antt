@@ -7,13 +7,13 @@ use native.Mathlib.Omega.{arith}
 use native.Mathlib.Decide.{decLt}
 use Rattle.finite.specs.Tests.{same, below}
 use Rattle.finite.specs.Laws.Below.{equal?, same-eq, eq-same, ne-same, below-in, below-not}
-use Rattle.finite.specs.Laws.Bools.{either, no-true, and-l, and-r}
+use Rattle.finite.specs.Laws.Bools.{either, look, no-true, and-l, and-r}
 use Rattle.semantics.specs.Form.{slots, labels, names, links}
 use Rattle.semantics.specs.Holds.{Model}
 use Rattle.site.specs.Site.{siteOf}
 use Rattle.site.specs.Laws.Read.{marked-in, place-out, link-in}
-use Rattle.edits.specs.Change.{withName, withoutLabel, withoutName, withoutLink, withoutLinksOf, withoutLabels, withoutNames, withoutLinks, labelsTo, namesTo, linkTo, linksTo}
-use Rattle.edits.specs.Laws.Cases.{cond-yes, cond-no, cond-same, guard, below-more, more-cond, more-and, more-place, more-pairs}
+use Rattle.edits.specs.Change.{withName, withoutLabel, withoutName, withoutLink, withoutTarget, withoutLinksOf, withoutLabels, withoutNames, withoutLinks, labelsTo, namesTo, columnTo, linksTo}
+use Rattle.edits.specs.Laws.Cases.{cond-yes, cond-no, cond-same, guard, below-more, more-cond, more-and, more-place, more-pairs, all-pairs}
 use Rattle.edits.specs.Laws.Areas.{alike}
 
 none-below : (q : ℕ) → below q 0 ≡ false
@@ -52,30 +52,25 @@ module _ (M : Model) (x : ℕ) where
       ∙ place-only refl refl refl (λ y.
       more-place (below y i) (same y i) (M .place y) x ∙ ap (λ (b : Bool). cond (b && same (M .place y) x) 0 (M .place y)) (sym (below-more y i)))
 
-  pub link-start : (m : ℕ) → M ≡ linkTo M m x 0
-  unfolding linkTo
-  link-start m =
+  pub column-start : (m : ℕ) → M ≡ columnTo M m x 0
+  unfolding columnTo
+  column-start m =
       link-only refl refl refl (λ l s t.
-      sym (ap₂ (λ (a b : Bool). M .link l s t && not (same l m && ((same t x && a) || (same s x && b)))) (none-below s) (none-below t)
-      ∙ none (M .link l s t) (same l m) (same t x) (same s x)))
+      sym (ap (λ (b : Bool). M .link l s t && not (same l m && (same t x && b))) (none-below s) ∙ none (M .link l s t) (same l m) (same t x)))
     where
-      none : (a b c d : Bool) → (a && not (b && ((c && false) || (d && false)))) ≡ a
-      none false b c d = refl
-      none true false c d = refl
-      none true true true true = refl
-      none true true true false = refl
-      none true true false true = refl
-      none true true false false = refl
+      none : (a b c : Bool) → (a && not (b && (c && false))) ≡ a
+      none false b c = refl
+      none true false c = refl
+      none true true true = refl
+      none true true false = refl
 
-  -- the column's link, then the row's
-  pub link-more : (m i : ℕ) {N N′ N″ : Model} → N ≡ linkTo M m x i → N′ ≡ withoutLink N m i x → N″ ≡ withoutLink N′ m x i
-      → N″ ≡ linkTo M m x (i + 1)
-  unfolding linkTo withoutLink
-  link-more m i e g h =
-      h ∙ ap (λ (K : Model). withoutLink K m x i) (g ∙ ap (λ (K : Model). withoutLink K m i x) e)
+  pub column-more : (m i : ℕ) {N N′ : Model} → N ≡ columnTo M m x i → N′ ≡ withoutLink N m i x → N′ ≡ columnTo M m x (i + 1)
+  unfolding columnTo withoutLink
+  column-more m i e h =
+      h ∙ ap (λ (K : Model). withoutLink K m i x) e
       ∙ link-only refl refl refl (λ l s t.
-      more-pairs (M .link l s t) (same l m) (same t x) (same s x) (below s i) (below t i) (same s i) (same t i)
-      ∙ ap₂ (λ (a b : Bool). M .link l s t && not (same l m && ((same t x && a) || (same s x && b)))) (sym (below-more s i)) (sym (below-more t i)))
+      more-pairs (M .link l s t) (same l m) (same t x) (below s i) (same s i)
+      ∙ ap (λ (b : Bool). M .link l s t && not (same l m && (same t x && b))) (sym (below-more s i)))
 
   pub links-start : M ≡ linksTo M x 0
   unfolding linksTo
@@ -123,20 +118,18 @@ module _ (S : List ℕ) (x : ℕ) where
           let z : siteOf S .place y ≡ 0 = place-out S y (omega arith) in
           rw z (cond-same {A = ℕ} (below y i && same 0 x) 0 ∙ sym (cond-same {A = ℕ} (same 0 x) 0))
 
-  pub link-end : (m i : ℕ) → slots ≤ i → linkTo (siteOf S) m x i ≡ withoutLinksOf (siteOf S) m x
-  unfolding linkTo withoutLinksOf
-  link-end m i h =
-      link-only refl refl refl (λ l s t.
-      guard (siteOf S .link l s t) (λ p.
-      let r = link-in S l s t p in
-      ap₂ (λ (a b : Bool). not (same l m && ((same t x && a) || (same s x && b)))) (below-in s i (omega (arith, r .1 .0))) (below-in t i (omega (arith, r .1 .1)))
-      ∙ ap (λ (b : Bool). not (same l m && b)) (swap (same t x) (same s x))))
-    where
-      swap : (a b : Bool) → ((a && true) || (b && true)) ≡ (b || a)
-      swap true true = refl
-      swap true false = refl
-      swap false true = refl
-      swap false false = refl
+  -- the column, then the row
+  pub crossed : (m i : ℕ) {N N′ : Model} → slots ≤ i → N ≡ columnTo (siteOf S) m x i → N′ ≡ withoutTarget N m x → N′ ≡ withoutLinksOf (siteOf S) m x
+  unfolding columnTo withoutTarget withoutLinksOf
+  crossed m i h e g =
+      g ∙ ap (λ (K : Model). withoutTarget K m x) e
+      ∙ link-only refl refl refl (λ l s t.
+      either
+      (look (siteOf S .link l s t))
+      (λ p.
+      ap (λ (b : Bool). cond (same l m) ((siteOf S .link l s t && not (same l m && (same t x && b))) && not (same s x)) (siteOf S .link l s t && not (same l m && (same t x && b)))) (below-in s i (omega (arith, link-in S l s t p .1 .0)))
+      ∙ all-pairs (siteOf S .link l s t) (same l m) (same t x) (same s x))
+      (λ p. rw p (cond-same (same l m) false)))
 
   pub links-end : (i : ℕ) → links ≤ i → linksTo (siteOf S) x i ≡ withoutLinks (siteOf S) x
   unfolding linksTo withoutLinks

@@ -1,4 +1,4 @@
--- `even_rule::check` meets its contract.
+-- The table's size, its nodes and its rules in their order; the masks that are handed on.
 use Rattle.even_rule.specs.Laws.Answer.{answer-7, answer-8, all-fit}
 use Rattle.condition.specs.Laws.Verdict.{size-out}
 use borrow.Author.Tests.{not-true, not-false}

@@ -1,4 +1,4 @@
--- `even_rule::check_rules` meets its contract.
+-- All nodes are visited, then item 9 and item 10 are tested by the masks.
 use Rattle.even_rule.specs.Laws.Answer.{fit, answer-9, answer-10, answer-none}
 use Rattle.even_rule.specs.Laws.Check.{rows-odds, none-done}
 use Rattle.condition.specs.Laws.Verdict.{size-out}

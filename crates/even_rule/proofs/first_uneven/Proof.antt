@@ -1,4 +1,4 @@
--- `even_rule::first_uneven` meets its contract.
+-- No node before i is uneven.
 use Rattle.condition.specs.Laws.Bytes.{length-table}
 use Rattle.condition.specs.Refusal.{firstUneven}
 use Rattle.condition.specs.Bytes.{tableOf}

@@ -1,4 +1,4 @@
--- `even_rule::has` meets its contract.
+-- A bit of a mask, by shifting.
 use Rattle.finite.specs.Tests.{bit}
 use mathlib.Core.Path.{refl}
 use borrow.Author.Needs.{needs}

@@ -1,4 +1,4 @@
--- `even_rule::no_free` meets its contract.
+-- No bit of either mask: no variable is free.
 use Rattle.even_rule.specs.Laws.Check.{empty-masks}
 use native.Mathlib.Omega.{arith}
 use Rattle.even_rule.proofs.no_free.Statement.{statement}

@@ -1,4 +1,4 @@
--- `even_rule::single` meets its contract.
+-- The mask of one variable.
 use Rattle.even_rule.specs.Laws.Shows.{weight}
 use borrow.Author.Needs.{needs}
 use Rattle.even_rule.proofs.single.Statement.{statement}

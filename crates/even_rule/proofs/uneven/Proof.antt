@@ -1,4 +1,4 @@
--- `even_rule::uneven` meets its contract.
+-- A mu or nu whose variable stands in the odd mask.
 use Rattle.even_rule.specs.Laws.Check.{keeps-low, keeps-high, breaks}
 use Rattle.condition.specs.Laws.Limits.{limit-loop}
 use native.Mathlib.Omega.{arith}

@@ -1,4 +1,4 @@
--- `even_rule::unite` meets its contract.
+-- The masks before k are united.
 use Rattle.even_rule.specs.Laws.Check.{united-start, united-more}
 use Rattle.even_rule.specs.Masks.{United}
 use lib.ListN.{length, length-set}

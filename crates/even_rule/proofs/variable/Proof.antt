@@ -1,4 +1,4 @@
--- `even_rule::variable` meets its contract.
+-- The variable's mask in the even parity, none in the odd one.
 use borrow.Author.Needs.{needs}
 use Rattle.even_rule.proofs.variable.Statement.{statement}
 use Rattle.even_rule.proofs.variable.Tie as tie

@@ -1,4 +1,4 @@
--- `even_rule::visit_all` meets its contract.
+-- All nodes before i are visited.
 use Rattle.even_rule.specs.Laws.Check.{all-done, more-done}
 use Rattle.even_rule.specs.Laws.Pass.{again}
 use Rattle.even_rule.specs.Masks.{Ready}

@@ -1,4 +1,4 @@
--- `even_rule::without` meets its contract.
+-- A mask without one variable.
 use lib.Bits.{bitAnd}
 use Prim.Native.Nat.{ℕ, _-_}
 use mathlib.Core.Path.{ap}

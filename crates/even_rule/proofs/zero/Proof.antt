@@ -1,4 +1,4 @@
--- `even_rule::zero` meets its contract.
+-- The masks before k are 0.
 use Rattle.buffer.specs.Laws.{filled}
 use borrow.Author.Fill.{fill-none, fill-more}
 use lib.ListN.{length, drop, replicate, length-set}

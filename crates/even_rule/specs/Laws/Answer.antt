@@ -4,7 +4,7 @@ use mathlib.Core.List.{List}
 use mathlib.Core.Bool.{Bool, true, false, not, _||_}
 use Prim.Native.Nat.{ℕ, _-_, _/_, _≤_, _<_}
 use native.Mathlib.Omega.{arith}
-use lib.ListN.{length, getD, replicate}
+use lib.ListN.{length, getD}
 use borrow.Author.Tests.{not-true, not-false}
 use Rattle.finite.specs.Tests.{below, all, bit}
 use Rattle.finite.specs.Laws.Below.{below-in, below-not}
@@ -16,11 +16,11 @@ use Rattle.condition.specs.Refusal.{sizeFits, firstUnfit, firstUneven, conditio
 use Rattle.condition.specs.Laws.Bytes.{length-table}
 use Rattle.condition.specs.Laws.Fits.{none-unfit, fit-none}
 use Rattle.condition.specs.Laws.Verdict.{size-out, item-7, item-8, item-9, item-10, no-item}
-use Rattle.even_rule.specs.Free.{FreeAfter, Checked}
+use Rattle.even_rule.specs.Free.{noMasks, FreeAfter, Checked}
 use Rattle.even_rule.specs.Masks.{Rows, Fit, United}
 use Rattle.even_rule.specs.Laws.Check.{last-closed, free-rows}
 
-module _ (S rows : List ℕ) (zeros : rows ≡ replicate 2048 0) where
+module _ (S rows : List ℕ) (zeros : rows ≡ noMasks) where
   refused : (n w : ℕ) → conditionVerdict S ≡ Refused n w → Checked S rows (Refused n w)
   unfolding FreeAfter
   refused n w e = record { verdict = sym e; masks = zeros }

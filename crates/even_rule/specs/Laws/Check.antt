@@ -1,7 +1,7 @@
 -- The checks by the masks: item 9, item 10, and the masks that are handed on.
 use mathlib.Core.Path.{_≡_, refl, sym, _∙_, ap, ap₂}
 use mathlib.Core.List.{List}
-use mathlib.Core.Bool.{Bool, true, false, not, _||_}
+use mathlib.Core.Bool.{Bool, true, false, not, _||_, Bool·not-not}
 use Prim.Native.Nat.{ℕ, zero, suc, _+_, _*_, _-_, _/_, _≤_, _<_}
 use native.Mathlib.Nat.{not-suc-le-zero}
 use native.Mathlib.Omega.{arith}
@@ -9,7 +9,7 @@ use lib.ListN.{length, getD, set, replicate, length-replicate, getD-replicate}
 use lib.Seq.{getD-set-same, getD-set-other}
 use lib.Dec.{eqb}
 use lib.Bits.{bitOr, or-lt}
-use borrow.Author.Tests.{eqb-true, eq-eqb}
+use borrow.Author.Tests.{eqb-true, eq-eqb, not-true}
 use Rattle.finite.specs.Tests.{all, bit}
 use Rattle.finite.specs.Laws.Bools.{either, both}
 use Rattle.finite.specs.Laws.Below.{equal?, all-in, all-out, all-cong}
@@ -20,15 +20,11 @@ use Rattle.semantics.specs.Table.{treeAt, formOf}
 use Rattle.condition.specs.Bytes.{nodeAt, tableOf}
 use Rattle.condition.specs.Laws.Bytes.{length-table}
 use Rattle.condition.specs.Laws.Fits.{node-tree}
-use Rattle.even_rule.specs.Free.{FreeRows}
+use Rattle.even_rule.specs.Free.{FreeRows, noMasks}
 use Rattle.even_rule.specs.Masks.{Shows, Row, Rows, Odds, Fit, Good, Kept, Ready, United}
 use Rattle.even_rule.specs.Laws.Shows.{even-other, even-slot, even-loop}
 
 -- ---- item 9 at a node
-
-double : (b : Bool) → b ≡ not (not b)
-double true = refl
-double false = refl
 
 module _ (S : List ℕ) (i k : ℕ) (f : Fit S) (h : 6 * i + 6 ≤ length S) (e : k ≡ nodeAt S i .kind) where
   pub keeps-low : k < 10 → false ≡ not (even (treeAt (tableOf S) i))
@@ -42,7 +38,7 @@ module _ (S : List ℕ) (i k : ℕ) (f : Fit S) (h : 6 * i + 6 ≤ length S) (e 
   unfolding Odds Shows
   breaks l g odds o j p r ej hj ep hp er =
       rw (node-tree S (f .fits) i h, ← e, ← ep, ← ej, even-loop true p (treeAt (tableOf S) j) (treeAt (tableOf S) (nodeAt S i .right)) k l g)
-      (er ∙ o j (omega arith) p hp ∙ double (occ false p (treeAt (tableOf S) j)))
+      (er ∙ o j (omega arith) p hp ∙ sym (Bool·not-not (occ false p (treeAt (tableOf S) j))))
 
 -- ---- every node is done
 
@@ -90,11 +86,7 @@ empty-masks e o he ho =
     (λ z. all-in 16 (λ v. not (bit e v || bit o v)) (λ v h.
     ap not (sym (bit-or e o v) ∙ ap (λ (m : ℕ). bit m v) (eqb-true (bitOr e o) 0 z) ∙ bit-zero v)))
     (λ a. eq-eqb (bitOr e o) 0
-    (no-bits 16 (bitOr e o) (or-lt 16 e o he ho) (λ v h. bit-or e o v ∙ opposite (bit e v || bit o v) (all-out 16 (λ v. not (bit e v || bit o v)) a v h))))
-  where
-    opposite : (b : Bool) → not b ≡ true → b ≡ false
-    opposite true p = sym p
-    opposite false p = refl
+    (no-bits 16 (bitOr e o) (or-lt 16 e o he ho) (λ v h. bit-or e o v ∙ not-true (bit e v || bit o v) (all-out 16 (λ v. not (bit e v || bit o v)) a v h))))
 
 module _ (S evens odds : List ℕ) (r : Rows S evens odds) where
   free-bits : (j v : ℕ) → 6 * j + 6 ≤ length S → v < 16 → (bit (getD evens j 0) v || bit (getD odds j 0) v) ≡ free v (treeAt (tableOf S) j)
@@ -108,7 +100,7 @@ module _ (S evens odds : List ℕ) (r : Rows S evens odds) where
       rw (length-table S)
       (all-cong 16 _ _ (λ v l. ap not (free-bits (length S / 6 - 1) v (omega arith) l)))
 
-  pub free-rows : (rows : List ℕ) → United evens odds (replicate 2048 0) rows (length S / 6) → FreeRows S rows
+  pub free-rows : (rows : List ℕ) → United evens odds noMasks rows (length S / 6) → FreeRows S rows
   free-rows rows u =
       record {
         node = λ i v h l.

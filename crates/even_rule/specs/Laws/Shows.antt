@@ -1,7 +1,7 @@
 -- The masks of a node from its children's, kind by kind.
 use mathlib.Core.Path.{_≡_, refl, _∙_, ap, ap₂}
 use mathlib.Core.List.{List}
-use mathlib.Core.Bool.{Bool, true, false, not, _&&_, _||_, cond}
+use mathlib.Core.Bool.{Bool, true, false, not, _&&_, _||_, cond, and-comm}
 use Prim.Native.Nat.{ℕ, zero, suc, _+_, _*_, _-_, _%_, _^_, _≤_, _<_}
 use native.Mathlib.Nat.{one-mul, mod-eq-of-lt}
 use native.Mathlib.Omega.{arith}
@@ -26,17 +26,11 @@ use Rattle.even_rule.specs.Masks.{Shows, Row, Children, Fit}
 pub weight : (v : ℕ) → v < 16 → (1 * 2 ^ v) % 65536 ≡ 2 ^ v
 weight v h = rw one-mul (mod-eq-of-lt (pow-lt h))
 
-and-swap : (a b : Bool) → (a && b) ≡ (b && a)
-and-swap true true = refl
-and-swap true false = refl
-and-swap false true = refl
-and-swap false false = refl
-
 pub bit-without : (m u v : ℕ) → u < 16 → v < 16 → bit (bitAnd m (65535 - 2 ^ u)) v ≡ (not (same u v) && bit m v)
 bit-without m u v hu hv =
     bit-and m (65535 - 2 ^ u) v
     ∙ ap (λ (b : Bool). bit m v && b) (bit-not 16 (2 ^ u) v (pow-lt hu) hv ∙ ap not (bit-weight u v))
-    ∙ and-swap (bit m v) (not (same u v))
+    ∙ and-comm (bit m v) (not (same u v))
 
 -- ---- the mask of a tree, from those of the trees below it
 

@@ -8,11 +8,12 @@ use lib.Dec.{T, eqb, eqb→eq, eqb-refl, ltb, ltb→lt, lt→ltb}
 use Rattle.finite.specs.Tests.{same, below, any, all, count}
 use Rattle.finite.specs.Laws.Bools.{either, look, clash, no-true, and-in, and-l, and-r, or-l, or-r, or-out, not-in}
 
--- equality of numbers, as a test
-pass : (b : Bool) → T b → b ≡ true
+-- what the checker computes, as a test that passes
+pub pass : (b : Bool) → T b → b ≡ true
 pass true t = refl
 pass false t = absurd t
 
+-- equality of numbers, as a test
 pub same-eq : {m n : ℕ} → same m n ≡ true → m ≡ n
 unfolding same
 same-eq {m} {n} p = eqb→eq m n (subst⁻¹ T p tt)

@@ -1,6 +1,6 @@
 -- Laws of binary digits, and facts about small numbers that the checker computes.
 use mathlib.Core.Path.{_≡_, refl, sym, _∙_, ap}
-use mathlib.Core.Bool.{Bool, true, false, not, _&&_, _||_, Bool·beq}
+use mathlib.Core.Bool.{Bool, true, false, not, _&&_, _||_}
 use Prim.Native.Nat.{ℕ, zero, suc, _+_, _-_, _/_, _%_, _^_, _<_}
 use native.Mathlib.Nat.{eq-or-lt-of-le, mod-lt, zero-lt-suc, le-of-suc-le-suc, pow-succ', two-pow-succ, div-div-eq-div-mul}
 use native.Mathlib.Omega.{arith}
@@ -22,12 +22,6 @@ and-1 false b h = h
 and-2 : (a b : Bool) → T (a && b) → T b
 and-2 true b h = h
 and-2 false b h = absurd h
-
-pub beq-eq : (a b : Bool) → T (Bool·beq a b) → a ≡ b
-beq-eq true true h = refl
-beq-eq true false h = absurd h
-beq-eq false true h = absurd h
-beq-eq false false h = refl
 
 pub all-below : (p : ℕ → Bool) (n : ℕ) → T (allb p n) → (k : ℕ) → k < n → T (p k)
 all-below p zero h k hk = absurd (omega arith)

@@ -1,7 +1,7 @@
 -- What a Boolean's value says, and tests that pass together.
-use mathlib.Core.Path.{_≡_, refl, sym, _∙_}
+use mathlib.Core.Path.{_≡_, refl, sym, _∙_, subst}
 use mathlib.Core.Logic.{_⊎_, inl, inr}
-use mathlib.Core.Bool.{Bool, true, false, not, _&&_, _||_, Bool·beq, true≢false}
+use mathlib.Core.Bool.{Bool, true, false, not, _&&_, _||_, cond, Bool·beq, true≢false}
 
 -- by cases, what is split first: so that its type is known when the cases are read
 abbrev pub either {ℓ ℓ′ ℓ″} : {A : Type ℓ} {B : Type ℓ′} {C : Type ℓ″} → A ⊎ B → (A → C) → (B → C) → C
@@ -71,13 +71,26 @@ imp-and true true = refl
 imp-and true false = refl
 imp-and false b = refl
 
-pub not-not : (a : Bool) → not (not a) ≡ a
-not-not true = refl
-not-not false = refl
-
--- two Booleans that compare as equal
+-- two Booleans that compare as equal, and the other way
 pub beq-true : (a b : Bool) → Bool·beq a b ≡ true → a ≡ b
 beq-true true true p = refl
 beq-true true false p = clash p refl
 beq-true false true p = clash p refl
 beq-true false false p = refl
+
+beq-refl : (a : Bool) → Bool·beq a a ≡ true
+beq-refl true = refl
+beq-refl false = refl
+
+pub eq-beq : {a b : Bool} → a ≡ b → Bool·beq a b ≡ true
+eq-beq {a} p = subst (λ x. Bool·beq a x ≡ true) p (beq-refl a)
+
+-- a test a that is changed to g of a and d where b passes: what its passing says
+pub cond-comes : (g : Bool → Bool → Bool) → ((a d : Bool) → g a d ≡ true → (a ≡ true) ⊎ (d ≡ true))
+    → (a b d : Bool) → cond b (g a d) a ≡ true → (a ≡ true) ⊎ ((b ≡ true) × (d ≡ true))
+cond-comes g comes a true d p = either (comes a d p) inl (λ q. inr (refl, q))
+cond-comes g comes a false d p = inl p
+
+pub cond-was : (a b d : Bool) → cond b (a && d) a ≡ true → a ≡ true
+cond-was a true d p = and-l a d p
+cond-was a false d p = p

@@ -1,9 +1,9 @@
 -- A test of all numbers is the complement of a test of some.
 use mathlib.Core.Path.{_≡_, refl, sym, _∙_}
-use mathlib.Core.Bool.{Bool, true, false, not, _&&_, _||_}
+use mathlib.Core.Bool.{Bool, true, false, not, _&&_, _||_, Bool·not-not}
 use Prim.Native.Nat.{ℕ, zero, suc}
 use Rattle.finite.specs.Tests.{any, all}
-use Rattle.finite.specs.Laws.Bools.{imp-and, not-not}
+use Rattle.finite.specs.Laws.Bools.{imp-and}
 use Rattle.finite.specs.Laws.Below.{all-cong}
 
 -- some pass, unless all fail
@@ -18,7 +18,7 @@ any-all (suc n) f = rw (any-all n f) (go (f n) (all n (λ k. not (f k))))
 
 -- none passes, if all fail
 pub none-all : (n : ℕ) (f : ℕ → Bool) → not (any n f) ≡ all n (λ k. not (f k))
-none-all n f = rw (any-all n f) (not-not (all n (λ k. not (f k))))
+none-all n f = rw (any-all n f) (Bool·not-not (all n (λ k. not (f k))))
 
 -- all that pass a pass b, where none passes a and not b
 pub all-any : (n : ℕ) (a b : ℕ → Bool) → all n (λ t. not (a t) || b t) ≡ not (any n (λ t. a t && not (b t)))

@@ -1,6 +1,6 @@
 -- Tests below a bound that is a sum, and loops that test 0, 1, .. and leave at the first that fails.
-use mathlib.Core.Path.{_≡_, refl}
-use mathlib.Core.Bool.{Bool, true, false, _&&_}
+use mathlib.Core.Path.{_≡_, refl, sym}
+use mathlib.Core.Bool.{Bool, true, false, _&&_, and-true}
 use Prim.Native.Nat.{ℕ, zero, suc, _+_, _≤_, _<_}
 use native.Mathlib.Nat.{add-zero, add-suc}
 use native.Mathlib.Numerals.{add-one}
@@ -16,11 +16,7 @@ and-swap false false c = refl
 
 pub all-add : (m n : ℕ) (f : ℕ → Bool) → all (m + n) f ≡ (all m f && all n (λ k. f (m + k)))
 unfolding all
-all-add m zero f = rw add-zero (and-end (all m f))
-  where
-    and-end : (a : Bool) → a ≡ (a && true)
-    and-end true = refl
-    and-end false = refl
+all-add m zero f = rw add-zero (sym (and-true (all m f)))
 all-add m (suc n) f = rw (add-suc, all-add m n f) (and-swap (f (m + n)) (all m f) (all n (λ k. f (m + k))))
 
 -- one that fails

@@ -15,25 +15,26 @@ use Rattle.condition.specs.Bytes.{bytesOf}
 use Rattle.condition.specs.Refusal.{conditionVerdict}
 use Rattle.condition.specs.Laws.Bytes.{length-bytes}
 use Rattle.sheet.specs.Refusal.{sheetVerdict}
-use Rattle.blocks.specs.Write.{tableBytes}
+use Rattle.blocks.specs.Write.{tableNodes, tableBytes}
 use Rattle.trailer.specs.Refusal.{trailerVerdict}
 use Rattle.trailer.specs.Pieces.{siteIn, conditionIn, sheetIn}
+use Rattle.rewriting.specs.declared.Rewriting.{Rewriting}
+use Rattle.rewriting.specs.declared.Rewriting.the-variants as change
+use Rattle.rewriting.specs.Answer as changed
+use Rattle.rewriting.specs.Rewriting.{rewritten, TableAfter}
 use Rattle.rewriting.specs.Laws.Accepted.{rewritten-accepted}
 use Rattle.refusals.specs.Laws.Items.{then-out}
 use Rattle.list_entry.specs.Listing.{SetAfter}
 use Rattle.apply_entry.specs.Applying.{SiteAfter}
-use Rattle.rewrite_entry.specs.Rewriting.{rewritten, TableAfter}
 use Rattle.classes_entry.specs.Classing.{ClassesAfter}
-use Rattle.job_steps.specs.declared.Outcome.{Outcome}
-use Rattle.job_steps.specs.declared.Outcome.the-variants as outcome
-use Rattle.job_steps.specs.Steps.{Judged, outcomeOf, Changed}
+use Rattle.job_steps.specs.Steps.{Judged, changeVerdict, Changed}
 use Rattle.job_entry.specs.declared.Job.{Job}
 use Rattle.job_entry.specs.declared.Job.the-variants as answer
 use Rattle.job_entry.specs.Buffers.{Buffers, six}
 use Rattle.job_entry.specs.Refusal.{buffersVerdict}
 use Rattle.job_entry.specs.Answer.{verdictOf, afterOf, todayOf, nodesOf, classesOf}
 use Rattle.job_entry.specs.Job.{Left, Answered}
-use Rattle.job_entry.specs.Steps.{sizesFit, sizesVerdict, fileVerdict, changeVerdict, FileJudged, Zeros, Ready, Listable, Finished, Worked}
+use Rattle.job_entry.specs.Steps.{sizesFit, sizesVerdict, fileVerdict, FileJudged, Zeros, Ready, Listable, Finished, Worked}
 use Rattle.job_entry.specs.Laws.Refusal.{sizes-verdict, sized-out, job-then, file-out, change-out}
 
 -- ---- the file is judged
@@ -60,7 +61,7 @@ abbrev fits : Buffers → Bool
 fits b = sizesFit (length (b .site)) (length (b .table)) (length (b .after)) (length (b .today)) (length (b .classes)) (length (b .work))
 
 pub ready : (file : List ℕ) {old cond sheet masks : List ℕ} {b : Buffers} {sizes : Bool} {v : Verdict} → sizes ≡ fits b
-    → FileJudged sizes file masks v → v ≡ Accepted → length masks ≡ 2048 → old ≡ siteIn file → cond ≡ conditionIn file → sheet ≡ sheetIn file
+    → FileJudged sizes file masks v → v ≡ Accepted → length masks ≡ tableNodes → old ≡ siteIn file → cond ≡ conditionIn file → sheet ≡ sheetIn file
     → Ready old cond sheet masks b
 ready file {b = b} {sizes = sizes} s j e l p q h =
     let d = then-out (sizesVerdict sizes) (fileVerdict file) (sym (j .verdict) ∙ e) in
@@ -74,13 +75,12 @@ ready file {b = b} {sizes = sizes} s j e l p q h =
       sized = sized-out b (sizes-verdict b ∙ ap sizesVerdict (sym s) ∙ d .0);
     }
 
-module _ {old cond sheet free : List ℕ} {b : Buffers} (k : Ready old cond sheet free b) {site′ table′ : List ℕ} {r : Outcome}
+module _ {old cond sheet free : List ℕ} {b : Buffers} (k : Ready old cond sheet free b) {site′ table′ : List ℕ} {r : Rewriting}
     (c : Changed old cond sheet (b .site) site′ (b .table) table′ r) where
   -- the sheet went through and the rewritten table is short enough
-  module _ {n : ℕ} (e : r ≡ outcome.Nodes n) where
+  module _ {n : ℕ} (e : r ≡ change.Rewritten n) where
     accepted : changeVerdict old cond sheet ≡ Accepted
-    unfolding changeVerdict
-    accepted = sym (c .verdict) ∙ ap outcomeOf e
+    accepted = sym (c .verdict) ∙ ap changed.verdictOf e
 
     pub listable : Listable old cond free site′ table′ n
     unfolding SiteAfter TableAfter
@@ -129,15 +129,14 @@ zeros-left z = record {
 }
 
 -- also where the site and the table were written before
-pub worked-refused : {old cond sheet : List ℕ} {b b′ : Buffers} {site′ table′ : List ℕ} {r : Outcome}
-    → Changed old cond sheet (b .site) site′ (b .table) table′ r → {item place : ℕ} → r ≡ outcome.Refused item place → {j : Job}
+pub worked-refused : {old cond sheet : List ℕ} {b b′ : Buffers} {site′ table′ : List ℕ} {r : Rewriting}
+    → Changed old cond sheet (b .site) site′ (b .table) table′ r → {item place : ℕ} → r ≡ change.Refused item place → {j : Job}
     → j ≡ answer.Refused item place → length site′ ≡ length (b .site) → length table′ ≡ length (b .table)
     → Zeros (six site′ table′ (b .after) (b .today) (b .classes) (b .work)) b′ → Worked old cond sheet b b′ j
-unfolding changeVerdict
 worked-refused c e f p q z =
     rw f
     (record {
-      verdict = sym (ap outcomeOf e) ∙ c .verdict;
+      verdict = sym (ap changed.verdictOf e) ∙ c .verdict;
       left =
           zeros-left
           (record {

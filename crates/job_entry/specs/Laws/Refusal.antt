@@ -9,6 +9,7 @@ use Rattle.finite.specs.Tests.{same}
 use Rattle.finite.specs.Laws.Bools.{either, look}
 use Rattle.bitset.specs.Set.{setBytes}
 use Rattle.verdict.specs.Verdict.{reasonOf, _then_}
+use Rattle.verdict.specs.Laws.{then-assoc}
 use Rattle.verdict.specs.declared.Verdict.{Verdict}
 use Rattle.verdict.specs.declared.Verdict.the-variants.{Accepted, Refused}
 use Rattle.semantics.specs.Edit.{sheetGoes}
@@ -22,16 +23,17 @@ use Rattle.sheet.specs.Refusal.{sheetVerdict}
 use Rattle.blocks.specs.Write.{tableBytes}
 use Rattle.applying.specs.Refusal.{goesVerdict}
 use Rattle.applying.specs.Laws.Left.{goes-out}
-use Rattle.rewriting.specs.Result.{tooLong}
-use Rattle.rewriting.specs.Refusal.{lengthVerdict}
+use Rattle.rewriting.specs.Refusal.{tooLong, lengthVerdict}
 use Rattle.trailer.specs.Refusal.{item2, trailerVerdict}
 use Rattle.trailer.specs.Pieces.{siteIn, conditionIn, sheetIn}
-use Rattle.refusals.specs.Refusal.{workBytes, bufferVerdict}
+use Rattle.listing.specs.Listed.{workBytes}
+use Rattle.refusals.specs.Refusal.{bufferVerdict}
 use Rattle.classes_entry.specs.Refusal.{classesBytes}
 use Rattle.refusals.specs.Laws.Items.{buffer-out, then-out, length-out, Numbered, numbered-then, numbered-buffer, numbered-site, numbered-condition, numbered-sheet, numbered-goes, numbered-length}
+use Rattle.job_steps.specs.Steps.{changeVerdict}
 use Rattle.job_entry.specs.Buffers.{Buffers, Sized}
 use Rattle.job_entry.specs.Refusal.{buffersVerdict, jobVerdict}
-use Rattle.job_entry.specs.Steps.{sizesFit, sizesVerdict, fileVerdict, changeVerdict}
+use Rattle.job_entry.specs.Steps.{sizesFit, sizesVerdict, fileVerdict}
 
 -- ---- item 1
 
@@ -82,15 +84,12 @@ pub job-then : (b : Buffers) (file : List ℕ)
     → jobVerdict b file ≡ (buffersVerdict b then fileVerdict file) then changeVerdict (siteIn file) (conditionIn file) (sheetIn file)
 unfolding jobVerdict fileVerdict changeVerdict
 job-then b file =
-    go (buffersVerdict b) (trailerVerdict file) (siteVerdict (siteIn file)) (conditionVerdict (conditionIn file)) (sheetVerdict (sheetIn file))
-    (goesVerdict (editsOf (sheetIn file)) (siteOf (siteIn file)) then lengthVerdict (editsOf (sheetIn file)) (tableOf (conditionIn file)))
-  where
-    go : (u v w x y z : Verdict) → u then v then w then x then y then z ≡ (u then v then w then x then y) then z
-    go (Refused n k) v w x y z = refl
-    go Accepted (Refused n k) w x y z = refl
-    go Accepted Accepted (Refused n k) x y z = refl
-    go Accepted Accepted Accepted (Refused n k) y z = refl
-    go Accepted Accepted Accepted Accepted y z = refl
+    let t = trailerVerdict file in
+    let s = siteVerdict (siteIn file) in
+    let c = conditionVerdict (conditionIn file) in
+    let e = sheetVerdict (sheetIn file) in
+    let z = changeVerdict (siteIn file) (conditionIn file) (sheetIn file) in
+    rw (then-assoc (buffersVerdict b) (t then s then c then e) z, then-assoc t (s then c then e) z, then-assoc s (c then e) z, then-assoc c e z)
 
 -- ---- what is accepted
 

@@ -1,4 +1,6 @@
 -- Item 13 by applying, then item 14 by rewriting.
+use Rattle.condition.specs.Laws.Verdict.{accepted-sound}
+use Rattle.sheet.specs.Laws.Accepted.{accepted-sheet}
 use Rattle.job_steps.specs.Laws.Steps.{changed-then, changed-stuck}
 use borrow.Author.Needs.{needs}
 use Rattle.job_steps.proofs.change.Statement.{statement}
@@ -10,8 +12,8 @@ apply-requires c κs = search needs
 enum-told : tie.Need-enum-told
 enum-told c = search needs
 
-rewrite-requires : tie.Need-rewrite-requires
-rewrite-requires c κs = search needs
+rewrite-sheet-requires : tie.Need-rewrite-sheet-requires
+rewrite-sheet-requires c κs = let p = c .before .before .before .before .before .before .before .before .before .before .before .before .pre in ((accepted-sound _ (p .0 .1 .0) .few, p .1 .1), accepted-sheet _ (p .0 .1 .1) .are-legal)
 
 enum-known-v : tie.Need-enum-known-v
 enum-known-v c = search needs
@@ -23,7 +25,7 @@ same-length-2 : tie.Need-same-length-2
 same-length-2 c = search needs
 
 returns : tie.Need-returns
-returns c = changed-then (c .before .before .before .before .before .before .before .before .apply .ensures) (c .before .before .before .before .enum-told .given .1) (c .before .before .rewrite .ensures)
+returns c = changed-then (c .before .before .before .before .before .before .before .before .apply .ensures) (c .before .before .before .before .enum-told .given .1) (c .before .before .rewrite-sheet .ensures)
 
 same-length-3 : tie.Need-same-length-3
 same-length-3 c = search needs
@@ -37,7 +39,7 @@ change-spec =
     (tie.spec
     apply-requires
     enum-told
-    rewrite-requires
+    rewrite-sheet-requires
     enum-known-v
     same-length
     same-length-2

@@ -11,11 +11,10 @@ use Rattle.semantics.specs.Table.{formOf}
 use Rattle.site.specs.Site.{siteOf}
 use Rattle.site.specs.Refusal.{siteVerdict}
 use Rattle.condition.specs.Bytes.{tableOf}
-use Rattle.even_rule.specs.Free.{FreeRows, FreeAfter, Checked}
-use Rattle.listing.specs.Listed.{Listed}
+use Rattle.even_rule.specs.Free.{FreeRows, noMasks, FreeAfter, Checked}
+use Rattle.listing.specs.Listed.{workBytes, Listed}
 use Rattle.list_entry.specs.declared.Listing.{Listing}
 use Rattle.list_entry.specs.declared.Listing.the-variants as answer
-use Rattle.refusals.specs.Refusal.{workBytes}
 use Rattle.refusals.specs.Laws.Items.{buffer-in, buffer-not}
 use Rattle.list_entry.specs.Refusal.{listVerdict}
 use Rattle.list_entry.specs.Answer.{verdictOf, countOf}
@@ -25,7 +24,7 @@ use Rattle.list_entry.specs.Laws.Refusal.{Accepts, list-accepts}
 -- ---- the inputs are judged
 
 module _ {set work : ℕ} {site table masks : List ℕ} where
-  module _ (zeros : masks ≡ replicate 2048 0) where
+  module _ (zeros : masks ≡ noMasks) where
     pub judged-set : set ≢ setBytes → Judged set work site table masks (Refused 1 0)
     unfolding listVerdict FreeAfter
     judged-set h = record { verdict = rw (buffer-not h); masks-after = zeros }

@@ -1,4 +1,4 @@
--- What listing knows of inputs that it does not refuse; and the reason 0 says that it does not.
+-- What listing knows of inputs that it does not refuse.
 use mathlib.Core.Path.{_≡_}
 use mathlib.Core.List.{List}
 use Prim.Native.Nat.{ℕ}
@@ -6,9 +6,9 @@ use Rattle.bitset.specs.Set.{setBytes}
 use Rattle.verdict.specs.declared.Verdict.the-variants.{Accepted}
 use Rattle.site.specs.Refusal.{siteVerdict}
 use Rattle.condition.specs.Refusal.{conditionVerdict}
-use Rattle.verdict.specs.Verdict.{reasonOf}
-use Rattle.refusals.specs.Refusal.{workBytes, bufferVerdict}
-use Rattle.refusals.specs.Laws.Items.{buffer-out, then-out, Numbered, numbered-then, numbered-buffer, numbered-site, numbered-condition}
+use Rattle.listing.specs.Listed.{workBytes}
+use Rattle.refusals.specs.Refusal.{bufferVerdict}
+use Rattle.refusals.specs.Laws.Items.{buffer-out, then-out}
 use Rattle.list_entry.specs.Refusal.{listVerdict}
 
 pub record Accepts (setLen workLen : ℕ) (site table : List ℕ) : Type 0 where
@@ -30,11 +30,3 @@ list-accepts setLen workLen site table e =
       site-accepted = r .0;
       table-accepted = r .1;
     }
-
-pub list-reason : (setLen workLen : ℕ) (site table : List ℕ) → reasonOf (listVerdict setLen workLen site table) ≡ 0
-    → listVerdict setLen workLen site table ≡ Accepted
-unfolding listVerdict Numbered
-list-reason setLen workLen site table =
-    numbered-then (bufferVerdict setLen setBytes) _ (numbered-buffer setLen setBytes)
-    (numbered-then (bufferVerdict workLen workBytes) _ (numbered-buffer workLen workBytes)
-    (numbered-then (siteVerdict site) _ (numbered-site site) (numbered-condition table)))

@@ -22,7 +22,9 @@ use Rattle.condition.specs.Bytes.{tableOf}
 use Rattle.condition.specs.Laws.Bytes.{length-table}
 use Rattle.condition.specs.Laws.Verdict.{Sound}
 use Rattle.even_rule.specs.Free.{FreeRows}
+use Rattle.blocks.specs.Write.{tableNodes}
 use Rattle.listing_sets.specs.Places.{setAt, Written}
+use Rattle.listing.specs.Listed.{workBytes}
 use Rattle.listing.specs.State.{Good, Ready, Done}
 
 -- each variable of a table's trees is one of the sixteen
@@ -55,8 +57,8 @@ closed-eval φ k c M ρ σ =
     eval-agree M φ ρ σ (λ v o. absurd (not-out _ (all-out variables _ c v (either (or-out (occ true v φ) _ o) (k true v) (k false v))) o))
 
 -- at the start no flag is set
-pub none-known : (site S rows work : List ℕ) → length site ≡ siteBytes → Sound S → FreeRows S rows → length rows ≡ 2048 → length work ≡ 65536
-    → Ready site S rows (replicate 512 0) (replicate 2048 0) work
+pub none-known : (site S rows work : List ℕ) → length site ≡ siteBytes → Sound S → FreeRows S rows → length rows ≡ tableNodes → length work ≡ workBytes
+    → Ready site S rows (replicate 512 0) (replicate tableNodes 0) work
 unfolding Good
 none-known site S rows work hs sound f hr hw =
     record {
@@ -66,10 +68,10 @@ none-known site S rows work hs sound f hr hw =
       rows = f;
       free-size = hr;
       env-size = length-replicate {A = ℕ} 512 0;
-      fresh-size = length-replicate {A = ℕ} 2048 0;
+      fresh-size = length-replicate {A = ℕ} tableNodes 0;
       work-size = hw;
       good = λ j h e.
-          let z : _≡_ {A = ℕ} 1 0 = sym e ∙ getD-replicate {A = ℕ} 2048 j 0 0 (omega (arith, sound .few)) in
+          let z : _≡_ {A = ℕ} 1 0 = sym e ∙ getD-replicate {A = ℕ} tableNodes j 0 0 (omega (arith, sound .few)) in
           absurd (omega arith);
     }
 

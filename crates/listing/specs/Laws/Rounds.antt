@@ -19,8 +19,10 @@ use Rattle.semantics.specs.Laws.FixedPoint.{iter}
 use Rattle.semantics.specs.Laws.Agree.{_≐_, eval-agree, eval-put, iter-rest}
 use Rattle.site.specs.Site.{siteOf}
 use Rattle.condition.specs.Bytes.{tableOf}
+use Rattle.blocks.specs.Write.{tableNodes}
 use Rattle.listing_sets.specs.Places.{setAt, Written, Cleared}
 use Rattle.listing_sets.specs.Nodes.{startOf}
+use Rattle.listing.specs.Listed.{workBytes}
 use Rattle.listing.specs.State.{nodeSet, Good, Ready, Done}
 use Rattle.listing.specs.Laws.Memo.{good-moved}
 
@@ -36,8 +38,8 @@ round-same site S env x b P Q e = eval-put (siteOf site) (treeAt (tableOf S) b) 
 pub record Rounds (site S env₀ env fresh work : List ℕ) (k x b : ℕ) (set : List ℕ) (rounds : ℕ) (moved : Bool) : Type 0 where
   pub few : rounds ≤ setSlots
   pub env-size : length env ≡ 512
-  pub fresh-size : length fresh ≡ 2048
-  pub work-size : length work ≡ 65536
+  pub fresh-size : length fresh ≡ tableNodes
+  pub work-size : length work ≡ workBytes
   pub rest : (v : ℕ) → v ≢ x → setAt env v ≐ setAt env₀ v
   pub good : Good site S env fresh work
   pub value : has set ≐ iter rounds (round site S env₀ x b) (startOf k)
@@ -86,7 +88,7 @@ module _ (site S env₀ env fresh work : List ℕ) (k x b : ℕ) (set : List ℕ
 
     -- one more round
     pub rounds-more : (env₂ fresh₂ work₂ next : List ℕ) (q : Bool) → rounds < setSlots → Done site S env₁ env₂ fresh₂ work₂ b
-        → has next ≐ setAt work₂ b → (q ≡ true → set ≡ next) → length env₂ ≡ 512 → length fresh₂ ≡ 2048 → length work₂ ≡ 65536
+        → has next ≐ setAt work₂ b → (q ≡ true → set ≡ next) → length env₂ ≡ 512 → length fresh₂ ≡ tableNodes → length work₂ ≡ workBytes
         → Rounds site S env₀ env₂ fresh₂ work₂ k x b next (rounds + 1) (not q)
     unfolding iter
     rounds-more env₂ fresh₂ work₂ next q lt d en eq he hf hw =

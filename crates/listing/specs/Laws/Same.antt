@@ -17,9 +17,8 @@ use Rattle.semantics.specs.Block.{rewriteSheet}
 use Rattle.semantics.specs.Laws.Demands.{rewritten-holds}
 use Rattle.listing.specs.Listed.{Listed}
 
--- two sets of 32 bytes
-module _ {A B : List ℕ} (la : length A ≡ setBytes) (lb : length B ≡ setBytes) (ha : (k : ℕ) → getD A k 0 < 256)
-    (hb : (k : ℕ) → getD B k 0 < 256) {m n : ℕ} where
+-- two sets of bytes
+module _ {A B : List ℕ} (ha : (k : ℕ) → getD A k 0 < 256) (hb : (k : ℕ) → getD B k 0 < 256) {m n : ℕ} where
   -- of conditions that hold at the same slots
   pub same-listed : {M N : Model} {φ ψ : Form} → Listed M φ A m → Listed N ψ B n
       → ((ρ : Env) (s : ℕ) → s < slots → Holds M ρ φ s ↔ Holds N ρ ψ s) → (A ≡ B) × (m ≡ n)
@@ -27,7 +26,7 @@ module _ {A B : List ℕ} (la : length A ≡ setBytes) (lb : length B ≡ setByt
   same-listed p q on =
       let none : Env = λ v x. false in
       let e : A ≡ B =
-      same-slots setBytes A B la lb ha hb (λ s h. both
+      same-slots setBytes A B (p .size) (q .size) ha hb (λ s h. both
       (λ g. q .listed none s h .1 (on none s h .0 (p .listed none s h .0 g)))
       (λ g. p .listed none s h .1 (on none s h .1 (q .listed none s h .0 g))))
       in

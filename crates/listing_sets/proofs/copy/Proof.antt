@@ -8,10 +8,10 @@ use Rattle.listing_sets.proofs.copy.Statement.{statement}
 use Rattle.listing_sets.proofs.copy.Tie as tie
 
 abbrev Inv-loop : tie.InvT-loop
-Inv-loop dst₀ src k₀ dst k = Updated (λ x y. y) dst₀ src dst k
+Inv-loop dst₀ src n k₀ dst k = Updated (λ x y. y) dst₀ src dst k
 
 abbrev μ-loop : tie.MeasureT-loop
-μ-loop dst₀ src k₀ dst k = setBytes - k
+μ-loop dst₀ src n k₀ dst k = setBytes - k
 
 loop-holds : tie.Need-loop-holds Inv-loop μ-loop
 loop-holds c = update-none (λ x y. y) _ _ (c .pre .0)

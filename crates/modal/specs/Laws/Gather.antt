@@ -1,17 +1,20 @@
 -- A loop over the slots that gathers a set: slot s is in exactly if some turn put it in.
-use mathlib.Core.Path.{_≡_, sym, _∙_}
+use mathlib.Core.Path.{_≡_, sym, _∙_, ap}
 use mathlib.Core.Logic.{_≢_}
-use mathlib.Core.Bool.{Bool, true, false, _&&_, _||_, and-true, and-false, or-false, or-comm}
+use mathlib.Core.Bool.{Bool, true, false, _&&_, _||_, and-true, and-false, or-false, or-comm, or-assoc}
 use mathlib.Core.List.{List}
-use Prim.Native.Nat.{ℕ, _+_, _≤_, _<_}
+use Prim.Native.Nat.{ℕ, zero, suc, _+_, _-_, _*_, _/_, _^_, _≤_, _<_}
+use native.Mathlib.Nat.{pow-succ', div-div-eq-div-mul}
 use native.Mathlib.Numerals.{add-one}
 use native.Mathlib.Omega.{arith}
-use lib.ListN.{length, replicate, length-replicate}
-use Rattle.finite.specs.Tests.{same, any}
-use Rattle.finite.specs.Laws.Bools.{either, look}
-use Rattle.finite.specs.Laws.Below.{equal?, same-refl, ne-same, any-in, none-any}
+use lib.ListN.{length, getD, replicate, length-replicate}
+use Rattle.finite.specs.Tests.{bit, same, below, any}
+use Rattle.finite.specs.Laws.Bools.{either, look, clash, and-r, or-l, or-r, or-out, both}
+use Rattle.finite.specs.Laws.Below.{equal?, same-refl, ne-same, below-out, not-below, any-in, any-out, none-any}
+use Rattle.finite.specs.Laws.Bits.{bit-suc}
+use Rattle.finite.specs.Laws.Weights.{bit-zero}
 use Rattle.bitset.specs.Set.{setBytes, setSlots, has, Is}
-use Rattle.bitset.specs.Laws.Bytes.{has-empty}
+use Rattle.bitset.specs.Laws.Bytes.{has-byte, has-empty}
 use Rattle.semantics.specs.Form.{slots}
 
 -- R has the slots that the turns below i put in; turn k puts in those of f k
@@ -37,6 +40,74 @@ module _ (f : ℕ → ℕ → Bool) where
   pub gather-done : (R : List ℕ) (i : ℕ) → Gathered f R i → setSlots ≤ i → Is R (λ s. any slots (λ k. f k s))
   unfolding slots
   gather-done R i g h s hs = rw (let e : setSlots ≡ i = omega arith in e) (g .holds s hs)
+
+-- R′ has the slots of R and those that the turns below i put in
+abbrev pub Adds : (ℕ → ℕ → Bool) → List ℕ → List ℕ → ℕ → Type 0
+Adds f R R′ i = Is R′ (λ s. has R s || any i (λ k. f k s))
+
+-- some number below i + n passes: one below i, or one of the n from there on
+any-parts : (i n : ℕ) (f : ℕ → Bool) → (any i f || any n (λ k. f (i + k))) ≡ any (i + n) f
+any-parts i n f = both
+    (λ e. either
+    (or-out (any i f) _ e)
+    (λ p. let t = any-out i f p in any-in (i + n) f (t .0) (omega (arith, t .1)) (t .2))
+    (λ p. let t = any-out n _ p in any-in (i + n) f (i + t .0) (omega (arith, t .1)) (t .2)))
+    (λ e.
+    let t = any-out (i + n) f e in
+    either
+    (look (below (t .0) i))
+    (λ b. or-l _ _ (any-in i f (t .0) (below-out (t .0) i b) (t .2)))
+    (λ b.
+    let l = not-below (t .0) i b in
+    let q : t .0 ≡ i + (t .0 - i) = omega arith in
+    or-r (any i f) _ (any-in n _ (t .0 - i) (omega (arith, t .1)) (rw (← q) (t .2)))))
+
+module _ (f : ℕ → ℕ → Bool) where
+  pub adds-none : (R : List ℕ) → Adds f R R 0
+  unfolding any
+  adds-none R s h = sym (or-false (has R s))
+
+  pub adds-more : (R R′ R″ : List ℕ) (i : ℕ) → Adds f R R′ i → Is R″ (λ s. has R′ s || f i s) → Adds f R R″ (i + 1)
+  unfolding any
+  adds-more R R′ R″ i a e s h =
+      rw (add-one i)
+      (e s h ∙ rw (a s h) (or-assoc (has R s) (any i (λ k. f k s)) (f i s) ∙ ap (λ (x : Bool). has R s || x) (or-comm (any i (λ k. f k s)) (f i s))))
+
+  -- the eight turns of byte i
+  pub gather-eight : (R R′ : List ℕ) (i : ℕ) → Gathered f R (i * 8) → i < setBytes → length R′ ≡ setBytes → Adds (λ k. f (i * 8 + k)) R R′ 8
+      → Gathered f R′ ((i + 1) * 8)
+  gather-eight R R′ i g h l e = record {
+    long = l;
+    upto = omega arith;
+    holds = λ s hs.
+        let q : (i + 1) * 8 ≡ i * 8 + 8 = omega arith in
+        rw q (e s hs ∙ rw (g .holds s hs) (any-parts (i * 8) 8 (λ k. f k s)));
+  }
+
+-- a byte that is 0 when it is shifted down by j has no slot from there on
+shifted-out : (j k v : ℕ) → v / 2 ^ j ≡ 0 → j ≤ k → bit v k ≡ false
+shifted-out zero k v e h = rw (let z : v ≡ 0 = omega arith in z) (bit-zero k)
+shifted-out (suc j) zero v e h = absurd (omega arith)
+shifted-out (suc j) (suc k) v e h =
+    bit-suc v k ∙ shifted-out j k (v / 2) (div-div-eq-div-mul v 2 (2 ^ j) ∙ rw (← (pow-succ' 2 j)) e) (omega arith)
+
+-- one that is not 0 yet has a slot left
+pub slot-left : (v j : ℕ) → v < 256 → j ≤ 8 → v / 2 ^ j ≢ 0 → j < 8
+slot-left v j h l n = either (equal? j 8) (λ q. absurd (n (rw q (let z : v / 256 ≡ 0 = omega arith in z)))) (λ q. omega arith)
+
+-- so the turns below j are all that the slots of byte i make, where the byte is v
+pub eight-done : (f : ℕ → ℕ → Bool) (T R R′ : List ℕ) (i v j : ℕ) → v ≡ getD T i 0 → Adds (λ k s. f (i * 8 + k) s && has T (i * 8 + k)) R R′ j → j ≤ 8
+    → v / 2 ^ j ≡ 0 → Adds (λ k s. f (i * 8 + k) s && has T (i * 8 + k)) R R′ 8
+eight-done f T R R′ i v j q a l e s h = a s h ∙ ap (λ (x : Bool). has R s || x) (both
+    (λ p. let t = any-out j _ p in any-in 8 _ (t .0) (omega (arith, t .1)) (t .2))
+    (λ p.
+    let t = any-out 8 _ p in
+    either
+    (look (below (t .0) j))
+    (λ b. any-in j _ (t .0) (below-out (t .0) j b) (t .2))
+    (λ b.
+    let out : has T (i * 8 + t .0) ≡ false = has-byte T i (t .0) (t .1) ∙ rw (← q) (shifted-out j (t .0) v e (not-below (t .0) j b)) in
+    clash (and-r (f (i * 8 + t .0) s) _ (t .2)) out)))
 
 -- a turn puts in the slots of f, or none
 pub turn-puts : (R R′ : List ℕ) (f : ℕ → Bool) (a : Bool) → a ≡ true → Is R′ (λ s. has R s || f s) → Is R′ (λ s. has R s || (f s && a))

@@ -7,15 +7,16 @@ use Prim.Native.Nat.{ℕ, _≤_, _<_}
 use native.Mathlib.Omega.{arith}
 use lib.ListN.{length, getD, take, drop}
 use Rattle.finite.specs.Tests.{same, any}
-use Rattle.finite.specs.Laws.Bools.{either, both, and-l}
-use Rattle.finite.specs.Laws.Below.{equal?, same-eq, same-refl, eq-same, ne-same, any-cong}
+use Rattle.finite.specs.Laws.Bools.{both, and-l}
+use Rattle.finite.specs.Laws.Below.{same-eq, same-refl, eq-same, ne-same, any-cong}
 use Rattle.bitset.specs.Set.{setBytes, setSlots, has, Is, inserted}
 use Rattle.bitset.specs.Laws.Part.{has-part}
 use Rattle.bitset.specs.Laws.Slot.{has-inserted}
 use Rattle.semantics.specs.Form.{slots, links}
 use Rattle.site.specs.Layout.{generalLinks, targetAt, rowAt}
 use Rattle.site.specs.Site.{siteOf}
-use Rattle.site.specs.Laws.Read.{row-is, target-is}
+use Rattle.site.specs.Laws.Read.{row-is, target-read}
+use Rattle.site.specs.Laws.Target.{nil-none}
 use Rattle.modal.specs.Laws.Gather.{any-only}
 
 module _ (S : List ℕ) (m s : ℕ) (hs : s < setSlots) where
@@ -35,14 +36,10 @@ module _ (S : List ℕ) (m s : ℕ) (hs : s < setSlots) where
 
   -- the target is v
   module _ (hg : generalLinks ≤ m) (hl : m < links) (v : ℕ) (e : v ≡ getD S (targetAt m s) 0) where
-    at : (t : ℕ) → t < setSlots → siteOf S .link m s t ≡ (same v t && not (same t 0))
-    unfolding slots
-    at t h = rw e (target-is S m s t hg hl hs h)
-
     only : (T : List ℕ) → v < setSlots → any slots (λ t. siteOf S .link m s t && has T t) ≡ (not (same v 0) && has T v)
     unfolding slots
     only T hv =
-        any-cong slots _ _ (λ t h. ap (λ (x : Bool). x && has T t) (at t h))
+        any-cong slots _ _ (λ t h. ap (λ (x : Bool). x && has T t) (target-read S m s hg hl hs v e t h))
         ∙ any-only slots (λ t. (same v t && not (same t 0)) && has T t) v hv (λ t n. rw (ne-same (λ q. n (sym q))))
         ∙ rw (same-refl v)
 
@@ -53,15 +50,12 @@ module _ (S : List ℕ) (m s : ℕ) (hs : s < setSlots) where
     target-meets T hv n = only T hv ∙ rw (ne-same n)
 
     pub none-added : (R : List ℕ) → v ≡ 0 → Is R (λ t. has R t || siteOf S .link m s t)
-    none-added R z t h = rw (at t h, z) (sym (ap (λ (x : Bool). has R t || x) (never t) ∙ or-false (has R t)))
-      where
-        never : (t : ℕ) → (same 0 t && not (same t 0)) ≡ false
-        never t = either (equal? t 0) (λ q. rw (q, same-refl 0)) (λ n. rw (ne-same (λ q. n (sym q))))
+    none-added R z t h = rw (target-read S m s hg hl hs v e t h, z) (sym (ap (λ (x : Bool). has R t || x) (nil-none t) ∙ or-false (has R t)))
 
     pub target-added : (R R′ : List ℕ) → length R ≡ setBytes → v < setSlots → v ≢ 0 → R′ ≡ inserted R v
         → Is R′ (λ t. has R t || siteOf S .link m s t)
     target-added R R′ l hv n i t h =
-        rw (i, has-inserted R v t (omega arith), at t h)
+        rw (i, has-inserted R v t (omega arith), target-read S m s hg hl hs v e t h)
         (ap (λ (x : Bool). has R t || x)
         (both
         (λ p. let q = same-eq p in rw (eq-same (sym q), ne-same (λ z. n (sym q ∙ z))))

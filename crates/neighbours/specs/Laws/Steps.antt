@@ -1,12 +1,14 @@
 -- The steps of loops that join slots, and the neighbours that they make.
-use mathlib.Core.Path.{_≡_, sym, _∙_}
+use mathlib.Core.Path.{_≡_, refl, sym, _∙_}
 use mathlib.Core.Logic.{_≢_}
-use mathlib.Core.Bool.{true, false, not, _&&_}
+use mathlib.Core.Bool.{Bool, true, false, not, _&&_, _||_, cond, or-false}
 use mathlib.Core.List.{List}
-use Prim.Native.Nat.{ℕ, _+_, _-_, _*_, _/_, _%_, _≤_, _<_}
+use Prim.Native.Nat.{ℕ, zero, suc, _+_, _-_, _*_, _/_, _%_, _^_, _≤_, _<_}
 use native.Mathlib.Omega.{arith}
-use lib.ListN.{length, getD, replicate}
-use Rattle.finite.specs.Tests.{same, below, any}
+use lib.Bits.{bitOr, or-zero-r}
+use lib.ListN.{length, getD, set, replicate, length-set}
+use lib.Seq.{getD-set-same, getD-set-other}
+use Rattle.finite.specs.Tests.{bit, same, below, any}
 use Rattle.finite.specs.Laws.Bools.{either, look, and-in, and-l, and-r, or-l, or-r, or-out, both}
 use Rattle.finite.specs.Laws.Below.{equal?, same-eq, same-refl, ne-same, any-in, any-out, none-any, below-out, not-below}
 use Rattle.finite.specs.Laws.Weights.{bit-zero}
@@ -16,11 +18,11 @@ use Rattle.semantics.specs.Holds.{Model, step}
 use Rattle.semantics.specs.Laws.Ways.{way-along, way-against}
 use Rattle.site.specs.Layout.{generalLinks, targetAt, rowAt}
 use Rattle.site.specs.Site.{siteOf}
-use Rattle.site.specs.Laws.Read.{row-is, target-is}
+use Rattle.site.specs.Laws.Read.{row-is, target-read}
 use Rattle.partition.specs.Gains.{Gains}
 use Rattle.partition.specs.Rows.{Neighbours}
 use Rattle.partition.specs.Laws.Gains.{gains-none, gains-put, gains-map, gains-join, gains-zeros}
-use Rattle.neighbours.specs.Steps.{at, joins, linkJoins, eightJoins, targetJoins}
+use Rattle.neighbours.specs.Steps.{at, joins, linkJoins, alongJoins, backJoins, eightJoins, targetJoins}
 
 -- both bits put in
 pub joined : (m s t : ℕ) (b a d : List ℕ) → a ≡ inserted b (at m s t) → d ≡ inserted a (at (m + links) t s) → at m s t / 8 < length b
@@ -30,14 +32,39 @@ joined m s t b a d e f h k =
     let g = gains-put b a (at m s t) e h in
     gains-join (λ y. same y (at m s t)) (λ y. same y (at (m + links) t s)) b a d g (gains-put a d (at (m + links) t s) f (rw (g .long) k))
 
--- where link m leads from s to t, and where it does not
-pub turn-joins : (M : Model) (m s t : ℕ) (b a : List ℕ) → M .link m s t ≡ true → Gains (joins m s t) b a → Gains (linkJoins M m s t) b a
-unfolding linkJoins
-turn-joins M m s t b a e g = gains-map (joins m s t) _ b a (λ y. rw e) g
+-- a weight put in: that of bit x, or 0
+pub weighed : (put : Bool) (b : List ℕ) (x w : ℕ) → w ≡ cond put (2 ^ (x % 8)) 0 → x / 8 < length b
+    → Gains (λ y. put && same y x) b (set b (x / 8) (bitOr (getD b (x / 8) 0) w))
+unfolding inserted has
+weighed true b x w e h = gains-put b _ x (rw e) h
+weighed false b x w e h = record {
+  long = length-set b (x / 8) _;
+  holds = λ y. either
+      (equal? (y / 8) (x / 8))
+      (λ q. rw (e, or-zero-r (getD b (x / 8) 0), q, getD-set-same b (x / 8) (getD b (x / 8) 0) 0 h) (sym (or-false (bit (getD b (x / 8) 0) (y % 8)))))
+      (λ n. rw (getD-set-other b (x / 8) (y / 8) (bitOr (getD b (x / 8) 0) w) 0 n) (sym (or-false (bit (getD b (y / 8) 0) (y % 8)))));
+}
 
-pub turn-skips : (M : Model) (m s t : ℕ) (b : List ℕ) → M .link m s t ≡ false → Gains (linkJoins M m s t) b b
-unfolding linkJoins
-turn-skips M m s t b e = gains-none _ b (λ y. rw e)
+-- some number passes one of two tests
+any-or : (n : ℕ) (f g h : ℕ → Bool) → (any n (λ k. f k && g k) || any n (λ k. f k && h k)) ≡ any n (λ k. f k && (g k || h k))
+unfolding any
+any-or zero f g h = refl
+any-or (suc n) f g h = rw (← (any-or n f g h)) (mixed (f n) (g n) (h n) (any n (λ k. f k && g k)) (any n (λ k. f k && h k)))
+  where
+    mixed : (a b c p q : Bool) → (((a && b) || p) || ((a && c) || q)) ≡ ((a && (b || c)) || (p || q))
+    mixed false b c p q = refl
+    mixed true true c p q = refl
+    mixed true false true true q = refl
+    mixed true false true false q = refl
+    mixed true false false p q = refl
+
+-- both halves put in
+pub eight-joined : (M : Model) (m s i : ℕ) (b a d : List ℕ) → Gains (alongJoins M m s i) b a → Gains (backJoins M m s i) a d → Gains (eightJoins M m s i) b d
+unfolding alongJoins backJoins eightJoins linkJoins joins
+eight-joined M m s i b a d g h =
+    gains-map _ _ b d (λ y.
+    any-or 8 (λ j. M .link m s (8 * i + j)) (λ j. same y (at m s (8 * i + j))) (λ j. same y (at (m + links) (8 * i + j) s)))
+    (gains-join (alongJoins M m s i) (backJoins M m s i) b a d g h)
 
 module _ (S : List ℕ) (m s : ℕ) (hs : s < setSlots) where
   -- a byte of the row that is 0
@@ -49,13 +76,9 @@ module _ (S : List ℕ) (m s : ℕ) (hs : s < setSlots) where
 
   -- a functional link leads to its target v, or nowhere
   module _ (f : generalLinks ≤ m) (l : m < links) (v : ℕ) (e : v ≡ getD S (targetAt m s) 0) where
-    link-at : (t : ℕ) → t < setSlots → siteOf S .link m s t ≡ (same v t && not (same t 0))
-    unfolding slots
-    link-at t h = rw e (target-is S m s t f l hs h)
-
     pub target-none : (b : List ℕ) → v ≡ 0 → Gains (targetJoins (siteOf S) m s) b b
     unfolding targetJoins linkJoins
-    target-none b z = gains-none _ b (λ y. none-any setSlots _ (λ t h. rw (link-at t h, z) (never t y)))
+    target-none b z = gains-none _ b (λ y. none-any setSlots _ (λ t h. rw (target-read S m s f l hs v e t h, z) (never t y)))
       where
         never : (t y : ℕ) → ((same 0 t && not (same t 0)) && joins m s t y) ≡ false
         never t y = either (equal? t 0) (λ q. rw (q, same-refl 0)) (λ n. rw (ne-same (λ q. n (sym q))))
@@ -63,10 +86,10 @@ module _ (S : List ℕ) (m s : ℕ) (hs : s < setSlots) where
     pub target-joins : (b a : List ℕ) → v < setSlots → v ≢ 0 → Gains (joins m s v) b a → Gains (targetJoins (siteOf S) m s) b a
     unfolding targetJoins linkJoins
     target-joins b a h n g = gains-map (joins m s v) _ b a (λ y. both
-        (λ q. any-in setSlots _ v h (and-in (link-at v h ∙ rw (same-refl v, ne-same n)) q))
+        (λ q. any-in setSlots _ v h (and-in (target-read S m s f l hs v e v h ∙ rw (same-refl v, ne-same n)) q))
         (λ q.
         let r = any-out setSlots _ q in
-        let i : (same v (r .0) && not (same (r .0) 0)) ≡ true = sym (link-at (r .0) (r .1)) ∙ and-l _ _ (r .2) in
+        let i : (same v (r .0) && not (same (r .0) 0)) ≡ true = sym (target-read S m s f l hs v e (r .0) (r .1)) ∙ and-l _ _ (r .2) in
         let j : v ≡ r .0 = same-eq (and-l _ _ i) in
         rw j (and-r (siteOf S .link m s (r .0)) _ (r .2)))) g
 

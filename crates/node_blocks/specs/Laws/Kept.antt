@@ -1,7 +1,7 @@
 -- Edits that leave a leaf as it is, by the numbers of their variants, as the last arm of a match knows them; and the link of a CN2.
 use mathlib.Core.Path.{_≡_, refl}
 use mathlib.Core.List.{[], _∷_}
-use mathlib.Core.Bool.{true, not}
+use mathlib.Core.Bool.{true}
 use Prim.Native.Nat.{ℕ, _<_}
 use types.Run.{OneOf, miss}
 use denote.Enum.Declared.{tagOf}
@@ -9,11 +9,8 @@ use Rattle.sheet.proofs.Op.{the-type}
 use Rattle.sheet.specs.declared.Op.{Op}
 use Rattle.sheet.specs.declared.Op.the-variants.{Cn1, Cn2, Ap, Dp, At, Dt1, Dt2, As, Ds}
 use Rattle.sheet.specs.Bytes.{editOf}
-use Rattle.finite.specs.Tests.{below}
-use Rattle.finite.specs.Laws.Bools.{and-r}
-use Rattle.finite.specs.Laws.Below.{below-out}
-use Rattle.semantics.specs.Edit.{CN2, functional, legal}
-use Rattle.semantics.specs.Laws.Edits.{Legal, legal-out}
+use Rattle.semantics.specs.Edit.{CN2, legal}
+use Rattle.semantics.specs.Laws.Edits.{Legal, legal-out, functional-small}
 use Rattle.semantics.specs.Table.{kHere, kLabel, kName}
 use Rattle.semantics.specs.Block.{end, blockLeaf}
 
@@ -55,5 +52,5 @@ name-kept (Ds n) p h = absurd (miss (2 ∷ 3 ∷ 4 ∷ 5 ∷ 6 ∷ []) 8 tt h)
 
 -- the link of a legal CN2 has a reverse
 pub link-small : (n1 n2 f : ℕ) → legal (CN2 n1 n2 f) ≡ true → f < 8
-unfolding functional Legal
-link-small n1 n2 f l = below-out f 8 (and-r (not (below f 4)) _ (legal-out (CN2 n1 n2 f) l .2))
+unfolding Legal
+link-small n1 n2 f l = functional-small f (legal-out (CN2 n1 n2 f) l .2)

@@ -1,16 +1,17 @@
 -- The eight slots of a byte of a row: what they put into the signatures, slot by slot, and all at once where their classes allow it.
 use mathlib.Core.Path.{_≡_, sym, _∙_, ap, ap₂, subst}
-use mathlib.Core.Logic.{_≢_}
-use mathlib.Core.Bool.{Bool, true, false, not, _&&_, _||_, or-false}
+use mathlib.Core.Logic.{_⊎_, inl, inr, _≢_}
+use mathlib.Core.Bool.{Bool, true, false, not, _&&_, _||_, or-false, Bool·not-not}
 use mathlib.Core.List.{List}
 use Prim.Native.Nat.{ℕ, _+_, _-_, _*_, _/_, _%_, _<_}
 use native.Mathlib.Omega.{arith}
-use lib.Bits.{bitAnd, bitOr, and-lt}
+use native.Mathlib.Numerals.{add-one}
+use lib.Bits.{bitAnd, bitOr, and-lt, or-add-and, and-le-l, and-le-r}
 use lib.ListN.{length, getD, set, replicate, length-set}
 use lib.Seq.{getD-set-same, getD-set-other}
 use borrow.Author.Tests.{ne-eqb}
-use Rattle.finite.specs.Tests.{bit, same, any}
-use Rattle.finite.specs.Laws.Bools.{either, look, clash, no-true, and-in, and-l, and-r, or-l, or-r, or-out, not-out, not-not, both}
+use Rattle.finite.specs.Tests.{bit, same, any, all}
+use Rattle.finite.specs.Laws.Bools.{either, look, clash, no-true, and-in, and-l, and-r, or-l, or-r, or-out, not-out, both}
 use Rattle.finite.specs.Laws.Below.{equal?, same-eq, same-refl, eq-same, any-in, any-out, all-out, all-fails, none-any}
 use Rattle.finite.specs.Laws.Bits.{bit-or, bit-and, bit-not}
 use Rattle.finite.specs.Laws.Weights.{bit-zero}
@@ -18,8 +19,11 @@ use Rattle.bitset.specs.Set.{setBytes, setSlots, has, Is, inserted}
 use Rattle.bitset.specs.Laws.Bytes.{has-byte}
 use Rattle.bitset.specs.Laws.Test.{zero-bits}
 use Rattle.partition.specs.Gains.{Gains}
-use Rattle.partition.specs.Rows.{inRow, turn, eight, owns, othersIn}
+use Rattle.partition.specs.Rows.{inRow, turn, eight, part, owns, othersIn, ownEight, noOther, partOthersIn, ownPart, noOthers, OthersIn}
 use Rattle.partition.specs.Laws.Gains.{gains-none, gains-put, gains-map, gains-join, gains-skip-if, gains-put-if, gains-zeros}
+
+pub or-zero : (a b : ℕ) → bitOr a b ≡ 0 → (a ≡ 0) × (b ≡ 0)
+or-zero a b e = (omega (arith, or-add-and a b, and-le-l a b, and-le-r a b), omega (arith, or-add-and a b, and-le-l a b, and-le-r a b))
 
 -- slot 8 * i + j of row s is bit j of its byte i
 row-bit : (R : List ℕ) (s i j : ℕ) → j < 8 → inRow R s (8 * i + j) ≡ bit (getD R (32 * s + i) 0) j
@@ -30,11 +34,7 @@ row-bit R s i j h = ap₂ (λ (x y : ℕ). bit (getD R x 0) y) (omega arith) (om
 some-bit : (v : ℕ) → v < 256 → v ≢ 0 → (j : ℕ) × (j < 8) × (bit v j ≡ true)
 some-bit v h n =
     let a = all-fails 8 (λ k. not (bit v k)) (sym (zero-bits v h) ∙ ne-eqb v 0 n) in
-    (a .0, a .1, sym (not-not (bit v (a .0))) ∙ ap not (a .2))
-
--- what those of the eight slots put in that are in O
-unfoldable pub ownEight : List ℕ → List ℕ → List ℕ → ℕ → ℕ → ℕ → Bool
-ownEight R p O s i y = any 8 (λ j. has O (8 * i + j) && turn R p s (8 * i + j) y)
+    (a .0, a .1, sym (Bool·not-not (bit v (a .0))) ∙ ap not (a .2))
 
 module _ (R p : List ℕ) (s : ℕ) where
   -- slot t puts in its class, or nothing
@@ -122,48 +122,98 @@ module _ (R p : List ℕ) (s : ℕ) where
             bit-and (getD R (32 * s + i) 0) (255 - getD O i 0) j
             ∙ ap₂ _&&_ (sym (row-bit R s i j l)) (bit-not 8 (getD O i 0) j w l ∙ ap not (sym (own-bit j l)))
 
-        -- there is none
-        pub own-only : (b a : List ℕ) → bitAnd (getD R (32 * s + i) 0) (255 - getD O i 0) ≡ 0 → Gains (ownEight R p O s i) b a → Gains (eight R p s i) b a
-        own-only b a z = gains-map _ _ b a (λ y. both (own-eight y) (λ q.
-            let e = eight-out y q in
-            let n : (inRow R s (8 * i + e .0) && not (has O (8 * i + e .0))) ≡ false = sym (other-bit (e .0) (e .1)) ∙ rw z (bit-zero (e .0)) in
-            let g : has O (8 * i + e .0) ≡ true = either (look (has O (8 * i + e .0))) (λ x. x) (λ x. clash (and-in (e .2) (ap not x)) n) in
-            own-in y (e .0) (e .1) g (e .2) (e .3 ∙ ap (λ (x : ℕ). setSlots * s + x) (own-number (e .0) (e .1) g))))
-
-        -- there are some, all in class c
-        pub own-one : (b a d : List ℕ) (c : ℕ) → bitAnd (getD R (32 * s + i) 0) (255 - getD O i 0) ≢ 0 → othersIn p O i c ≡ true
-            → Gains (ownEight R p O s i) b a → d ≡ inserted a (setSlots * s + c) → (setSlots * s + c) / 8 < length a → Gains (eight R p s i) b d
+        -- there are some, all in class c: then c is put in, and nothing else
+        other-class : (c : ℕ) → othersIn p O i c ≡ true → (j : ℕ) → j < 8 → has O (8 * i + j) ≡ false → getD p (8 * i + j) 0 ≡ c
         unfolding othersIn
-        own-one b a d c n f g e l =
-            gains-map _ _ b d (λ y. both (into y) (out y)) (gains-join (ownEight R p O s i) (λ y. same y (setSlots * s + c)) b a d g (gains-put a d (setSlots * s + c) e l))
-          where
-            other : (j : ℕ) → j < 8 → has O (8 * i + j) ≡ false → getD p (8 * i + j) 0 ≡ c
-            other j l x = either (or-out _ _ (all-out 8 _ f j l)) (λ q. clash q x) same-eq
+        other-class c f j l x = either (or-out _ _ (all-out 8 _ f j l)) (λ q. clash q x) same-eq
 
-            into : (y : ℕ) → (ownEight R p O s i y || same y (setSlots * s + c)) ≡ true → eight R p s i y ≡ true
-            into y q =
-                either
-                (or-out _ _ q)
-                (own-eight y)
-                (λ q.
-                let k = some-bit (bitAnd (getD R (32 * s + i) 0) (255 - getD O i 0)) (and-lt 8 _ _ v (omega arith)) n in
-                let m = sym (other-bit (k .0) (k .1)) ∙ k .2 in
-                let x : has O (8 * i + k .0) ≡ false = no-true (not-out _ (and-r (inRow R s (8 * i + k .0)) _ m)) in
-                eight-in y (k .0) (k .1) (and-l _ _ m) (same-eq q ∙ ap (λ (x : ℕ). setSlots * s + x) (sym (other (k .0) (k .1) x))))
+        others-put : (c y : ℕ) → othersIn p O i c ≡ true → noOther R O s i ≡ false → y ≡ setSlots * s + c → eight R p s i y ≡ true
+        unfolding noOther
+        others-put c y f n q =
+            let k = some-bit (bitAnd (getD R (32 * s + i) 0) (255 - getD O i 0)) (and-lt 8 _ _ v (omega arith)) (λ z. clash (eq-same z) n) in
+            let m = sym (other-bit (k .0) (k .1)) ∙ k .2 in
+            let x : has O (8 * i + k .0) ≡ false = no-true (not-out _ (and-r (inRow R s (8 * i + k .0)) _ m)) in
+            eight-in y (k .0) (k .1) (and-l _ _ m) (q ∙ ap (λ (x : ℕ). setSlots * s + x) (sym (other-class c f (k .0) (k .1) x)))
 
-            out : (y : ℕ) → eight R p s i y ≡ true → (ownEight R p O s i y || same y (setSlots * s + c)) ≡ true
-            out y q =
-                let k = eight-out y q in
-                either
-                (look (has O (8 * i + k .0)))
-                (λ x. or-l _ _ (own-in y (k .0) (k .1) x (k .2) (k .3 ∙ ap (λ (z : ℕ). setSlots * s + z) (own-number (k .0) (k .1) x))))
-                (λ x. or-r (ownEight R p O s i y) _ (eq-same (k .3 ∙ ap (λ (z : ℕ). setSlots * s + z) (other (k .0) (k .1) x))))
+        own-or-other : (c y : ℕ) → othersIn p O i c ≡ true → eight R p s i y ≡ true → (ownEight R p O s i y ≡ true) ⊎ (y ≡ setSlots * s + c)
+        own-or-other c y f q =
+            let k = eight-out y q in
+            either
+            (look (has O (8 * i + k .0)))
+            (λ x. inl (own-in y (k .0) (k .1) x (k .2) (k .3 ∙ ap (λ (z : ℕ). setSlots * s + z) (own-number (k .0) (k .1) x))))
+            (λ x. inr (k .3 ∙ ap (λ (z : ℕ). setSlots * s + z) (other-class c f (k .0) (k .1) x)))
+
+        own-if-none : noOther R O s i ≡ true → (y : ℕ) → eight R p s i y ≡ true → ownEight R p O s i y ≡ true
+        unfolding noOther
+        own-if-none z y q =
+            let e = eight-out y q in
+            let n : (inRow R s (8 * i + e .0) && not (has O (8 * i + e .0))) ≡ false = sym (other-bit (e .0) (e .1)) ∙ rw (same-eq z) (bit-zero (e .0)) in
+            let g : has O (8 * i + e .0) ≡ true = either (look (has O (8 * i + e .0))) (λ x. x) (λ x. clash (and-in (e .2) (ap not x)) n) in
+            own-in y (e .0) (e .1) g (e .2) (e .3 ∙ ap (λ (x : ℕ). setSlots * s + x) (own-number (e .0) (e .1) g))
+
+        pub own-only : (b a : List ℕ) → noOther R O s i ≡ true → Gains (ownEight R p O s i) b a → Gains (eight R p s i) b a
+        own-only b a z = gains-map _ _ b a (λ y. both (own-eight y) (own-if-none z y))
 
         -- all eight are put in after those of O
         pub own-all : (b a d : List ℕ) → Gains (ownEight R p O s i) b a → Gains (eight R p s i) a d → Gains (eight R p s i) b d
         own-all b a d g k = gains-map _ _ b d (λ y. both
             (λ q. either (or-out _ _ q) (own-eight y) (λ x. x))
             (λ q. or-r (ownEight R p O s i y) _ q)) (gains-join (ownEight R p O s i) (eight R p s i) b a d g k)
+
+-- the same for eight bytes
+module _ (R p : List ℕ) (s g : ℕ) (O : List ℕ) (o : Is O (owns p)) (h : g < 4) (v : (k : ℕ) → getD R k 0 < 256) (w : (k : ℕ) → getD O k 0 < 256) where
+  own-part : (y : ℕ) → ownPart R p O s g y ≡ true → part R p s g y ≡ true
+  unfolding ownPart part
+  own-part y q =
+      let k = any-out 8 _ q in
+      any-in 8 _ (k .0) (k .1) (own-eight R p s (8 * g + k .0) O o (omega (arith, k .1)) y (k .2))
+
+  pub part-own : (b a : List ℕ) → noOthers R O s g ≡ true → Gains (ownPart R p O s g) b a → Gains (part R p s g) b a
+  unfolding ownPart part noOthers
+  part-own b a z = gains-map _ _ b a (λ y. both (own-part y) (λ q.
+      let k = any-out 8 _ q in
+      any-in 8 _ (k .0) (k .1) (own-if-none R p s (8 * g + k .0) O o (omega (arith, k .1)) (v _) (w _) (all-out 8 _ z (k .0) (k .1)) y (k .2))))
+
+  pub part-one : (b a d : List ℕ) (c : ℕ) → noOthers R O s g ≡ false → partOthersIn p O g c ≡ true
+      → Gains (ownPart R p O s g) b a → d ≡ inserted a (setSlots * s + c) → (setSlots * s + c) / 8 < length a → Gains (part R p s g) b d
+  unfolding ownPart part noOthers partOthersIn
+  part-one b a d c n f t e l =
+      gains-map _ _ b d (λ y. both
+      (λ q. either
+      (or-out (ownPart R p O s g y) _ q)
+      (own-part y)
+      (λ x.
+      let k = all-fails 8 (λ k. noOther R O s (8 * g + k)) n in
+      any-in 8 _ (k .0) (k .1) (others-put R p s (8 * g + k .0) O o (omega (arith, k .1)) (v _) (w _) c y (all-out 8 _ f (k .0) (k .1)) (k .2) (same-eq x))))
+      (λ q.
+      let k = any-out 8 _ q in
+      either
+      (own-or-other R p s (8 * g + k .0) O o (omega (arith, k .1)) (v _) (w _) c y (all-out 8 _ f (k .0) (k .1)) (k .2))
+      (λ x. or-l _ _ (any-in 8 _ (k .0) (k .1) x))
+      (λ x. or-r (ownPart R p O s g y) _ (eq-same x))))
+      (gains-join (ownPart R p O s g) (λ y. same y (setSlots * s + c)) b a d t (gains-put a d (setSlots * s + c) e l))
+
+  pub part-all : (b a d : List ℕ) → Gains (ownPart R p O s g) b a → Gains (part R p s g) a d → Gains (part R p s g) b d
+  part-all b a d t k = gains-map _ _ b d (λ y. both
+      (λ q. either (or-out (ownPart R p O s g y) _ q) (own-part y) (λ x. x))
+      (λ q. or-r (ownPart R p O s g y) _ q)) (gains-join (ownPart R p O s g) (part R p s g) b a d t k)
+
+-- one more byte is looked at for others
+pub others-next : (f : ℕ → Bool) (k v w : ℕ) → same v 0 ≡ all k f → f k ≡ same w 0 → same (bitOr v w) 0 ≡ all (k + 1) f
+unfolding all
+others-next f k v w e h =
+    rw (add-one k, h, ← e)
+    (both
+    (λ q. let z = or-zero v w (same-eq q) in and-in (eq-same (z .1)) (eq-same (z .0)))
+    (λ q. eq-same (ap₂ bitOr (same-eq (and-r (same w 0) _ q)) (same-eq (and-l _ _ q)))))
+
+-- one more group is looked at
+pub others-more : (p O C : List ℕ) (i v : ℕ) → i < length C → OthersIn p O C i → (v < setSlots → partOthersIn p O i v ≡ true) → OthersIn p O (set C i v) (i + 1)
+others-more p O C i v l f h j k b =
+    either
+    (equal? j i)
+    (λ e. let w : getD (set C i v) j 0 ≡ v = rw e (getD-set-same C i v 0 l) in rw (w, e) (h (rw (← w) b)))
+    (λ n. let w : getD (set C i v) j 0 ≡ getD C j 0 = getD-set-other C i j v 0 n in rw w (f j (omega arith) (rw (← w) b)))
 
 -- the set of the slots with their own number
 pub own-set : (p : List ℕ) (n : ℕ) (O : List ℕ) → Gains (λ y. any setSlots (λ t. owns p t && same y t)) (replicate n 0) O → Is O (owns p)

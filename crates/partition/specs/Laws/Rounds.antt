@@ -8,7 +8,7 @@ use native.Mathlib.Numerals.{add-one}
 use native.Mathlib.Omega.{arith}
 use lib.ListN.{getD, take, drop}
 use Rattle.finite.specs.Tests.{same, any, all}
-use Rattle.finite.specs.Laws.Bools.{and-in, and-l, and-r, both, beq-true}
+use Rattle.finite.specs.Laws.Bools.{and-in, and-l, and-r, both, beq-true, eq-beq}
 use Rattle.finite.specs.Laws.Below.{same-eq, same-refl, eq-same, any-in, any-out, all-in, all-out}
 use Rattle.finite.specs.Laws.Reflect.{some-iff, every-iff}
 use Rattle.bitset.specs.Set.{setSlots, has}
@@ -19,7 +19,7 @@ use Rattle.semantics.specs.Table.{wayOf}
 use Rattle.semantics.specs.Like.{IsClass}
 use Rattle.semantics.specs.Laws.Ways.{linkWays}
 use Rattle.semantics.specs.Laws.Classes.{class-is}
-use Rattle.semantics.specs.Laws.Refine.{Rel, covers, match, like, like-sym, eq-beq, Stable, stable}
+use Rattle.semantics.specs.Laws.Refine.{Rel, covers, match, like, like-sym, Stable, stable}
 use Rattle.site.specs.Layout.{rowsBytes}
 use Rattle.partition.specs.Rows.{inRow, sees, seeSame, Neighbours}
 use Rattle.partition.specs.Partition.{Parts, bySeen, Next}

@@ -7,19 +7,19 @@ use Prim.Native.Nat.{ℕ, _+_, _*_, _/_, _%_, _<_}
 use native.Mathlib.Omega.{arith}
 use lib.ListN.{length, getD, take, drop, replicate, length-drop, List·getD-eq-default}
 use lib.Seq.{getD-take, getD-drop, length-take-le}
-use lib.Bits.{bitOr, or-add-and, and-le-l, and-le-r}
+use lib.Bits.{bitOr}
 use Rattle.finite.specs.Tests.{same, below, any, first}
-use Rattle.finite.specs.Laws.Bools.{either, look, no-true, and-in, and-l, and-r, both, beq-true}
+use Rattle.finite.specs.Laws.Bools.{either, look, no-true, and-in, and-l, and-r, both, beq-true, eq-beq}
 use Rattle.finite.specs.Laws.Below.{same-eq, equal?, same-refl, eq-same, ne-same, any-in, any-out, all-in, all-out, all-cong, none-any, below-out, not-below}
 use Rattle.finite.specs.Laws.Weights.{bit-zero}
 use Rattle.bitset.specs.Set.{setBytes, setSlots, has}
 use Rattle.bitset.specs.Laws.Bytes.{same-slots}
 use Rattle.bitset.specs.Laws.Part.{has-part}
-use Rattle.semantics.specs.Laws.Refine.{eq-beq}
 use Rattle.partition.specs.Gains.{Gains}
 use Rattle.site.specs.Layout.{rowsBytes}
-use Rattle.partition.specs.Rows.{inRow, sameRow, sees, seeSame, Signed, turn, eight}
+use Rattle.partition.specs.Rows.{inRow, sameRow, sees, seeSame, Signed, turn, eight, part}
 use Rattle.partition.specs.Partition.{together, Partition, Parts, byRow, bySeen}
+use Rattle.partition.specs.Laws.Eight.{or-zero}
 use Rattle.partition.specs.Laws.Gains.{gains-zeros}
 use Rattle.partition.specs.Laws.Parts.{parts-of, parts-map}
 
@@ -107,26 +107,27 @@ module _ (q R : List ℕ) where
 
 -- what all turns put into zeros
 pub signed : (R p : List ℕ) (n : ℕ) (G : List ℕ) → ((k : ℕ) → getD p k 0 < 256)
-    → Gains (λ y. any 32 (λ i. any setSlots (λ s. eight R p s i y))) (replicate n 0) G → Signed R p G
-unfolding Signed sees eight turn
+    → Gains (λ y. any setSlots (λ s. any 4 (λ g. part R p s g y))) (replicate n 0) G → Signed R p G
+unfolding Signed sees part eight turn
 signed R p n G bp g s c h k = gains-zeros _ n G g (setSlots * s + c) ∙ both
     (λ e.
-    let a = any-out 32 _ e in
-    let b = any-out setSlots _ (a .2) in
-    let d = any-out 8 _ (b .2) in
-    let t : ℕ = 8 * a .0 + d .0 in
+    let b = any-out setSlots _ e in
+    let o = any-out 4 _ (b .2) in
+    let a = any-out 8 _ (o .2) in
+    let d = any-out 8 _ (a .2) in
+    let t : ℕ = 8 * (8 * o .0 + a .0) + d .0 in
     let y : setSlots * s + c ≡ setSlots * b .0 + getD p t 0 = same-eq (and-r (inRow R (b .0) t) _ (d .2)) in
     let z : b .0 ≡ s = omega (arith, bp t) in
-    any-in setSlots _ t (omega (arith, a .1, d .1)) (and-in (subst (λ (x : ℕ). inRow R x t ≡ true) z (and-l _ _ (d .2))) (eq-same (omega (arith, bp t)))))
+    any-in setSlots _ t (omega (arith, o .1, a .1, d .1)) (and-in (subst (λ (x : ℕ). inRow R x t ≡ true) z (and-l _ _ (d .2))) (eq-same (omega (arith, bp t)))))
     (λ e.
     let a = any-out setSlots _ e in
     let b : inRow R s (a .0) ≡ true = and-l _ _ (a .2) in
     let d : same (getD p (a .0) 0) c ≡ true = and-r (inRow R s (a .0)) _ (a .2) in
-    let t : a .0 ≡ 8 * (a .0 / 8) + a .0 % 8 = omega arith in
-    any-in 32 _ (a .0 / 8) (omega (arith, a .1)) (any-in setSlots _ s h (any-in 8 _ (a .0 % 8) (omega arith)
-    (rw (← t) (and-in b (eq-same (ap (λ (x : ℕ). setSlots * s + x) (sym (same-eq d)))))))))
+    let t : a .0 ≡ 8 * (8 * (a .0 / 64) + a .0 / 8 % 8) + a .0 % 8 = omega arith in
+    any-in setSlots _ s h (any-in 4 _ (a .0 / 64) (omega (arith, a .1)) (any-in 8 _ (a .0 / 8 % 8) (omega arith) (any-in 8 _ (a .0 % 8) (omega arith)
+    (rw (← t) (and-in b (eq-same (ap (λ (x : ℕ). setSlots * s + x) (sym (same-eq d))))))))))
 
--- what `by_way` answers, from the signatures and their split
+-- a partition split by the classes seen, from the signatures and their split
 pub signed-part : (R p G q r : List ℕ) → Signed R p G → Parts (byRow q G) r → Parts (bySeen q R p) r
 unfolding Signed byRow bySeen sameRow seeSame
 signed-part R p G q r g n = parts-map (byRow q G) (bySeen q R p) r (λ s t h k.
@@ -147,10 +148,7 @@ unseen-part R p q z n = record {
 }
 
 -- the loop that gathers all bytes: what it has is 0 where those below k are
-or-zero : (a b : ℕ) → bitOr a b ≡ 0 → (a ≡ 0) × (b ≡ 0)
-or-zero a b e = (omega (arith, or-add-and a b, and-le-l a b, and-le-r a b), omega (arith, or-add-and a b, and-le-l a b, and-le-r a b))
-
-pub empty-more : (R : List ℕ) (k v : ℕ) → (v ≡ 0 → (j : ℕ) → j < k → getD R j 0 ≡ 0) → bitOr v (getD R k 0) ≡ 0 → (j : ℕ) → j < k + 1 → getD R j 0 ≡ 0
-empty-more R k v f e j h =
-    let a = or-zero v (getD R k 0) e in
-    either (equal? j k) (λ q. rw q (a .1)) (λ n. f (a .0) j (omega arith))
+pub empty-more : (f : ℕ → ℕ) (k v : ℕ) → (v ≡ 0 → (j : ℕ) → j < k → f j ≡ 0) → bitOr v (f k) ≡ 0 → (j : ℕ) → j < k + 1 → f j ≡ 0
+empty-more f k v g e j h =
+    let a = or-zero v (f k) e in
+    either (equal? j k) (λ q. rw q (a .1)) (λ n. g (a .0) j (omega arith))

@@ -25,8 +25,7 @@ use Rattle.condition.specs.Refusal.{sizeFits, firstUnfit, firstUneven, conditio
 use Rattle.sheet.specs.Refusal.{faulty, sized, sheetVerdict}
 use Rattle.applying.specs.Stuck.{stuckAt}
 use Rattle.applying.specs.Refusal.{goesVerdict}
-use Rattle.rewriting.specs.Result.{tooLong}
-use Rattle.rewriting.specs.Refusal.{lengthVerdict}
+use Rattle.rewriting.specs.Refusal.{tooLong, lengthVerdict}
 use Rattle.refusals.specs.Refusal.{bufferVerdict}
 
 -- ---- item 1

@@ -9,11 +9,10 @@ use Rattle.condition.specs.Refusal.{conditionVerdict}
 use Rattle.sheet.specs.Bytes.{editsOf}
 use Rattle.sheet.specs.Refusal.{sheetVerdict}
 use Rattle.blocks.specs.Write.{tableBytes}
-use Rattle.rewriting.specs.Refusal.{lengthVerdict}
 use Rattle.verdict.specs.Verdict.{reasonOf}
-use Rattle.rewriting.specs.Result.{tooLong}
+use Rattle.rewriting.specs.Refusal.{tooLong}
 use Rattle.refusals.specs.Refusal.{bufferVerdict}
-use Rattle.refusals.specs.Laws.Items.{buffer-out, then-out, length-out, Numbered, numbered-then, numbered-buffer, numbered-condition, numbered-sheet, numbered-length}
+use Rattle.refusals.specs.Laws.Items.{Numbered, numbered-then, numbered-buffer, numbered-condition, numbered-sheet, numbered-length}
 use Rattle.rewrite_entry.specs.Refusal.{rewriteVerdict}
 
 pub record Rewritable (resultLen : ℕ) (table sheet : List ℕ) : Type 0 where
@@ -21,19 +20,6 @@ pub record Rewritable (resultLen : ℕ) (table sheet : List ℕ) : Type 0 where
   pub table-accepted : conditionVerdict table ≡ Accepted
   pub sheet-accepted : sheetVerdict sheet ≡ Accepted
   pub short : tooLong (editsOf sheet) (tableOf table) ≡ false
-
-pub rewrite-accepts : (resultLen : ℕ) (table sheet : List ℕ) → rewriteVerdict resultLen table sheet ≡ Accepted → Rewritable resultLen table sheet
-unfolding rewriteVerdict
-rewrite-accepts resultLen table sheet e =
-    let p = then-out (bufferVerdict resultLen tableBytes) _ e in
-    let q = then-out (conditionVerdict table) _ (p .1) in
-    let r = then-out (sheetVerdict sheet) (lengthVerdict (editsOf sheet) (tableOf table)) (q .1) in
-    record {
-      result-size = buffer-out resultLen tableBytes (p .0);
-      table-accepted = q .0;
-      sheet-accepted = r .0;
-      short = length-out (editsOf sheet) (tableOf table) (r .1);
-    }
 
 pub rewrite-reason : (resultLen : ℕ) (table sheet : List ℕ) → reasonOf (rewriteVerdict resultLen table sheet) ≡ 0
     → rewriteVerdict resultLen table sheet ≡ Accepted

@@ -20,7 +20,7 @@ use Rattle.sheet.specs.Bytes.{editsOf}
 use Rattle.sheet.specs.Refusal.{sheetVerdict}
 use Rattle.sheet.specs.Laws.Accepted.{accepted-sheet}
 use Rattle.blocks.specs.Write.{tableNodes}
-use Rattle.rewriting.specs.Result.{tooLong}
+use Rattle.rewriting.specs.Refusal.{tooLong}
 use Rattle.rewriting.specs.Laws.Grow.{too-long-end}
 
 -- the first n nodes of a buffer that starts with a table of n nodes

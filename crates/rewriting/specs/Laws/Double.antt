@@ -9,15 +9,12 @@ use native.Mathlib.Omega.{arith}
 use lib.ListN.{length, getD, replicate}
 use Rattle.finite.specs.Tests.{same}
 use Rattle.finite.specs.Laws.Bools.{either, look, clash}
-use Rattle.finite.specs.Laws.Below.{ne-same, below-in, below-not}
+use Rattle.finite.specs.Laws.Below.{ne-same}
 use Rattle.semantics.specs.Form.{Way, along, against, every}
 use Rattle.semantics.specs.Edit.{Edit, DT1}
 use Rattle.semantics.specs.Table.{kindNo, leaf, unary, binary, kindOf, wayOf, Node}
 use Rattle.semantics.specs.Block.{Block, old, end, on, join, root, emit, size, cut, keep, change, blockDia, blockBox, blockLeaf, block, rewrite, rewriteTable, rewriteSheet}
 use Rattle.condition.specs.Laws.Limits.{each-kind, kind-past}
-use Rattle.blocks.specs.Write.{tableNodes}
-use Rattle.rewriting.specs.Result.{tooLong}
-use Rattle.rewriting.specs.Laws.Grow.{too-long-end}
 
 -- ---- what the nodes of a table, and those that a block makes, count together, where a node counts by its kind and parameter
 
@@ -165,15 +162,3 @@ module _ (m a b : ℕ) where
       let s : 2 ^ suc k * total (cost m) xs ≡ 2 ^ k * total (cost m) xs + 2 ^ k * total (cost m) xs =
       ap (λ (n : ℕ). n * total (cost m) xs) (two-pow-succ k) ∙ add-mul (2 ^ k) (2 ^ k) (total (cost m) xs) in
       omega (arith, s, one-more (rewriteSheet (replicate k (DT1 m a b)) xs), cost-through k xs, nodes-through k xs)
-
-  -- 5 nodes with one diamond by the link: 2,045 nodes after eight edits; nine are too many
-  pub eight-fit : (xs : List Node) → length xs ≡ 5 → total (cost m) xs ≡ 8
-      → (length (rewriteSheet (replicate 8 (DT1 m a b)) xs) ≡ 2045) × (tooLong (replicate 8 (DT1 m a b)) xs ≡ false)
-  eight-fit xs l c =
-      let n : length (rewriteSheet (replicate 8 (DT1 m a b)) xs) ≡ 2045 = omega (arith, rw c at (nodes-through 8 xs)) in
-      (n, too-long-end (replicate 8 (DT1 m a b)) xs (omega arith) ∙ below-not tableNodes _ (omega arith))
-
-  pub nine-too-long : (xs : List Node) → length xs ≡ 5 → total (cost m) xs ≡ 8 → tooLong (replicate 9 (DT1 m a b)) xs ≡ true
-  nine-too-long xs l c =
-      let n : length (rewriteSheet (replicate 9 (DT1 m a b)) xs) ≡ 4093 = omega (arith, rw c at (nodes-through 9 xs)) in
-      too-long-end (replicate 9 (DT1 m a b)) xs (omega arith) ∙ below-in tableNodes _ (omega arith)

@@ -12,7 +12,7 @@ use Rattle.semantics.specs.Table.{Leaf, kTrue, kHere, kLabel, kName, kVar, kSlo
 use Rattle.semantics.specs.Block.{Change, keep, added, cut, cutFrom, cutTo, cutOff, change, Block, old, size, root, emit, blockDia, blockBox, blockLeaf, block, rewrite, rewriteTable, rewriteSheet}
 use Rattle.semantics.specs.Laws.Emit.{emit-length}
 use Rattle.blocks.specs.Write.{tableNodes}
-use Rattle.rewriting.specs.Result.{tooLong}
+use Rattle.rewriting.specs.Refusal.{tooLong}
 
 leaf-some : (e : Edit) (k : Leaf) (p : ℕ) → 1 ≤ size (blockLeaf e k p)
 unfolding blockLeaf size
@@ -86,11 +86,6 @@ rewrite-grows e images out (x ∷ xs) =
 pub table-grows : (e : Edit) (xs : List Node) → length xs ≤ length (rewriteTable e xs)
 unfolding rewriteTable
 table-grows e xs = omega (arith, rewrite-grows e [] [] xs)
-
-pub sheet-grows : (es : List Edit) (xs : List Node) → length xs ≤ length (rewriteSheet es xs)
-unfolding rewriteSheet
-sheet-grows [] xs = omega arith
-sheet-grows (e ∷ es) xs = omega (arith, sheet-grows es xs, table-grows e (rewriteSheet es xs))
 
 -- item 14 may be tested at the end
 pub too-long-end : (es : List Edit) (xs : List Node) → length xs ≤ tableNodes → tooLong es xs ≡ below tableNodes (length (rewriteSheet es xs))

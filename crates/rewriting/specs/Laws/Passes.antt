@@ -1,15 +1,16 @@
 -- The passes of a sheet's edits over a table, the last one first.
 use mathlib.Core.Path.{_≡_, refl, sym, _∙_, ap, ap₂, subst}
 use mathlib.Core.List.{List, [], _∷_, _++_}
-use mathlib.Core.Bool.{Bool, true, false, _||_}
+use mathlib.Core.Bool.{true, false}
 use Prim.Native.Nat.{ℕ, zero, suc, _*_, _-_, _/_, _≤_, _<_}
 use native.Mathlib.Omega.{arith}
 use native.Mathlib.Nat.{not-suc-le-zero}
 use lib.ListN.{length, getD, take, drop, replicate, drop-of-length-le}
 use lib.Seq.{length-take-le, take-at}
 use Rattle.finite.specs.Tests.{below, all}
-use Rattle.finite.specs.Laws.Bools.{either, look, clash, no-true, and-l, and-r, or-l}
+use Rattle.finite.specs.Laws.Bools.{either, look, clash, and-l, and-r, or-none}
 use Rattle.finite.specs.Laws.Below.{below-in, below-not}
+use Rattle.verdict.specs.declared.Verdict.the-variants.{Accepted, Refused}
 use Rattle.semantics.specs.Edit.{Edit, DS, legal, sheetLegal}
 use Rattle.semantics.specs.Table.{Node}
 use Rattle.semantics.specs.Block.{rewriteTable, rewriteSheet}
@@ -18,10 +19,10 @@ use Rattle.condition.specs.Laws.Bytes.{length-nodes}
 use Rattle.sheet.specs.Bytes.{editAt, editsOf}
 use Rattle.sheet.specs.Laws.Read.{edits-length, edits-at, edits-drop}
 use Rattle.blocks.specs.Write.{tableNodes, tableBytes, Written}
+use Rattle.rewriting.specs.Refusal.{tooLong, lengthVerdict}
+use Rattle.rewriting.specs.Rewriting.{rewritten, TableAfter, Rewrote}
 use Rattle.rewriting.specs.State.{Passed}
-use Rattle.rewriting.specs.Result.{tooLong, answer, resultBytes}
 use Rattle.rewriting.specs.Laws.Buffers.{read-table, take-table, copied}
-use Rattle.rewriting.specs.declared.Rewritten.the-variants.{Table, TooLong}
 
 -- each edit of a legal sheet is legal
 legal-in : (es : List Edit) (j : ℕ) → sheetLegal es ≡ true → j < length es → legal (getD es j (DS 0)) ≡ true
@@ -35,15 +36,12 @@ legal-at s j q h l =
     rw (q, ← edits-at s j (DS 0) h) (legal-in (editsOf s) j l (omega (arith, edits-length s)))
 
 -- what is not too long at the end is so after no edit
-short-left : (a b : Bool) → (a || b) ≡ false → a ≡ false
-short-left a b p = no-true (λ q. clash (or-l a b q) p)
-
 short-drop : (es : List Edit) (xs : List Node) (k : ℕ) → tooLong es xs ≡ false → tooLong (drop k es) xs ≡ false
 unfolding tooLong
 short-drop [] xs zero h = h
 short-drop [] xs (suc k) h = h
 short-drop (e ∷ es) xs zero h = h
-short-drop (e ∷ es) xs (suc k) h = short-drop es xs k (short-left (tooLong es xs) _ h)
+short-drop (e ∷ es) xs (suc k) h = short-drop es xs k (or-none (tooLong es xs) _ h .0)
 
 -- the edits from k on are done
 pub record Passing (sheet : List ℕ) (xs : List Node) (o : List ℕ) (count k : ℕ) : Type 0 where
@@ -117,29 +115,29 @@ passing-done {sheet} {xs} {o} e P =
 
 -- ---- the answer
 
-module _ (es : List Edit) (xs : List Node) (o o′ : List ℕ) (r : ℕ) (P : Passed es xs o r) where
+module _ {es : List Edit} {xs : List Node} {o : List ℕ} {r : ℕ} (P : Passed es xs o r) where
   is-long : tableNodes < r → tooLong es xs ≡ true
   is-long h = either (look (tooLong es xs)) (λ t. t) (λ f. let g = P .right f .1 in absurd (omega arith))
 
   is-short : r ≤ tableNodes → tooLong es xs ≡ false
   is-short h = either (look (tooLong es xs)) (λ t. let g = P .long t in absurd (omega arith)) (λ f. f)
 
-  pub too-long : tableNodes < r → length o ≡ tableBytes → o′ ≡ take 0 o ++ replicate (length o - 0) 0
-      → (TooLong ≡ answer es xs) × (o′ ≡ resultBytes es xs)
-  unfolding answer resultBytes
-  too-long h l e =
-      let t = is-long h in
-      let z : length o - 0 ≡ tableBytes = omega arith in
-      (rw t refl, rw t (e ∙ ap (λ (n : ℕ). replicate n 0) z))
+module _ (table sheet result o o′ : List ℕ) (r : ℕ) (P : Passed (editsOf sheet) (tableOf table) o r) where
+  pub too-long : tableNodes < r → length o ≡ length result → o′ ≡ replicate (length o) 0 → Rewrote table sheet result o′ (Refused 14 0) 0
+  unfolding lengthVerdict TableAfter
+  too-long h l e = record { verdict = rw (is-long P h); table-after = (refl, e ∙ ap (λ (n : ℕ). replicate n 0) l) }
 
   pub a-table : r ≤ tableNodes → length o ≡ tableBytes → o′ ≡ take (6 * r) o ++ replicate (length o - 6 * r) 0
-      → (Table r ≡ answer es xs) × (o′ ≡ resultBytes es xs)
-  unfolding answer resultBytes
+      → Rewrote table sheet result o′ Accepted r
+  unfolding lengthVerdict TableAfter
   a-table h l e =
-      let t = is-short h in
+      let t = is-short P h in
       let n = P .right t .0 in
       let b = P .right t .2 in
-      (rw t (ap Table n), rw t (e ∙ rw (l, n) (ap (λ (s : List ℕ). s ++ replicate (tableBytes - 6 * length (rewriteSheet es xs)) 0) b)))
+      record {
+        verdict = rw t;
+        table-after = (n, e ∙ rw (l, n) (ap (λ (s : List ℕ). s ++ replicate (tableBytes - 6 * length (rewritten table sheet)) 0) b));
+      }
 
 pub passed-copied : (es : List Edit) (t d o o₂ : List ℕ) (r : ℕ) → o ≡ take (length t) t ++ drop (length t) d
     → Passed es (nodes o (length t / 6)) o₂ r → Passed es (tableOf t) o₂ r

@@ -80,12 +80,12 @@ child-none s e images out i c h = record {
   out-stays = refl;
 }
 
-pub child-low : (s : List ℕ) (e : Edit) (images out images′ out′ : List ℕ) (n i c r : ℕ) → i ≡ n → c < i → Placed s e images out images′ out′ n c r → Child s e images out images′ out′ i c r
-child-low s e images out images′ out′ n i c r q h P = record {
+pub child-low : (s : List ℕ) (e : Edit) (images out images′ out′ : List ℕ) (i c r : ℕ) → c < i → Placed s e images out images′ out′ i c r → Child s e images out images′ out′ i c r
+child-low s e images out images′ out′ i c r h P = record {
   image = P .image ∙ sym (image-at e s i c h);
   small = P .small;
-  images-stay = P .stays (omega arith) .0;
-  out-stays = P .stays (omega arith) .1;
+  images-stay = P .stays h .0;
+  out-stays = P .stays h .1;
 }
 
 -- nothing changed, so what was ready is
@@ -93,18 +93,16 @@ pub ready-still : (s : List ℕ) (e : Edit) (images out images′ out′ : List 
 ready-still s e images out images′ out′ n next i c r R C =
     subst (λ (l : List ℕ). Ready s e l out′ n next) (sym (C .images-stay)) (subst (λ (l : List ℕ). Ready s e images l n next) (sym (C .out-stays)) R)
 
-pub placed-new : (s : List ℕ) (e : Edit) (images out images₁ out₁ images₂ out₂ : List ℕ) (n next i k p lf rt l q t u : ℕ) (out₃ : List ℕ) (after v : ℕ)
-    → Ready s e images out n next → i ≤ n → n ≤ i → i < tableNodes → 6 * i + 6 ≤ length s → k ≡ nodeAt s i .kind → p ≡ nodeAt s i .param
+pub placed-new : (s : List ℕ) (e : Edit) (images out images₁ out₁ images₂ out₂ : List ℕ) (next i k p lf rt l q t u : ℕ) (out₃ : List ℕ) (after v : ℕ)
+    → Ready s e images out i next → i < tableNodes → 6 * i + 6 ≤ length s → k ≡ nodeAt s i .kind → p ≡ nodeAt s i .param
     → lf ≡ nodeAt s i .left → l ≡ usedChild 5 12 k lf i → Child s e images out images₁ out₁ i l t
     → rt ≡ nodeAt s i .right → q ≡ usedChild 6 8 k rt i → Child s e images₁ out₁ images₂ out₂ i q u
     → Wrote out₂ next (block e (kindOf k) p (old t) (old u)) out₃ after → v ≡ after - 1
-    → Placed s e images out (set images₂ i v) out₃ n i (after - 1)
+    → Placed s e images out (set images₂ i v) out₃ i i (after - 1)
 unfolding blockIn
-placed-new s e images out images₁ out₁ images₂ out₂ n next i k p lf rt l q t u out₃ after v R a b c d ek ep elf el C ert eq D W ev =
-    let here : n ≡ i = omega arith in
+placed-new s e images out images₁ out₁ images₂ out₂ next i k p lf rt l q t u out₃ after v R c d ek ep elf el C ert eq D W ev =
     let R₂ : Ready s e images₂ out₂ i next =
-    subst (λ (m : ℕ). Ready s e images₂ out₂ m next) here
-    (ready-still s e images₁ out₁ images₂ out₂ n next i q u (ready-still s e images out images₁ out₁ n next i l t R C) D) in
+    ready-still s e images₁ out₁ images₂ out₂ i next i q u (ready-still s e images out images₁ out₁ i next i l t R C) D in
     let im : List ℕ = stateAt e s i .images in
     let et : t ≡ getD im (usedChild 5 12 k (nodeAt s i .left) i) 0 = C .image ∙ ap (λ (m : ℕ). getD im m 0) (el ∙ ap (λ (x : ℕ). usedChild 5 12 k x i) elf) in
     let eu : u ≡ getD im (usedChild 6 8 k (nodeAt s i .right) i) 0 = D .image ∙ ap (λ (m : ℕ). getD im m 0) (eq ∙ ap (λ (x : ℕ). usedChild 6 8 k x i) ert) in
@@ -120,6 +118,13 @@ placed-new s e images out images₁ out₁ images₂ out₂ n next i k p lf rt l
       stays = λ x. absurd (omega arith);
       more = λ _. rw (ev, next-one) (ready-more s e images₂ out₂ i next R₂ c d out₃ after w);
     }
+
+-- a node that is not placed, where those below it are, is the next one
+pub ready-here : (s : List ℕ) (e : Edit) (images out : List ℕ) (n next i : ℕ) → i ≤ n → n ≤ i → Ready s e images out n next → Ready s e images out i next
+ready-here s e images out n next i a b R = let here : n ≡ i = omega arith in subst (λ (m : ℕ). Ready s e images out m next) here R
+
+pub placed-here : (s : List ℕ) (e : Edit) (images out images′ out′ : List ℕ) (n i r : ℕ) → i ≤ n → n ≤ i → Placed s e images out images′ out′ i i r → Placed s e images out images′ out′ n i r
+placed-here s e images out images′ out′ n i r a b P = let here : i ≡ n = omega arith in subst (λ (m : ℕ). Placed s e images out images′ out′ m i r) here P
 
 pub rewritten : (s : List ℕ) (e : Edit) (images out : List ℕ) (n next : ℕ) → Ready s e images out n next → (next ≡ length (rewriteTable e (nodes s n))) × Written out (rewriteTable e (nodes s n)) × (next ≤ 22528)
 rewritten s e images out n next R =

@@ -22,13 +22,12 @@ use Rattle.sheet.specs.Refusal.{sheetVerdict}
 use Rattle.sheet.specs.Laws.Read.{edits-back}
 use Rattle.sheet.specs.Laws.Accepted.{sheet-accepted}
 use Rattle.blocks.specs.Write.{tableNodes}
-use Rattle.rewriting.specs.Result.{tooLong}
-use Rattle.rewriting.specs.Refusal.{lengthVerdict}
+use Rattle.rewriting.specs.Refusal.{tooLong, lengthVerdict}
 use Rattle.rewriting.specs.Laws.Grow.{too-long-end}
 use Rattle.rewriting.specs.Laws.Double.{total, meets, cost, nodes-through}
 use Rattle.refusals.specs.Laws.Items.{buffer-in}
 use Rattle.rewrite_entry.specs.Refusal.{rewriteVerdict}
-use Rattle.rewrite_entry.specs.Rewriting.{TableAfter}
+use Rattle.rewriting.specs.Rewriting.{TableAfter}
 use Rattle.desk.specs.Demands.{RewriteCall}
 use Rattle.sample_bytes.specs.Doubled.{cuts, Doubles}
 use Rattle.sample_bytes.specs.Refused.{NotRewritten}

@@ -32,7 +32,7 @@ use Rattle.sheet.specs.Laws.Accepted.{sheet-accepted}
 use Rattle.applying.specs.Stuck.{stuckAt}
 use Rattle.applying.specs.Refusal.{goesVerdict}
 use Rattle.blocks.specs.Write.{tableNodes}
-use Rattle.rewriting.specs.Result.{tooLong}
+use Rattle.rewriting.specs.Refusal.{tooLong}
 use Rattle.rewriting.specs.Laws.Grow.{too-long-end}
 use Rattle.sample_bytes.specs.Said.{siteIn, tableIn, sheetIn}
 use Rattle.sample_bytes.specs.Laws.Write as write

@@ -10,7 +10,7 @@ use Rattle.list_entry.specs.Listing.{SetAfter}
 use Rattle.apply_entry.specs.Refusal.{applyVerdict}
 use Rattle.apply_entry.specs.Applying.{SiteAfter}
 use Rattle.rewrite_entry.specs.Refusal.{rewriteVerdict}
-use Rattle.rewrite_entry.specs.Rewriting.{TableAfter}
+use Rattle.rewriting.specs.Rewriting.{TableAfter}
 use Rattle.desk.specs.Demands.{ApplyCall, RewriteCall, ListCall}
 use Rattle.sample_bytes.specs.Refused.{NotApplied, NotRewritten, NotListed}
 

@@ -29,7 +29,7 @@ use Rattle.refusals.specs.Laws.Items.{buffer-in}
 use Rattle.list_entry.specs.Refusal.{listVerdict}
 use Rattle.apply_entry.specs.Refusal.{applyVerdict}
 use Rattle.rewrite_entry.specs.Refusal.{rewriteVerdict}
-use Rattle.rewrite_entry.specs.Rewriting.{TableAfter}
+use Rattle.rewriting.specs.Rewriting.{TableAfter}
 use Rattle.rewrite_entry.specs.Laws.Refusal.{rewrite-reason}
 use Rattle.desk.specs.Demands.{Runnable, ApplyCall, RewriteCall, ListCall, rewrittenTable, Demand2}
 use Rattle.desk.specs.Laws.Demands.{demand-2}

@@ -1,4 +1,4 @@
--- Class numbers: each slot has one, and two slots have the same exactly if they are alike.
+-- Class numbers: the lowest slot that a stable round relates; and two slots have the same exactly if they are alike.
 use mathlib.Core.Path.{_≡_, subst}
 use mathlib.Core.Logic.{_↔_}
 use mathlib.Core.Bool.{true}
@@ -10,7 +10,7 @@ use Rattle.finite.specs.Laws.First.{first-in, first-low}
 use Rattle.semantics.specs.Form.{slots}
 use Rattle.semantics.specs.Holds.{Model}
 use Rattle.semantics.specs.Like.{Alike, IsClass}
-use Rattle.semantics.specs.Laws.Refine.{like, like-refl, like-sym, like-trans, Stable, stable, stable-alike, alike-like}
+use Rattle.semantics.specs.Laws.Refine.{like, like-refl, like-sym, like-trans, Stable, stable-alike, alike-like}
 
 module _ (M : Model) where
   -- the lowest slot that a round which told nothing apart relates to s
@@ -22,10 +22,6 @@ module _ (M : Model) where
         alike = stable-alike M k c s _ h (a .0) .1 (a .1);
         low = λ t l b. first-low slots (like k M s) t l (stable-alike M k c s t h l .0 b);
       }
-
-  -- each slot has a class number
-  pub class-of : (s : ℕ) → s < slots → (c : ℕ) × IsClass M s c
-  class-of s h = (first slots (like slots M s), class-is slots (stable M) s h)
 
   pub class-same : (s t c d : ℕ) → s < slots → t < slots → IsClass M s c → IsClass M t d → (c ≡ d) ↔ Alike M s t
   class-same s t c d h k p q =

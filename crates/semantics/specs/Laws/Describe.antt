@@ -1,4 +1,5 @@
--- A condition that describes a slot up to k rounds of refinement, as a block: slots that are not alike are told apart by its table.
+-- A condition that describes a slot up to k rounds of refinement (its characteristic formula), as a block: slots that are not alike are told
+-- apart by its table.
 use mathlib.Core.Path.{_≡_, refl, _∙_, ap, ap₂, subst, fun-ext}
 use mathlib.Core.Logic.{inl, _↔_}
 use mathlib.Core.List.{List, [], _∷_, _++_}

@@ -2,11 +2,11 @@
 use mathlib.Core.Path.{_≡_, refl, sym, _∙_, ap, subst}
 use mathlib.Core.Logic.{_⊎_, inl, inr, _≢_}
 use mathlib.Core.List.{List, [], _∷_}
-use mathlib.Core.Bool.{Bool, true, false, not, _&&_, _||_, cond}
+use mathlib.Core.Bool.{true, false, not, _&&_, _||_}
 use Prim.Native.Nat.{ℕ, zero, suc, _<_}
 use native.Mathlib.Omega.{arith}
 use Rattle.finite.specs.Tests.{same, below}
-use Rattle.finite.specs.Laws.Bools.{either, look, clash, and-in, and-l, and-r, or-l, or-r, or-out, not-in, not-out}
+use Rattle.finite.specs.Laws.Bools.{either, look, clash, and-in, and-l, and-r, or-l, or-r, or-out, not-in, not-out, cond-comes, cond-was}
 use Rattle.finite.specs.Laws.Below.{same-eq, eq-same, ne-same, equal?, below-out}
 use Rattle.semantics.specs.Form.{slots, names, links}
 use Rattle.semantics.specs.Holds.{Set, Model}
@@ -67,14 +67,10 @@ Goes (DT2 f n) M = Unit {0}
 Goes (AS n k) M = Unit {0}
 Goes (DS n) M = M .place n ≢ 0
 
--- what a test `cond (same l m) a b` passed says, where b or a part of a is the old test
-fewer : (c old x : Bool) → cond c (old && x) old ≡ true → old ≡ true
-fewer true old x p = and-l _ _ p
-fewer false old x p = p
-
-more : (c old x : Bool) → cond c (old || x) old ≡ true → (old ≡ true) ⊎ ((c ≡ true) × (x ≡ true))
-more true old x p = either (or-out _ _ p) (λ q. inl q) (λ q. inr (refl, q))
-more false old x p = inl p
+-- a functional link is a link
+pub functional-small : (f : ℕ) → functional f ≡ true → f < links
+unfolding functional
+functional-small f p = below-out f 8 (and-r (not (below f 4)) _ p)
 
 module _ (M : Model) (v : Valid M) where
   -- a functional link leads to the target that the search finds
@@ -167,19 +163,19 @@ module _ (M : Model) (v : Valid M) where
       renamed _ (rw (ne-same {m = 0} {n = n1} (λ q. l .0 (sym q))) (v .nil-named))
       (λ n. either (look (same n n1)) (λ e. rw e (target-present f (M .place n2))) (λ e. rw e (v .named n)))
   valid-after (AP n p) l g =
-      relabelled _ (λ q s h. either (more (same q p) _ _ h) (λ x. v .labelled q s x) (λ x. let e : s ≡ M .place n = same-eq (x .1) in rw e (v .named n)))
-  valid-after (DP n p) l g = relabelled _ (λ q s h. v .labelled q s (fewer (same q p) _ _ h))
+      relabelled _ (λ q s h. either (cond-comes _||_ or-out _ (same q p) _ h) (λ x. v .labelled q s x) (λ x. let e : s ≡ M .place n = same-eq (x .1) in rw e (v .named n)))
+  valid-after (DP n p) l g = relabelled _ (λ q s h. v .labelled q s (cond-was _ (same q p) _ h))
   valid-after (AT m n1 n2) l g =
       relinked _
-      (λ j s t h. either (more (same j m) _ _ h)
+      (λ j s t h. either (cond-comes _||_ or-out _ (same j m) _ h)
       (λ x. (v .from j s t x, v .to j s t x))
       (λ x.
       let a : s ≡ M .place n1 = same-eq (and-l _ _ (x .1)) in
       let b : t ≡ M .place n2 = new s t (x .1) in
       (rw a (v .named n1, g .0), rw b (v .named n2, g .1))))
-      (λ j s t u f h k. either (more (same j m) _ _ h)
-      (λ x. either (more (same j m) _ _ k) (λ y. v .one j s t u f x y) (λ y. old j s t f (y .0) (and-l _ _ (y .1)) x ∙ sym (new s u (y .1))))
-      (λ x. either (more (same j m) _ _ k)
+      (λ j s t u f h k. either (cond-comes _||_ or-out _ (same j m) _ h)
+      (λ x. either (cond-comes _||_ or-out _ (same j m) _ k) (λ y. v .one j s t u f x y) (λ y. old j s t f (y .0) (and-l _ _ (y .1)) x ∙ sym (new s u (y .1))))
+      (λ x. either (cond-comes _||_ or-out _ (same j m) _ k)
       (λ y. new s t (x .1) ∙ sym (old j s u f (x .0) (and-l _ _ (x .1)) y))
       (λ y. new s t (x .1) ∙ sym (new s u (y .1)))))
     where
@@ -191,8 +187,8 @@ module _ (M : Model) (v : Valid M) where
       old j s t f a b h =
           g .2 (subst (λ i. functional i ≡ true) (same-eq a) f) t
           (subst (λ z. M .link m z t ≡ true) (same-eq b) (subst (λ i. M .link i s t ≡ true) (same-eq a) h))
-  valid-after (DT1 m n1 n2) l g = fewer-links _ (λ j s t h. fewer (same j m) _ _ h)
-  valid-after (DT2 f n) l g = fewer-links _ (λ j s t h. fewer (same j f) _ _ h)
+  valid-after (DT1 m n1 n2) l g = fewer-links _ (λ j s t h. cond-was _ (same j m) _ h)
+  valid-after (DT2 f n) l g = fewer-links _ (λ j s t h. cond-was _ (same j f) _ h)
   valid-after (AS n j) l g = record {
     small = λ s h. either (or-out _ _ h) (λ x. v .small s x) (λ x. rw (same-eq x) (below-out j slots (l .1)));
     nil-present = or-l _ _ (v .nil-present);

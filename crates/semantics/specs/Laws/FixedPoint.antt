@@ -2,12 +2,12 @@
 -- slots, at its least fixed point; and from the full set at its greatest.
 use mathlib.Core.Path.{_≡_, refl, _∙_, ap, fun-ext}
 use mathlib.Core.Logic.{_⊎_, inl, inr}
-use mathlib.Core.Bool.{true, false, not, _||_}
+use mathlib.Core.Bool.{true, false, not, _||_, Bool·not-not}
 use Prim.Native.Nat.{ℕ, zero, suc, _≤_, _<_}
 use native.Mathlib.Omega.{arith}
 use Rattle.finite.specs.Tests.{all, count}
 use borrow.Author.Tests.{not-false}
-use Rattle.finite.specs.Laws.Bools.{either, look, clash, or-out, not-in, not-out, imp-fails, not-not}
+use Rattle.finite.specs.Laws.Bools.{either, look, clash, or-out, not-in, not-out, imp-fails}
 use Rattle.finite.specs.Laws.Below.{all-out, all-fails}
 use Rattle.finite.specs.Laws.Count.{count-more, count-full}
 use Rattle.semantics.specs.Form.{slots}
@@ -79,7 +79,7 @@ module _ (F : Set → Set) (grows : (S S′ : Set) → S ⊆ S′ → F S ⊆ F 
   co-iter : (k : ℕ) → co (iter k dual none) ≡ iter k F full
   unfolding iter none full dual co
   co-iter zero = refl
-  co-iter (suc k) = fun-ext (λ x. not-not _) ∙ ap F (co-iter k)
+  co-iter (suc k) = fun-ext (λ x. Bool·not-not _) ∙ ap F (co-iter k)
 
   pub settled-full : iter slots F full ⊆ F (iter slots F full)
   unfolding co iter

@@ -7,8 +7,8 @@ use Prim.Native.Nat.{ℕ, suc, _+_, _<_}
 use native.Mathlib.Omega.{arith}
 use lib.ListN.{length, getD}
 use Rattle.finite.specs.Tests.{same, below}
-use Rattle.finite.specs.Laws.Bools.{either, look, clash, and-in, and-l, and-r}
-use Rattle.finite.specs.Laws.Below.{same-eq, eq-same, ne-same, same-refl, below-in, below-out}
+use Rattle.finite.specs.Laws.Bools.{either, look, clash, and-in, and-l}
+use Rattle.finite.specs.Laws.Below.{same-eq, eq-same, ne-same, same-refl, below-in}
 use Rattle.finite.specs.Laws.Reflect.{same-iff, not-iff, and-iff, or-iff}
 use Rattle.semantics.specs.Form.{slots, names, variables, Way, along, against, every, Form, top, name, neg, or, and, dia, box, mu, nu, occ, even}
 use Rattle.semantics.specs.Holds.{Env, Model, step, Holds}
@@ -16,7 +16,7 @@ use Rattle.semantics.specs.Edit.{Edit, CN1, CN2, AP, DP, AT, DT1, DT2, A
 use Rattle.semantics.specs.Table.{Leaf, kTrue, kHere, kLabel, kName, kVar, kSlot, kNot, kDia, kBox, kMu, kNu, kOr, kAnd, Kind, leaf, unary, binary, wayOf, Node, atom, one, two, build, leafFits, unaryFits, kindFits}
 use Rattle.semantics.specs.Block.{Change, keep, added, cut, cutFrom, cutTo, cutOff, change, Block, old, end, on, join, size, root, blockDia, blockBox, blockLeaf, block}
 use Rattle.semantics.specs.Laws.Ways.{way-along, way-against, everywhere}
-use Rattle.semantics.specs.Laws.Edits.{find-ends, Legal, Goes, target-one}
+use Rattle.semantics.specs.Laws.Edits.{functional-small, find-ends, Legal, Goes, target-one}
 use Rattle.semantics.specs.Laws.Steps.{step-iff, dia-says, box-says}
 use Rattle.semantics.specs.Laws.Emit.{blockFits, fill, evenBlock}
 
@@ -246,10 +246,6 @@ module _ (M : Model) (v : Valid M) (ρ : Env) (s : ℕ) (k : s < slots) where
         λ p. inl (p, λ q. clash (eq-same (sym p ∙ q)) a),
         λ p. either p (λ q. q .0) (λ q. let r = q .1 .3 in clash (eq-same (sym (r .1) ∙ r .0)) a),
       ))
-
-functional-small : (f : ℕ) → functional f ≡ true → f < 8
-unfolding functional
-functional-small f p = below-out f 8 (and-r (not (below f 4)) _ p)
 
 nil-fits : below 0 names ≡ true
 unfolding below

@@ -2,11 +2,11 @@
 -- rounds as there are slots the relation is a likeness.
 use mathlib.Core.Path.{_≡_, refl, sym, _∙_, ap, subst}
 use mathlib.Core.Logic.{_⊎_, inl, inr, _↔_, Iff·rfl}
-use mathlib.Core.Bool.{Bool, true, false, not, _&&_, _||_, Bool·beq}
+use mathlib.Core.Bool.{Bool, true, not, _&&_, _||_, Bool·beq}
 use Prim.Native.Nat.{ℕ, zero, suc, _≤_, _<_}
 use native.Mathlib.Omega.{arith}
 use Rattle.finite.specs.Tests.{same, any, all, count}
-use Rattle.finite.specs.Laws.Bools.{either, look, and-in, and-l, and-r, not-in, not-out, both, beq-true}
+use Rattle.finite.specs.Laws.Bools.{either, look, and-in, and-l, and-r, not-in, not-out, both, beq-true, eq-beq}
 use Rattle.finite.specs.Laws.Below.{same-eq, eq-same, any-in, any-out, all-out, all-in}
 use Rattle.finite.specs.Laws.Reflect.{some-iff, every-iff}
 use Rattle.finite.specs.Laws.Count.{count-more, count-full}
@@ -36,13 +36,6 @@ agree M s t =
 unfoldable pub like : ℕ → Model → Rel
 like zero M s t = agree M s t
 like (suc k) M s t = like k M s t && all linkWays (λ p. match M (wayOf p) (like k M) s t)
-
-beq-refl : (a : Bool) → Bool·beq a a ≡ true
-beq-refl true = refl
-beq-refl false = refl
-
-pub eq-beq : {a b : Bool} → a ≡ b → Bool·beq a b ≡ true
-eq-beq {a} p = subst (λ x. Bool·beq a x ≡ true) p (beq-refl a)
 
 -- the tests, as statements
 abbrev Cover : Model → Way → Rel → ℕ → ℕ → Type 0

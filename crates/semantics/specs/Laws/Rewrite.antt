@@ -1,4 +1,4 @@
--- A table rewritten through a sheet is a table again, and says before the sheet what the table says after it.
+-- A table rewritten through a sheet is a table again, and says before the sheet what the table says after it: its weakest precondition.
 use mathlib.Core.Path.{_≡_, refl, sym, _∙_, ap, ap₂, subst}
 use mathlib.Core.Logic.{_↔_, Iff·rfl, Iff·trans}
 use mathlib.Core.List.{List, [], _∷_, _++_}

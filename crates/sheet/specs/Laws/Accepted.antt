@@ -1,6 +1,5 @@
 -- A sheet is accepted just where its bytes are those of at most 64 legal edits.
 use mathlib.Core.Path.{_≡_, refl, sym, ap, _∙_}
-use mathlib.Core.Logic.{_↔_}
 use mathlib.Core.List.{List, [], _∷_}
 use mathlib.Core.Bool.{true, false, not}
 use Prim.Native.Nat.{ℕ, zero, suc, _*_, _/_, _%_, _≤_, _<_}
@@ -99,13 +98,6 @@ sheet-accepted s es h =
     ap not g
     in
     verdict-in s (sized-in s (omega arith) (omega (arith, h .few))) (none-any (length s / 4) (faulty s) f)
-
--- the same as one statement, with the edits that the bytes are read as
-pub accepted-iff : (s : List ℕ) → (sheetVerdict s ≡ Accepted) ↔ Sheet s (editsOf s)
-accepted-iff s = (accepted-sheet s, sheet-accepted s (editsOf s))
-
-pub accepted-length : (s : List ℕ) → sheetVerdict s ≡ Accepted → length s ≡ 4 * length (editsOf s)
-accepted-length s p = ap length (accepted-sheet s p .bytes) ∙ bytes-length (editsOf s)
 
 pub accepted-at : (s : List ℕ) → sheetVerdict s ≡ Accepted → (k : ℕ) → k < length s / 4 → legal (editAt s k) ≡ true
 accepted-at s p k h = fits-legal _ _ _ _ (fits-each s (verdict-out s p .1) k h)

@@ -4,8 +4,8 @@ use mathlib.Core.List.{List, [], _∷_, _++_}
 use Prim.Native.Nat.{ℕ, zero, suc, _+_, _*_, _/_, _≤_, _<_}
 use native.Mathlib.Nat.{add-assoc}
 use native.Mathlib.Omega.{arith}
-use lib.ListN.{length, getD, take, drop, length-append, List·getD-eq-default}
-use lib.Seq.{take-suc, drop-cons, getD-drop}
+use lib.ListN.{length, getD, drop, length-append, List·getD-eq-default}
+use lib.Seq.{drop-cons, getD-drop}
 use Rattle.semantics.specs.Edit.{Edit, CN1, CN2, AP, DP, AT, DT1, DT2, AS, DS}
 use Rattle.sheet.specs.Bytes.{readEdit, fourAt, editAt, editsOf, editBytes, bytesOf}
 
@@ -39,16 +39,11 @@ edits-at (o ∷ x ∷ y ∷ []) k d h = absurd (omega arith)
 edits-at (o ∷ x ∷ y ∷ z ∷ s) zero d h = refl
 edits-at (o ∷ x ∷ y ∷ z ∷ s) (suc k) d h = edits-at s k d (omega arith) ∙ sym (four-next readEdit (o ∷ x ∷ y ∷ z ∷ s) k)
 
--- the edits from k on, and those up to k
+-- the edits from k on
 pub edits-drop : (s : List ℕ) (k : ℕ) → k < length s / 4 → drop k (editsOf s) ≡ editAt s k ∷ drop (suc k) (editsOf s)
 edits-drop s k h =
     let l : k < length (editsOf s) = omega (arith, edits-length s) in
     drop-cons (editsOf s) k (DS 0) l ∙ ap (λ e. e ∷ drop (suc k) (editsOf s)) (edits-at s k (DS 0) h)
-
-pub edits-take : (s : List ℕ) (k : ℕ) → k < length s / 4 → take (suc k) (editsOf s) ≡ take k (editsOf s) ++ (editAt s k ∷ [])
-edits-take s k h =
-    let l : k < length (editsOf s) = omega (arith, edits-length s) in
-    take-suc (editsOf s) k (DS 0) l ∙ ap (λ e. take k (editsOf s) ++ (e ∷ [])) (edits-at s k (DS 0) h)
 
 -- an edit's bytes read back as it
 pub read-back : (e : Edit) (s : List ℕ) → editsOf (editBytes e ++ s) ≡ e ∷ editsOf s

@@ -1,14 +1,14 @@
 -- The tests by sets say that items 4 to 6 are not met.
 use mathlib.Core.Path.{_≡_, refl, sym, _∙_, ap}
 use mathlib.Core.Logic.{_≢_}
-use mathlib.Core.Bool.{Bool, true, false, not, _&&_, _||_}
+use mathlib.Core.Bool.{Bool, true, false, not, _&&_, _||_, Bool·not-not}
 use mathlib.Core.List.{List}
 use Prim.Native.Nat.{ℕ, _+_, _*_, _≤_, _<_}
 use native.Mathlib.Nat.{zero-add}
 use native.Mathlib.Omega.{arith}
 use lib.ListN.{length, getD, take, drop, replicate}
 use Rattle.finite.specs.Tests.{same, all}
-use Rattle.finite.specs.Laws.Bools.{either, look, or-l, or-r, imp-and, not-not}
+use Rattle.finite.specs.Laws.Bools.{either, look, or-l, or-r, imp-and}
 use Rattle.finite.specs.Laws.Below.{equal?, same-refl, ne-same, all-cong, all-in}
 use Rattle.finite.specs.Laws.Loops.{all-not}
 use Rattle.finite.specs.Laws.Dual.{none-all}
@@ -38,7 +38,7 @@ pub names-present : (M : Model) → M .present 0 ≡ true → M .place 0 ≡ 0 �
 unfolding item4
 names-present M p e =
     rw (p, e, same-refl 0, none-all names (λ n. not (M .present (M .place n))))
-    (all-cong names (λ n. not (not (M .present (M .place n)))) (λ n. M .present (M .place n)) (λ n h. not-not (M .present (M .place n))))
+    (all-cong names (λ n. not (not (M .present (M .place n)))) (λ n. M .present (M .place n)) (λ n h. Bool·not-not (M .present (M .place n))))
 
 -- ---- item 5
 
@@ -106,7 +106,7 @@ target-all : (v : ℕ) (a : Bool) (e : ℕ → Bool) → v < slots
     → all slots (λ t. not (same v t && not (same t 0)) || (a && e t)) ≡ (same v 0 || (a && e v))
 target-all v a e h =
     all-single slots _ v h (λ t n. rw (ne-same (λ q. n (sym q))))
-    ∙ rw (same-refl v, not-not (same v 0))
+    ∙ rw (same-refl v, Bool·not-not (same v 0))
 
 -- a functional link by its targets
 pub link-targets : (S E : List ℕ) (f : ℕ) → generalLinks ≤ f → f < links → ((s : ℕ) → getD S (targetAt f s) 0 < slots)

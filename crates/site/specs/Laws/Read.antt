@@ -8,9 +8,10 @@ use lib.ListN.{getD}
 use Rattle.finite.specs.Tests.{same, below}
 use Rattle.finite.specs.Laws.Bools.{either, look, no-true, and-l, and-r, not-out}
 use Rattle.finite.specs.Laws.Below.{below-in, below-out, below-not, not-below}
-use Rattle.bitset.specs.Set.{has}
+use Rattle.bitset.specs.Set.{setSlots, has}
 use Rattle.semantics.specs.Form.{slots, labels, names, links}
 use Rattle.semantics.specs.Edit.{functional}
+use Rattle.semantics.specs.Laws.Edits.{functional-small}
 use Rattle.site.specs.Layout.{generalLinks, labelAt, nameAt, targetAt, rowAt}
 use Rattle.site.specs.Site.{linked, siteOf}
 
@@ -26,7 +27,7 @@ pub functional-out : (f : ℕ) → functional f ≡ true → (generalLinks ≤ f
 unfolding functional
 functional-out f p = (
   not-below f 4 (no-true (not-out (below f 4) (and-l (not (below f 4)) (below f links) p))),
-  below-out f links (and-r (not (below f 4)) (below f links) p),
+  functional-small f p,
 )
 
 module _ (S : List ℕ) where
@@ -58,6 +59,12 @@ module _ (S : List ℕ) where
       → siteOf S .link f s t ≡ (same (getD S (targetAt f s) 0) t && not (same t 0))
   unfolding linked
   target-is f s t hg hl hs ht = link-is f s t hs ht ∙ rw (below-not f generalLinks hg, functional-in f hg hl)
+
+  -- the same by the target v that was read
+  pub target-read : (f s : ℕ) → generalLinks ≤ f → f < links → s < setSlots → (v : ℕ) → v ≡ getD S (targetAt f s) 0
+      → (t : ℕ) → t < setSlots → siteOf S .link f s t ≡ (same v t && not (same t 0))
+  unfolding slots
+  target-read f s hg hl hs v e t ht = rw e (target-is f s t hg hl hs ht)
 
   -- what the model has is in range
   pub present-in : (s : ℕ) → siteOf S .present s ≡ true → s < slots

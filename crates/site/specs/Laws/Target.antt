@@ -1,19 +1,23 @@
 -- The target byte of a functional link is the model's target.
-use mathlib.Core.Path.{_≡_, refl, sym, _∙_, ap}
+use mathlib.Core.Path.{_≡_, sym, _∙_, ap}
 use mathlib.Core.Logic.{_⊎_, inl, inr, _≢_}
-use mathlib.Core.Bool.{Bool, true, false, not, _&&_}
+use mathlib.Core.Bool.{Bool, true, false, not, _&&_, and-false}
 use mathlib.Core.List.{List}
 use Prim.Native.Nat.{ℕ, zero, suc, _≤_, _<_}
 use native.Mathlib.Omega.{arith}
 use lib.ListN.{getD}
 use Rattle.finite.specs.Tests.{same}
 use Rattle.finite.specs.Laws.Bools.{either}
-use Rattle.finite.specs.Laws.Below.{equal?, eq-same, ne-same}
+use Rattle.finite.specs.Laws.Below.{equal?, same-refl, eq-same, ne-same}
 use Rattle.semantics.specs.Form.{slots, links}
 use Rattle.semantics.specs.Edit.{find, target}
 use Rattle.site.specs.Layout.{generalLinks, targetAt}
 use Rattle.site.specs.Site.{siteOf}
 use Rattle.site.specs.Laws.Read.{target-is}
+
+-- nothing is at nil
+pub nil-none : (t : ℕ) → (same 0 t && not (same t 0)) ≡ false
+nil-none t = either (equal? t 0) (λ q. rw (q, same-refl 0)) (λ n. rw (ne-same (λ q. n (sym q))))
 
 -- a set that has v alone, and nothing where v is 0
 find-one : (n v : ℕ) (P : ℕ → Bool) → ((t : ℕ) → t < n → P t ≡ (same v t && not (same t 0))) → (v < n) ⊎ (v ≡ 0) → find n P ≡ v
@@ -27,10 +31,6 @@ find-one (suc n) v P h i =
   where
     nil : n ≡ 0 → (same v n && not (same n 0)) ≡ false
     nil z = rw (eq-same z) (and-false (same v n))
-      where
-        and-false : (a : Bool) → (a && false) ≡ false
-        and-false true = refl
-        and-false false = refl
 
     hit : v ≡ n → n ≢ 0 → (same v n && not (same n 0)) ≡ true
     hit e z = rw (eq-same e, ne-same z)

@@ -29,7 +29,7 @@ loop-less : tie.Need-loop-less Inv-loop μ-loop
 loop-less c = omega arith
 
 loop-again : tie.Need-loop-again Inv-loop μ-loop
-loop-again c = (omega arith, empty-more (c .before .before .before .args .rows .now) (c .before .before .loop .k) (c .before .before .loop .found) (c .before .before .loop .inv .1))
+loop-again c = (omega arith, empty-more (λ j. getD (c .before .before .before .args .rows .now) j 0) (c .before .before .loop .k) (c .before .before .loop .found) (c .before .before .loop .inv .1))
 
 returns : tie.Need-returns Inv-loop μ-loop
 returns c = λ e k h. c .before .loop .inv .1 (eqb-true _ _ e) k (omega arith)

@@ -1,17 +1,16 @@
--- The pieces of a file: where they start, and that nothing is lost and nothing is there twice.
+-- The pieces of a file: where they start, and that with the trailer they are the whole file.
 use mathlib.Core.Path.{_≡_, sym, ap, _∙_}
 use mathlib.Core.Bool.{true, false}
 use mathlib.Core.List.{List, [], _++_}
 use Prim.Native.Nat.{ℕ, zero, suc, _+_, _-_, _≤_, _<_}
 use native.Mathlib.Omega.{arith}
-use lib.ListN.{length, take, drop, length-take, length-drop, take-append-drop}
+use lib.ListN.{length, take, drop, length-drop, take-append-drop}
 use lib.Seq.{drop-drop}
-use Rattle.finite.specs.Laws.Bools.{either, look}
-use Rattle.verdict.specs.declared.Verdict.the-variants.{Accepted, Refused}
-use Rattle.trailer.specs.File.{trailerBytes, fileLimit, trailerAt, distance, startOf}
+use Rattle.verdict.specs.declared.Verdict.the-variants.{Accepted}
+use Rattle.trailer.specs.File.{trailerBytes, trailerAt, distance, startOf}
 use Rattle.trailer.specs.Refusal.{item2, trailerVerdict}
 use Rattle.trailer.specs.Pieces.{pieceIn, siteIn, conditionIn, sheetIn}
-use Rattle.trailer.specs.Laws.Verdict.{Laid, laid, unrefused, accepted-laid, refused-2}
+use Rattle.trailer.specs.Laws.Verdict.{Laid, unrefused, accepted-laid}
 
 -- ---- where the pieces start
 
@@ -51,20 +50,6 @@ piece-is a e file p = rw p
 pub piece-at : (file : List ℕ) {a e a′ e′ : ℕ} → a ≡ a′ → e ≡ e′ → item2 file ≡ false → take (e - a) (drop a file) ≡ pieceIn a′ e′ file
 piece-at file p q u = rw (p, q) (sym (piece-is _ _ file u))
 
--- a refused file has empty pieces
-module _ (file : List ℕ) {n w : ℕ} (v : trailerVerdict file ≡ Refused n w) where
-  pub site-none : siteIn file ≡ []
-  unfolding siteIn
-  site-none = piece-none _ _ file (refused-2 file v .0)
-
-  pub condition-none : conditionIn file ≡ []
-  unfolding conditionIn
-  condition-none = piece-none _ _ file (refused-2 file v .0)
-
-  pub sheet-none : sheetIn file ≡ []
-  unfolding sheetIn
-  sheet-none = piece-none _ _ file (refused-2 file v .0)
-
 -- ---- the pieces and the trailer are the file
 
 piece-next : (a e : ℕ) (file : List ℕ) → Laid file → a ≤ e → pieceIn a e file ++ drop e file ≡ drop a file
@@ -77,37 +62,17 @@ piece-next a e file l h =
 abbrev pub trailerIn : List ℕ → List ℕ
 trailerIn file = drop (trailerAt file) file
 
-module _ (file : List ℕ) (v : trailerVerdict file ≡ Accepted) where
-  pub pieces-whole : siteIn file ++ (conditionIn file ++ (sheetIn file ++ trailerIn file)) ≡ file
-  unfolding siteIn conditionIn sheetIn
-  pieces-whole =
-      let l = accepted-laid file v in
+-- an accepted file is its three pieces, in order, and a trailer of 12 bytes
+pub pieces-whole : (file : List ℕ) → trailerVerdict file ≡ Accepted
+    → (siteIn file ++ (conditionIn file ++ (sheetIn file ++ trailerIn file)) ≡ file) × (length (trailerIn file) ≡ trailerBytes)
+unfolding siteIn conditionIn sheetIn
+pieces-whole file v =
+    let l = accepted-laid file v in (
       rw (
         piece-next (startOf 0 file) (trailerAt file) file l (start-in 0 file),
         piece-next (startOf 1 file) (startOf 0 file) file l (sheet-start file l),
         piece-next (startOf 2 file) (startOf 1 file) file l (condition-start file l),
         site-start file l,
-      )
-
-  pub trailer-length : length (trailerIn file) ≡ trailerBytes
-  trailer-length = simp length-drop (omega (arith, accepted-laid file v .enough))
-
--- ---- lengths
-
-piece-fits : (a e : ℕ) (file : List ℕ) → e ≤ trailerAt file → length (pieceIn a e file) ≤ fileLimit - trailerBytes
-piece-fits a e file h =
-    either (look (item2 file))
-    (λ p. rw (piece-none a e file p) (omega arith))
-    (λ p. rw (piece-is a e file p) (simp (length-take, length-drop) (omega (arith, laid file p .at-most))))
-
-pub site-fits : (file : List ℕ) → length (siteIn file) ≤ fileLimit - trailerBytes
-unfolding siteIn
-site-fits file = piece-fits _ _ file (start-in 1 file)
-
-pub condition-fits : (file : List ℕ) → length (conditionIn file) ≤ fileLimit - trailerBytes
-unfolding conditionIn
-condition-fits file = piece-fits _ _ file (start-in 0 file)
-
-pub sheet-fits : (file : List ℕ) → length (sheetIn file) ≤ fileLimit - trailerBytes
-unfolding sheetIn
-sheet-fits file = piece-fits (startOf 0 file) (trailerAt file) file (omega arith)
+      ),
+      simp length-drop (omega (arith, l .enough)),
+    )

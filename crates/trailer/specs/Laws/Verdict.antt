@@ -1,12 +1,12 @@
 -- What item 2 says of a file's length and distances, and what a verdict on it is.
-use mathlib.Core.Path.{_≡_, refl, sym, _∙_}
-use mathlib.Core.Bool.{Bool, true, false, not, _||_}
+use mathlib.Core.Path.{_≡_, sym, _∙_}
+use mathlib.Core.Bool.{true, false, not, _||_}
 use mathlib.Core.List.{List}
 use Prim.Native.Nat.{ℕ, _≤_, _<_}
 use lib.ListN.{length}
 use borrow.Author.Tests.{not-false}
 use Rattle.finite.specs.Tests.{same, below}
-use Rattle.finite.specs.Laws.Bools.{either, look, clash, or-none}
+use Rattle.finite.specs.Laws.Bools.{either, look, or-none}
 use Rattle.finite.specs.Laws.Below.{same-eq, eq-same, below-in, below-not, not-below}
 use Rattle.verdict.specs.declared.Verdict.the-variants.{Accepted, Refused}
 use Rattle.verdict.specs.Laws.{refused}
@@ -79,10 +79,3 @@ accepted-laid file v =
 
 pub laid-accepted : (file : List ℕ) → Laid file → trailerVerdict file ≡ Accepted
 laid-accepted file l = trailer-accepted file (unrefused file l)
-
--- a refusal has the number 2, and W is 0
-pub refused-2 : (file : List ℕ) {n w : ℕ} → trailerVerdict file ≡ Refused n w → (item2 file ≡ true) × (n ≡ 2) × (w ≡ 0)
-refused-2 file v =
-    either (look (item2 file))
-    (λ p. let e = sym v ∙ trailer-refused file p in (p, cc, cc))
-    (λ p. refused (sym v ∙ trailer-accepted file p))
