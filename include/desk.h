@@ -95,7 +95,7 @@ struct desk_applied desk_apply(const uint8_t *site, size_t site_len, const uint8
 struct desk_rewritten desk_rewrite(const uint8_t *cond, size_t cond_len, const uint8_t *sheet, size_t sheet_len,
                                    uint8_t *result, size_t result_len);
 
-/* Puts for each slot the lowest slot that some likeness relates to it into `classes` (DESK_CLASSES_BYTES). Items 1, 3 to 6. */
+/* Puts for each slot the lowest slot that some likeness (bisimulation) relates to it into `classes` (DESK_CLASSES_BYTES). Items 1, 3 to 6. */
 struct desk_classed desk_classes(const uint8_t *site, size_t site_len, uint8_t *classes, size_t classes_len);
 
 /* Runs a job file: the site after, the rewritten table, the condition's set on the site after, the table's set on the site of the file,

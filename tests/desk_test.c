@@ -680,25 +680,28 @@ static void try_job(const size_t *lengths)
 static const struct entry {
     const char *name;
     void (*try)(const size_t *lengths);
+    unsigned items; /* weight 2 to the power n: item n concerns it */
     int buffers;
     size_t lengths[6];
 } entries[5] = {
-    {"list", try_list, 2, {DESK_SET_BYTES, DESK_WORK_BYTES}},
-    {"apply", try_apply, 1, {DESK_SITE_BYTES}},
-    {"rewrite", try_rewrite, 1, {DESK_TABLE_BYTES}},
-    {"classes", try_classes, 1, {DESK_CLASSES_BYTES}},
-    {"job", try_job, 6, {DESK_SITE_BYTES, DESK_TABLE_BYTES, DESK_SET_BYTES, DESK_SET_BYTES, DESK_CLASSES_BYTES, DESK_WORK_BYTES}},
+    {"list", try_list, 0x7fb, 2, {DESK_SET_BYTES, DESK_WORK_BYTES}},
+    {"apply", try_apply, 0x387b, 1, {DESK_SITE_BYTES}},
+    {"rewrite", try_rewrite, 0x5f83, 1, {DESK_TABLE_BYTES}},
+    {"classes", try_classes, 0x7b, 1, {DESK_CLASSES_BYTES}},
+    {"job", try_job, 0x7fff, 6,
+     {DESK_SITE_BYTES, DESK_TABLE_BYTES, DESK_SET_BYTES, DESK_SET_BYTES, DESK_CLASSES_BYTES, DESK_WORK_BYTES}},
 };
 
-/* One buffer at least has no byte, one too few or one too many. */
+/* One buffer at least has no byte, one too few, one too many, or another buffer's length. */
 static void try_wrong_lengths(void)
 {
     const struct entry *e = &entries[one_in(2) ? 4 : below(5)];
     size_t lengths[6];
     int wrong = below(e->buffers);
     for (int k = 0; k < e->buffers; k++) {
-        const size_t faults[3] = {0, e->lengths[k] - 1, e->lengths[k] + 1};
-        lengths[k] = k == wrong || one_in(6) ? faults[below(3)] : e->lengths[k];
+        const size_t other = e->lengths[k] == DESK_WORK_BYTES ? DESK_SET_BYTES : DESK_WORK_BYTES;
+        const size_t faults[4] = {0, e->lengths[k] - 1, e->lengths[k] + 1, other};
+        lengths[k] = k == wrong || one_in(6) ? faults[below(4)] : e->lengths[k];
     }
     e->try(lengths);
     wrong_lengths++;
@@ -734,6 +737,17 @@ static void expect_list(uint32_t reason, uint32_t number, const char *what)
     expect(r.reason == reason && (reason ? r.where : r.count) == number, what);
 }
 
+/* A job without edits, whose condition may be too deep for the oracle. */
+static void expect_job(uint32_t count, const char *what)
+{
+    static uint8_t result[DESK_SITE_BYTES], table[DESK_TABLE_BYTES], after[DESK_SET_BYTES], today[DESK_SET_BYTES];
+    static uint8_t classes[DESK_CLASSES_BYTES], work[DESK_WORK_BYTES];
+    build_file();
+    struct desk_done r = desk_job(file.at, file.length, result, sizeof result, table, sizeof table, after, sizeof after,
+                                  today, sizeof today, classes, sizeof classes, work, sizeof work);
+    expect(r.reason == 0 && r.after == count && r.today == count && r.nodes == cond.length / 6 && r.classes == 5, what);
+}
+
 /* A chain: the first node, and then this kind over the node before it. */
 static void build_chain(int first, int kind, int param, int count)
 {
@@ -746,14 +760,45 @@ static void build_chain(int first, int kind, int param, int count)
     }
 }
 
+/* AP makes three nodes of one: a rewritten table of 2,048 nodes, and one of 2,049. */
+static void try_full_tables(void)
+{
+    static const uint8_t ap[] = {2, 1, 0, 0};
+    sheet.length = 0;
+    append(&sheet, ap, sizeof ap);
+    for (int count = 2046; count <= 2047; count++) {
+        static uint8_t table[DESK_TABLE_BYTES];
+        build_chain(2, 5, 0, count);
+        struct desk_rewritten w = desk_rewrite(cond.at, cond.length, sheet.at, sheet.length, table, sizeof table);
+        expect(count == 2046 ? w.reason == 0 && w.nodes == 2048 : w.reason == 14, "a full table");
+        try_rewrite(entries[2].lengths);
+    }
+}
+
+/* A functional link onto the target that is there, onto another one, and from a slot to itself. */
+static void try_links(void)
+{
+    static const uint8_t at[3][4] = {{4, 4, 2, 1}, {4, 4, 1, 2}, {4, 4, 1, 1}};
+    for (int k = 0; k < 3; k++) {
+        static uint8_t result[DESK_SITE_BYTES];
+        sheet.length = 0;
+        append(&sheet, at[k], 4);
+        struct desk_applied r = desk_apply(site.at, site.length, sheet.at, sheet.length, result, sizeof result);
+        expect(k == 0 ? r.reason == 0 && memcmp(result, site.at, sizeof result) == 0 : r.reason == 13, "AT over a target");
+        try_apply(entries[1].lengths);
+    }
+}
+
 static void *try_known_answers(void *unused)
 {
     build_a();
     sheet.length = 0;
     for (int kind = 5; kind <= 11; kind++) {
+        const uint32_t count = kind == 5 ? 255 : kind == 8 ? 0 : kind == 9 ? 256 : 1;
         build_chain(2, kind, 0, 2048);
         try_rewrite(entries[2].lengths);
-        expect_list(0, kind == 5 ? 255 : kind == 8 ? 0 : kind == 9 ? 256 : 1, "a chain of 2,048 nodes");
+        expect_list(0, count, "a chain of 2,048 nodes");
+        expect_job(count, "a job with a chain of 2,048 nodes");
     }
     build_chain(2, 5, 0, 2048);
     expect_list(0, 255, "2,047 nots over label 0");
@@ -780,6 +825,8 @@ static void *try_known_answers(void *unused)
         try_job(entries[4].lengths);
         append(&sheet, dt1, sizeof dt1);
     }
+    try_full_tables();
+    try_links();
     return unused;
 }
 
@@ -813,6 +860,17 @@ static void print_counts(int jobs)
     printf("\nno difference\n");
 }
 
+/* Of so many jobs some meet each item that concerns an entry point; if not, they are no longer made of everything. */
+static void check_coverage(void)
+{
+    for (int e = 0; e < 5; e++)
+        for (int n = 0; n < 15; n++)
+            if ((entries[e].items >> n & 1) != (counted[e][n] > 0)) {
+                printf("desk_test: %s: reason %d: %lu times\n", entries[e].name, n, counted[e][n]);
+                exit(1);
+            }
+}
+
 int main(int argc, char **argv)
 {
     int jobs = argc > 1 ? atoi(argv[1]) : 20000;
@@ -836,5 +894,7 @@ int main(int argc, char **argv)
         try_wrong_lengths();
     }
     print_counts(jobs);
+    if (jobs >= 20000)
+        check_coverage();
     return 0;
 }

@@ -154,7 +154,7 @@ def cases(rng):
     yield ring, t((4, 0, 0, 0), (2, 0, 0, 0), (7, 0, 0, 1), (4, 1, 0, 0), (8, 4, 3, 0), (6, 0, 2, 4), (10, 1, 5, 0), (5, 0, 1, 0), (7, 0, 6, 7), (11, 0, 8, 0))
     # a box where no link leaves
     yield a, t((0, 0, 0, 0), (5, 0, 0, 0), (9, 4, 1, 0))
-    # as many paths as 2 to the power 2,000; and pairs of `and` and diamond over shared children
+    # as many paths as 2 to the power 1,999; and pairs of `and` and diamond over shared children
     yield a, t((2, 0, 0, 0), *((6, 0, i, i) for i in range(1999)))
     pairs = [(1, 0, 0, 0)]
     for _ in range(300):
