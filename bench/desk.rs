@@ -1,0 +1,1011 @@
+//! The desk once more, in plain Rust, written from the paper alone: what the proved library is measured beside.
+//!
+//! The five functions have the library's arguments and answers, test the same items in the same order, and leave the same bytes in
+//! every buffer. Sets are four words; listing keeps each node's set and computes it again where a free variable has moved.
+
+use std::ops::{BitAnd, BitOr, Not};
+
+pub const SITE: usize = 34_352;
+pub const TABLE: usize = 12_288;
+pub const WORK: usize = 65_536;
+const NODES: usize = 2_048;
+const LABELS: usize = 32;
+const NAMES: usize = 544;
+const TARGETS: usize = 560;
+const ROWS: usize = 1_584;
+const E: u8 = 16;
+
+#[derive(Debug, PartialEq)]
+#[repr(C)]
+pub struct Listed {
+    pub reason: u32,
+    pub place: u32,
+    pub count: u32,
+}
+
+#[derive(Debug, PartialEq)]
+#[repr(C)]
+pub struct Applied {
+    pub reason: u32,
+    pub place: u32,
+}
+
+#[derive(Debug, PartialEq)]
+#[repr(C)]
+pub struct Rewritten {
+    pub reason: u32,
+    pub place: u32,
+    pub nodes: u32,
+}
+
+#[derive(Debug, PartialEq)]
+#[repr(C)]
+pub struct Classed {
+    pub reason: u32,
+    pub place: u32,
+    pub count: u32,
+}
+
+#[derive(Debug, PartialEq)]
+#[repr(C)]
+pub struct Done {
+    pub reason: u32,
+    pub place: u32,
+    pub after: u32,
+    pub today: u32,
+    pub nodes: u32,
+    pub classes: u32,
+}
+
+/// The item that is met, and W.
+type Refusal = (u32, u32);
+
+fn item(number: u32) -> Result<(), Refusal> {
+    Err((number, 0))
+}
+
+// ---- sets of slots
+
+#[derive(Clone, Copy, PartialEq)]
+struct Set([u64; 4]);
+
+impl Set {
+    const NONE: Set = Set([0; 4]);
+    const FULL: Set = Set([!0; 4]);
+
+    fn read(bytes: &[u8]) -> Set {
+        let word = |i: usize| u64::from_le_bytes(bytes[8 * i..8 * i + 8].try_into().unwrap());
+        Set([word(0), word(1), word(2), word(3)])
+    }
+
+    fn write(self, bytes: &mut [u8]) {
+        for (chunk, word) in bytes.chunks_exact_mut(8).zip(self.0) {
+            chunk.copy_from_slice(&word.to_le_bytes());
+        }
+    }
+
+    fn only(slot: usize) -> Set {
+        let mut set = Set::NONE;
+        set.insert(slot);
+        set
+    }
+
+    fn has(&self, slot: usize) -> bool {
+        self.0[slot / 64] >> (slot % 64) & 1 == 1
+    }
+
+    fn insert(&mut self, slot: usize) {
+        self.0[slot / 64] |= 1 << (slot % 64);
+    }
+
+    fn is_empty(&self) -> bool {
+        *self == Set::NONE
+    }
+
+    fn meets(self, other: Set) -> bool {
+        !(self & other).is_empty()
+    }
+
+    fn inside(self, other: Set) -> bool {
+        (self & !other).is_empty()
+    }
+
+    fn count(&self) -> u32 {
+        self.0.iter().map(|w| w.count_ones()).sum()
+    }
+
+    fn slots(self) -> impl Iterator<Item = usize> {
+        self.0.into_iter().enumerate().flat_map(|(i, mut word)| {
+            std::iter::from_fn(move || {
+                let bit = word.trailing_zeros() as usize;
+                if bit == 64 {
+                    return None;
+                }
+                word &= word - 1;
+                Some(64 * i + bit)
+            })
+        })
+    }
+}
+
+impl BitAnd for Set {
+    type Output = Set;
+    fn bitand(self, o: Set) -> Set {
+        Set([self.0[0] & o.0[0], self.0[1] & o.0[1], self.0[2] & o.0[2], self.0[3] & o.0[3]])
+    }
+}
+
+impl BitOr for Set {
+    type Output = Set;
+    fn bitor(self, o: Set) -> Set {
+        Set([self.0[0] | o.0[0], self.0[1] | o.0[1], self.0[2] | o.0[2], self.0[3] | o.0[3]])
+    }
+}
+
+impl Not for Set {
+    type Output = Set;
+    fn not(self) -> Set {
+        Set([!self.0[0], !self.0[1], !self.0[2], !self.0[3]])
+    }
+}
+
+// ---- the site
+
+#[derive(Clone, Copy)]
+struct Site<'a>(&'a [u8; SITE]);
+
+impl<'a> Site<'a> {
+    fn present(self) -> Set {
+        Set::read(&self.0[..LABELS])
+    }
+
+    fn label(self, p: usize) -> Set {
+        Set::read(&self.0[LABELS + 32 * p..])
+    }
+
+    fn name(self, n: usize) -> usize {
+        self.0[NAMES + n] as usize
+    }
+
+    /// The targets of link f, which is 4 to 7.
+    fn targets(self, f: usize) -> &'a [u8; 256] {
+        let at = TARGETS + 256 * (f - 4);
+        self.0[at..at + 256].try_into().unwrap()
+    }
+
+    fn row(self, m: usize, s: usize) -> Set {
+        Set::read(&self.0[ROWS + 8192 * m + 32 * s..])
+    }
+
+    /// Items 3 to 6.
+    fn check(bytes: &'a [u8]) -> Result<Site<'a>, Refusal> {
+        let Ok(bytes) = bytes.try_into() else { return Err((3, 0)) };
+        let site = Site(bytes);
+        let present = site.present();
+        if !present.has(0) || site.name(0) != 0 || !(0..16).all(|n| present.has(site.name(n))) {
+            item(4)?;
+        }
+        if !(0..16).all(|p| site.label(p).inside(present)) {
+            item(5)?;
+        }
+        let ends = present & !Set::only(0);
+        let row_fits = |m, s| site.row(m, s).inside(if ends.has(s) { ends } else { Set::NONE });
+        let target_fits = |s, t: usize| t == 0 || ends.has(s) && ends.has(t);
+        let general = (0..4).all(|m| (0..256).all(|s| row_fits(m, s)));
+        let functional = (4..8).all(|f| site.targets(f).iter().enumerate().all(|(s, &t)| target_fits(s, t as usize)));
+        if !general || !functional {
+            item(6)?;
+        }
+        Ok(site)
+    }
+}
+
+// ---- the condition
+
+#[derive(Clone, Copy)]
+struct Node {
+    kind: u8,
+    param: u8,
+    left: u16,
+    right: u16,
+}
+
+impl Node {
+    fn read(b: &[u8]) -> Node {
+        Node { kind: b[0], param: b[1], left: u16::from_le_bytes([b[2], b[3]]), right: u16::from_le_bytes([b[4], b[5]]) }
+    }
+
+    fn write(self, b: &mut [u8]) {
+        let (l, r) = (self.left.to_le_bytes(), self.right.to_le_bytes());
+        b.copy_from_slice(&[self.kind, self.param, l[0], l[1], r[0], r[1]]);
+    }
+
+    fn fits(self, number: usize) -> bool {
+        let (params, left, right) = match self.kind {
+            0 | 1 => (1, false, false),
+            2 | 3 | 4 => (16, false, false),
+            5 => (1, true, false),
+            6 | 7 => (1, true, true),
+            8 | 9 => (17, true, false),
+            10 | 11 => (16, true, false),
+            12 => (256, false, false),
+            _ => return false,
+        };
+        let child = |used: bool, c: u16| if used { (c as usize) < number } else { c == 0 };
+        (self.param as usize) < params && child(left, self.left) && child(right, self.right)
+    }
+}
+
+/// The nodes, and the variables that are free in each.
+struct Condition {
+    nodes: Vec<Node>,
+    free: Vec<u16>,
+}
+
+impl Condition {
+    /// Items 7 to 10.
+    fn check(bytes: &[u8]) -> Result<Condition, Refusal> {
+        if bytes.is_empty() || bytes.len() % 6 != 0 || bytes.len() > TABLE {
+            return Err((7, 0));
+        }
+        let nodes: Vec<Node> = bytes.chunks_exact(6).map(Node::read).collect();
+        if let Some(w) = nodes.iter().enumerate().position(|(i, n)| !n.fits(i)) {
+            return Err((8, w as u32));
+        }
+        let free = Condition::free(&nodes)?;
+        if *free.last().unwrap() != 0 {
+            return Err((10, nodes.len() as u32 - 1));
+        }
+        Ok(Condition { nodes, free })
+    }
+
+    /// The free variables of each node, from those under an even and under an odd number of nots. Item 9.
+    fn free(nodes: &[Node]) -> Result<Vec<u16>, Refusal> {
+        let mut masks: Vec<(u16, u16)> = Vec::with_capacity(nodes.len());
+        for (i, n) in nodes.iter().enumerate() {
+            let bit = 1u16.checked_shl(n.param as u32).unwrap_or(0);
+            let (l, r) = (n.left as usize, n.right as usize);
+            masks.push(match n.kind {
+                4 => (bit, 0),
+                5 => (masks[l].1, masks[l].0),
+                6 | 7 => (masks[l].0 | masks[r].0, masks[l].1 | masks[r].1),
+                8 | 9 => masks[l],
+                10 | 11 if masks[l].1 & bit != 0 => return Err((9, i as u32)),
+                10 | 11 => (masks[l].0 & !bit, masks[l].1 & !bit),
+                _ => (0, 0),
+            });
+        }
+        Ok(masks.into_iter().map(|(even, odd)| even | odd).collect())
+    }
+}
+
+// ---- listing
+
+struct Lister<'a> {
+    site: Site<'a>,
+    condition: &'a Condition,
+    sets: Vec<Set>,
+    known: Vec<bool>,
+    variables: [Set; 16],
+}
+
+impl Lister<'_> {
+    fn list(site: Site, condition: &Condition) -> Set {
+        let n = condition.nodes.len();
+        let (sets, known) = (vec![Set::NONE; n], vec![false; n]);
+        Lister { site, condition, sets, known, variables: [Set::NONE; 16] }.set(n - 1)
+    }
+
+    fn set(&mut self, i: usize) -> Set {
+        if !self.known[i] {
+            self.sets[i] = self.compute(i);
+            self.known[i] = true;
+        }
+        self.sets[i]
+    }
+
+    fn compute(&mut self, i: usize) -> Set {
+        let n = self.condition.nodes[i];
+        let (p, l, r) = (n.param as usize, n.left as usize, n.right as usize);
+        match n.kind {
+            0 => Set::FULL,
+            1 => self.site.present(),
+            2 => self.site.label(p),
+            3 => Set::only(self.site.name(p)),
+            4 => self.variables[p],
+            5 => !self.set(l),
+            6 => self.set(l) | self.set(r),
+            7 => self.set(l) & self.set(r),
+            8 => {
+                let t = self.set(l);
+                self.diamond(p, t)
+            }
+            9 => {
+                let t = self.set(l);
+                !self.diamond(p, !t)
+            }
+            10 => self.fixpoint(p, l, Set::NONE),
+            11 => self.fixpoint(p, l, Set::FULL),
+            _ => Set::only(p),
+        }
+    }
+
+    fn fixpoint(&mut self, variable: usize, body: usize, start: Set) -> Set {
+        let old = self.variables[variable];
+        let mut set = start;
+        loop {
+            self.assign(variable, body, set);
+            let next = self.set(body);
+            if next == set {
+                break;
+            }
+            set = next;
+        }
+        self.assign(variable, body, old);
+        set
+    }
+
+    /// The nodes of a loop's body are not above it, so the flags of the others stay.
+    fn assign(&mut self, variable: usize, body: usize, set: Set) {
+        self.variables[variable] = set;
+        for (known, free) in self.known[..=body].iter_mut().zip(&self.condition.free) {
+            *known &= free >> variable & 1 == 0;
+        }
+    }
+
+    fn diamond(&self, way: usize, set: Set) -> Set {
+        let (site, link) = (self.site, way % 8);
+        let mut found = Set::NONE;
+        match way {
+            0..=3 => site.present().slots().filter(|&s| site.row(link, s).meets(set)).for_each(|s| found.insert(s)),
+            4..=7 => {
+                for (s, &t) in site.targets(link).iter().enumerate() {
+                    if t != 0 && set.has(t as usize) {
+                        found.insert(s);
+                    }
+                }
+            }
+            8..=11 => set.slots().for_each(|s| found = found | site.row(link, s)),
+            12..=15 => {
+                let targets = site.targets(link);
+                for t in set.slots().map(|s| targets[s] as usize) {
+                    if t != 0 {
+                        found.insert(t);
+                    }
+                }
+            }
+            _ if !set.is_empty() => found = Set::FULL,
+            _ => {}
+        }
+        found
+    }
+}
+
+// ---- the sheet
+
+#[derive(Clone, Copy)]
+enum Edit {
+    Cn1(u8, u8),
+    Cn2(u8, u8, u8),
+    Ap(u8, u8),
+    Dp(u8, u8),
+    At(u8, u8, u8),
+    Dt1(u8, u8, u8),
+    Dt2(u8, u8),
+    As(u8, u8),
+    Ds(u8),
+}
+
+impl Edit {
+    fn read(b: &[u8]) -> Option<Edit> {
+        let (x, y, z) = (b[1], b[2], b[3]);
+        let (name, moved, link, functional) = (|n| n < 16, |n| (1..16).contains(&n), |m| m < 8, |f| (4..8).contains(&f));
+        Some(match b[0] {
+            0 if moved(x) && name(y) && z == 0 => Edit::Cn1(x, y),
+            1 if moved(x) && name(y) && functional(z) => Edit::Cn2(x, y, z),
+            2 if name(x) && y < 16 && z == 0 => Edit::Ap(x, y),
+            3 if name(x) && y < 16 && z == 0 => Edit::Dp(x, y),
+            4 if link(x) && name(y) && name(z) => Edit::At(x, y, z),
+            5 if link(x) && name(y) && name(z) => Edit::Dt1(x, y, z),
+            6 if functional(x) && name(y) && z == 0 => Edit::Dt2(x, y),
+            7 if moved(x) && z == 0 => Edit::As(x, y),
+            8 if name(x) && y == 0 && z == 0 => Edit::Ds(x),
+            _ => return None,
+        })
+    }
+}
+
+/// Items 11 and 12.
+fn read_sheet(bytes: &[u8]) -> Result<Vec<Edit>, Refusal> {
+    if bytes.len() % 4 != 0 || bytes.len() > 256 {
+        return Err((11, 0));
+    }
+    bytes.chunks_exact(4).enumerate().map(|(k, b)| Edit::read(b).ok_or((12, k as u32))).collect()
+}
+
+/// Does the edit to the site's bytes, or says that it does not go through.
+fn apply_edit(site: &mut [u8], edit: Edit) -> bool {
+    let name = |n: u8| NAMES + n as usize;
+    let at = |site: &[u8], n: u8| site[name(n)] as usize;
+    let label = |p: u8, s: usize| LABELS + 32 * p as usize + s / 8;
+    let row = |m: u8, s: usize| ROWS + 8192 * m as usize + 32 * s;
+    let target = |f: u8, s: usize| TARGETS + 256 * (f as usize - 4) + s;
+    let bit = |s: usize| 1u8 << (s % 8);
+    match edit {
+        Edit::Cn1(n1, n2) => site[name(n1)] = site[name(n2)],
+        Edit::Cn2(n1, n2, f) => site[name(n1)] = site[target(f, at(site, n2))],
+        Edit::Ap(n, p) => {
+            let s = at(site, n);
+            site[label(p, s)] |= bit(s);
+        }
+        Edit::Dp(n, p) => {
+            let s = at(site, n);
+            site[label(p, s)] &= !bit(s);
+        }
+        Edit::At(m, n1, n2) => {
+            let (s, t) = (at(site, n1), at(site, n2));
+            if s == 0 || t == 0 {
+                return false;
+            }
+            if m < 4 {
+                site[row(m, s) + t / 8] |= bit(t);
+            } else {
+                let old = &mut site[target(m, s)];
+                if *old != 0 && *old as usize != t {
+                    return false;
+                }
+                *old = t as u8;
+            }
+        }
+        Edit::Dt1(m, n1, n2) => {
+            let (s, t) = (at(site, n1), at(site, n2));
+            if m < 4 {
+                site[row(m, s) + t / 8] &= !bit(t);
+            } else if site[target(m, s)] as usize == t {
+                site[target(m, s)] = 0;
+            }
+        }
+        Edit::Dt2(f, n) => site[target(f, at(site, n))] = 0,
+        Edit::As(n, k) => {
+            let k = k as usize;
+            if site[k / 8] & bit(k) != 0 {
+                return false;
+            }
+            site[k / 8] |= bit(k);
+            site[name(n)] = k as u8;
+        }
+        Edit::Ds(n) => {
+            let s = at(site, n);
+            if s == 0 {
+                return false;
+            }
+            delete_slot(site, s);
+        }
+    }
+    true
+}
+
+fn delete_slot(site: &mut [u8], s: usize) {
+    let keep = !(1u8 << (s % 8));
+    site[s / 8] &= keep;
+    for p in 0..16 {
+        site[LABELS + 32 * p + s / 8] &= keep;
+    }
+    for place in &mut site[NAMES..ROWS] {
+        if *place as usize == s {
+            *place = 0;
+        }
+    }
+    for f in 0..4 {
+        site[TARGETS + 256 * f + s] = 0;
+    }
+    for rows in site[ROWS..].chunks_exact_mut(8192) {
+        rows[32 * s..32 * s + 32].fill(0);
+        for row in rows.chunks_exact_mut(32) {
+            row[s / 8] &= keep;
+        }
+    }
+}
+
+/// Item 13.
+fn apply_sheet(site: &mut [u8], sheet: &[Edit]) -> Result<(), Refusal> {
+    match sheet.iter().position(|&edit| !apply_edit(site, edit)) {
+        Some(w) => Err((13, w as u32)),
+        None => Ok(()),
+    }
+}
+
+// ---- rewriting
+
+/// What an edit does to the neighbours by a way.
+enum Change {
+    Keep,
+    Added(u8, u8),
+    Removed(u8, u8),
+    NoneFrom(u8),
+    NoneTo(u8),
+    NoneAt(u8),
+}
+
+fn change(edit: Edit, way: u8) -> Change {
+    let reverse = way >= 8;
+    match edit {
+        Edit::Ds(n) if way < E => Change::NoneAt(n),
+        Edit::At(m, a, b) if way == m => Change::Added(a, b),
+        Edit::At(m, a, b) if way == m + 8 => Change::Added(b, a),
+        Edit::Dt1(m, a, b) if way == m => Change::Removed(a, b),
+        Edit::Dt1(m, a, b) if way == m + 8 => Change::Removed(b, a),
+        Edit::Dt2(f, n) if way % 8 == f && way < E => {
+            if reverse {
+                Change::NoneTo(n)
+            } else {
+                Change::NoneFrom(n)
+            }
+        }
+        _ => Change::Keep,
+    }
+}
+
+struct Table(Vec<Node>);
+
+impl Table {
+    fn push(&mut self, kind: u8, param: u8, left: u16, right: u16) -> u16 {
+        self.0.push(Node { kind, param, left, right });
+        self.0.len() as u16 - 1
+    }
+
+    fn name(&mut self, n: u8) -> u16 {
+        self.push(3, n, 0, 0)
+    }
+
+    fn not(&mut self, a: u16) -> u16 {
+        self.push(5, 0, a, 0)
+    }
+
+    fn or(&mut self, a: u16, b: u16) -> u16 {
+        self.push(6, 0, a, b)
+    }
+
+    fn and(&mut self, a: u16, b: u16) -> u16 {
+        self.push(7, 0, a, b)
+    }
+
+    fn diamond(&mut self, way: u8, a: u16) -> u16 {
+        self.push(8, way, a, 0)
+    }
+
+    fn boxed(&mut self, way: u8, a: u16) -> u16 {
+        self.push(9, way, a, 0)
+    }
+
+    /// `old n ! &`
+    fn except(&mut self, old: u16, n: u8) -> u16 {
+        let n = self.name(n);
+        let other = self.not(n);
+        self.and(old, other)
+    }
+
+    fn moved_name(&mut self, n2: u8, f: u8) -> u16 {
+        let from = self.name(n2);
+        let reached = self.diamond(f + 8, from);
+        let nil = self.name(0);
+        let from = self.name(n2);
+        let all = self.push(0, 0, 0, 0);
+        let leads = self.diamond(f, all);
+        let both = self.and(from, leads);
+        let some = self.diamond(E, both);
+        let no = self.not(some);
+        let there = self.and(nil, no);
+        self.or(reached, there)
+    }
+
+    fn orphaned_name(&mut self, y: u8, n: u8) -> u16 {
+        let old = self.name(y);
+        let kept = self.except(old, n);
+        let nil = self.name(0);
+        let n = self.name(n);
+        let y = self.name(y);
+        let both = self.and(n, y);
+        let some = self.diamond(E, both);
+        let there = self.and(nil, some);
+        self.or(kept, there)
+    }
+
+    fn leaf(&mut self, edit: Edit, node: Node) -> u16 {
+        let p = node.param;
+        match (node.kind, edit) {
+            (1, Edit::As(_, k)) => {
+                let here = self.push(1, 0, 0, 0);
+                let slot = self.push(12, k, 0, 0);
+                self.or(here, slot)
+            }
+            (1, Edit::Ds(n)) => {
+                let here = self.push(1, 0, 0, 0);
+                self.except(here, n)
+            }
+            (2, Edit::Ap(n, q)) if p == q => {
+                let label = self.push(2, p, 0, 0);
+                let n = self.name(n);
+                self.or(label, n)
+            }
+            (2, Edit::Dp(n, q)) if p == q => {
+                let label = self.push(2, p, 0, 0);
+                self.except(label, n)
+            }
+            (2, Edit::Ds(n)) => {
+                let label = self.push(2, p, 0, 0);
+                self.except(label, n)
+            }
+            (3, Edit::Cn1(n1, n2)) if p == n1 => self.name(n2),
+            (3, Edit::Cn2(n1, n2, f)) if p == n1 => self.moved_name(n2, f),
+            (3, Edit::As(n, k)) if p == n => self.push(12, k, 0, 0),
+            (3, Edit::Ds(n)) if p != 0 => self.orphaned_name(p, n),
+            _ => self.push(node.kind, p, 0, 0),
+        }
+    }
+
+    fn diamond_after(&mut self, edit: Edit, w: u8, t: u16) -> u16 {
+        match change(edit, w) {
+            Change::Keep => self.diamond(w, t),
+            Change::Added(a, b) => {
+                let old = self.diamond(w, t);
+                let a = self.name(a);
+                let b = self.name(b);
+                let hit = self.and(b, t);
+                let some = self.diamond(E, hit);
+                let new = self.and(a, some);
+                self.or(old, new)
+            }
+            Change::Removed(a, b) => {
+                let a = self.name(a);
+                let other = self.not(a);
+                let old = self.diamond(w, t);
+                let elsewhere = self.and(other, old);
+                let b = self.name(b);
+                let not_b = self.not(b);
+                let rest = self.and(not_b, t);
+                let past = self.diamond(w, rest);
+                self.or(elsewhere, past)
+            }
+            Change::NoneFrom(n) => {
+                let n = self.name(n);
+                let other = self.not(n);
+                let old = self.diamond(w, t);
+                self.and(other, old)
+            }
+            Change::NoneTo(n) => {
+                let n = self.name(n);
+                let other = self.not(n);
+                let rest = self.and(other, t);
+                self.diamond(w, rest)
+            }
+            Change::NoneAt(n) => {
+                let a = self.name(n);
+                let other = self.not(a);
+                let b = self.name(n);
+                let not_b = self.not(b);
+                let rest = self.and(not_b, t);
+                let past = self.diamond(w, rest);
+                self.and(other, past)
+            }
+        }
+    }
+
+    fn box_after(&mut self, edit: Edit, w: u8, t: u16) -> u16 {
+        match change(edit, w) {
+            Change::Keep => self.boxed(w, t),
+            Change::Added(a, b) => {
+                let old = self.boxed(w, t);
+                let a = self.name(a);
+                let other = self.not(a);
+                let b = self.name(b);
+                let not_b = self.not(b);
+                let hit = self.or(not_b, t);
+                let all = self.boxed(E, hit);
+                let new = self.or(other, all);
+                self.and(old, new)
+            }
+            Change::Removed(a, b) => {
+                let a = self.name(a);
+                let old = self.boxed(w, t);
+                let at_a = self.or(a, old);
+                let b = self.name(b);
+                let rest = self.or(b, t);
+                let past = self.boxed(w, rest);
+                self.and(at_a, past)
+            }
+            Change::NoneFrom(n) => {
+                let n = self.name(n);
+                let old = self.boxed(w, t);
+                self.or(n, old)
+            }
+            Change::NoneTo(n) => {
+                let n = self.name(n);
+                let rest = self.or(n, t);
+                self.boxed(w, rest)
+            }
+            Change::NoneAt(n) => {
+                let a = self.name(n);
+                let b = self.name(n);
+                let rest = self.or(b, t);
+                let past = self.boxed(w, rest);
+                self.or(a, past)
+            }
+        }
+    }
+
+    /// Each old node's block, in order.
+    fn rewrite(&mut self, old: &[Node], edit: Edit, images: &mut Vec<u16>) {
+        self.0.clear();
+        images.clear();
+        for &node in old {
+            let p = node.param;
+            let image = match node.kind {
+                5 => self.not(images[node.left as usize]),
+                6 | 7 => self.push(node.kind, p, images[node.left as usize], images[node.right as usize]),
+                8 => self.diamond_after(edit, p, images[node.left as usize]),
+                9 => self.box_after(edit, p, images[node.left as usize]),
+                10 | 11 => self.push(node.kind, p, images[node.left as usize], 0),
+                _ => self.leaf(edit, node),
+            };
+            images.push(image);
+        }
+    }
+}
+
+/// Item 14. The last edit is rewritten first.
+fn rewrite_sheet(nodes: &[Node], sheet: &[Edit]) -> Result<Vec<Node>, Refusal> {
+    let (mut now, mut next) = (Table(nodes.to_vec()), Table(Vec::with_capacity(NODES)));
+    let mut images = Vec::with_capacity(NODES);
+    for &edit in sheet.iter().rev() {
+        next.rewrite(&now.0, edit, &mut images);
+        if next.0.len() > NODES {
+            return Err((14, 0));
+        }
+        std::mem::swap(&mut now, &mut next);
+    }
+    Ok(now.0)
+}
+
+fn write_table(nodes: &[Node], out: &mut [u8]) {
+    for (chunk, node) in out.chunks_exact_mut(6).zip(nodes) {
+        node.write(chunk);
+    }
+    out[6 * nodes.len()..].fill(0);
+}
+
+// ---- classes
+
+type Classes = [u8; 256];
+
+/// Each class, split by the keys of its slots. A class has its lowest slot as its number; `next` leads to those split off it, and
+/// slot 0 is never one of these.
+fn split<K: PartialEq>(classes: &Classes, keys: &[K; 256]) -> Classes {
+    let (mut new, mut next) = (*classes, [0u8; 256]);
+    for s in 0..256 {
+        let mut class = classes[s] as usize;
+        while keys[class] != keys[s] {
+            if next[class] == 0 {
+                next[class] = s as u8;
+            }
+            class = next[class] as usize;
+        }
+        new[s] = class as u8;
+    }
+    new
+}
+
+/// The neighbours of each slot, for the ways of links that are there.
+fn neighbours(site: Site) -> Vec<[Set; 256]> {
+    let mut ways = Vec::with_capacity(16);
+    for m in 0..8 {
+        let (mut there, mut back) = ([Set::NONE; 256], [Set::NONE; 256]);
+        for s in site.present().slots() {
+            if m < 4 {
+                there[s] = site.row(m, s);
+            } else if site.targets(m)[s] != 0 {
+                there[s].insert(site.targets(m)[s] as usize);
+            }
+            there[s].slots().for_each(|t| back[t].insert(s));
+        }
+        if there.iter().any(|row| !row.is_empty()) {
+            ways.extend([there, back]);
+        }
+    }
+    ways
+}
+
+/// The classes that a row meets. The lowest slot of each class stands for it; the other slots are taken one by one, or class by class
+/// where that is less.
+fn seen(row: Set, classes: &Classes, lowest: Set, members: &[(usize, Set)]) -> Set {
+    let (mut found, others) = (row & lowest, row & !lowest);
+    if (others.count() as usize) < members.len() {
+        others.slots().for_each(|t| found.insert(classes[t] as usize));
+    } else {
+        members.iter().filter(|(_, set)| set.meets(others)).for_each(|&(class, _)| found.insert(class));
+    }
+    found
+}
+
+/// The classes of more than one slot, and the lowest slots of all.
+fn members(classes: &Classes) -> (Vec<(usize, Set)>, Set) {
+    let (mut sets, mut lowest) = ([Set::NONE; 256], Set::NONE);
+    for (s, &class) in classes.iter().enumerate() {
+        sets[class as usize].insert(s);
+        lowest.insert(class as usize);
+    }
+    (lowest.slots().map(|class| (class, sets[class])).filter(|(_, set)| set.count() > 1).collect(), lowest)
+}
+
+/// Rounds of refinement, until one changes nothing.
+fn refine(site: Site) -> Classes {
+    let marks: [u64; 256] = std::array::from_fn(|s| {
+        let labels = (0..16).fold(0, |bits, p| bits | (site.label(p).has(s) as u64) << p);
+        let names = (0..16).fold(0, |bits, n| bits | ((site.name(n) == s) as u64) << n);
+        labels | names << 16 | (site.present().has(s) as u64) << 32
+    });
+    let ways = neighbours(site);
+    let mut classes = split(&[0; 256], &marks);
+    loop {
+        let (members, lowest) = members(&classes);
+        let mut new = classes;
+        for rows in &ways {
+            let keys: [Set; 256] = std::array::from_fn(|s| seen(rows[s], &classes, lowest, &members));
+            new = split(&new, &keys);
+        }
+        if new == classes {
+            return classes;
+        }
+        classes = new;
+    }
+}
+
+fn different(classes: &Classes) -> u32 {
+    let mut seen = Set::NONE;
+    classes.iter().for_each(|&c| seen.insert(c as usize));
+    seen.count()
+}
+
+// ---- the five functions
+
+/// Item 1.
+fn lengths(buffers: &[(&[u8], usize)]) -> Result<(), Refusal> {
+    if buffers.iter().any(|(buffer, length)| buffer.len() != *length) {
+        return Err((1, 0));
+    }
+    Ok(())
+}
+
+pub fn list(site: &[u8], cond: &[u8], set: &mut [u8], work: &mut [u8]) -> Listed {
+    let found = (|| {
+        lengths(&[(set, 32), (work, WORK)])?;
+        let site = Site::check(site)?;
+        let condition = Condition::check(cond)?;
+        Ok(Lister::list(site, &condition))
+    })();
+    work.fill(0);
+    match found {
+        Ok(found) => {
+            found.write(set);
+            Listed { reason: 0, place: 0, count: found.count() }
+        }
+        Err((reason, place)) => {
+            set.fill(0);
+            Listed { reason, place, count: 0 }
+        }
+    }
+}
+
+pub fn apply(site: &[u8], sheet: &[u8], result: &mut [u8]) -> Applied {
+    let done = (|| {
+        lengths(&[(result, SITE)])?;
+        Site::check(site)?;
+        let edits = read_sheet(sheet)?;
+        result.copy_from_slice(site);
+        apply_sheet(result, &edits)
+    })();
+    let (reason, place) = done.err().unwrap_or((0, 0));
+    if reason != 0 {
+        result.fill(0);
+    }
+    Applied { reason, place }
+}
+
+pub fn rewrite(cond: &[u8], sheet: &[u8], result: &mut [u8]) -> Rewritten {
+    let table = (|| {
+        lengths(&[(result, TABLE)])?;
+        let condition = Condition::check(cond)?;
+        let edits = read_sheet(sheet)?;
+        rewrite_sheet(&condition.nodes, &edits)
+    })();
+    match table {
+        Ok(nodes) => {
+            write_table(&nodes, result);
+            Rewritten { reason: 0, place: 0, nodes: nodes.len() as u32 }
+        }
+        Err((reason, place)) => {
+            result.fill(0);
+            Rewritten { reason, place, nodes: 0 }
+        }
+    }
+}
+
+pub fn classes(site: &[u8], classes: &mut [u8]) -> Classed {
+    let found = (|| {
+        lengths(&[(classes, 256)])?;
+        Ok(refine(Site::check(site)?))
+    })();
+    match found {
+        Ok(found) => {
+            classes.copy_from_slice(&found);
+            Classed { reason: 0, place: 0, count: different(&found) }
+        }
+        Err((reason, place)) => {
+            classes.fill(0);
+            Classed { reason, place, count: 0 }
+        }
+    }
+}
+
+/// The site, the condition and the sheet of a job file. Item 2.
+fn pieces(file: &[u8]) -> Result<[&[u8]; 3], Refusal> {
+    if file.len() < 12 || file.len() > 65_536 {
+        return Err((2, 0));
+    }
+    let (body, trailer) = file.split_at(file.len() - 12);
+    let distance = |i: usize| u32::from_le_bytes(trailer[4 * i..4 * i + 4].try_into().unwrap()) as usize;
+    let (sheet, condition, site) = (distance(0), distance(1), distance(2));
+    if condition < sheet || site < condition || site != body.len() {
+        return Err((2, 0));
+    }
+    let (at, end) = (body.len() - condition, body.len() - sheet);
+    Ok([&body[..at], &body[at..end], &body[end..]])
+}
+
+/// The buffers of a job.
+pub struct Results<'a> {
+    pub site: &'a mut [u8],
+    pub table: &'a mut [u8],
+    pub after: &'a mut [u8],
+    pub today: &'a mut [u8],
+    pub classes: &'a mut [u8],
+    pub work: &'a mut [u8],
+}
+
+fn run_job(file: &[u8], out: &mut Results) -> Result<Done, Refusal> {
+    lengths(&[(out.site, SITE), (out.table, TABLE), (out.after, 32), (out.today, 32), (out.classes, 256), (out.work, WORK)])?;
+    let [site, cond, sheet] = pieces(file)?;
+    let today = Site::check(site)?;
+    let condition = Condition::check(cond)?;
+    let edits = read_sheet(sheet)?;
+    out.site.copy_from_slice(site);
+    apply_sheet(out.site, &edits)?;
+    let nodes = rewrite_sheet(&condition.nodes, &edits)?;
+    write_table(&nodes, out.table);
+    let rewritten = Condition { free: Condition::free(&nodes)?, nodes };
+    let after = Site((&*out.site).try_into().unwrap());
+    let (listed_after, listed_today) = (Lister::list(after, &condition), Lister::list(today, &rewritten));
+    let classes = refine(after);
+    listed_after.write(out.after);
+    listed_today.write(out.today);
+    out.classes.copy_from_slice(&classes);
+    Ok(Done {
+        reason: 0,
+        place: 0,
+        after: listed_after.count(),
+        today: listed_today.count(),
+        nodes: rewritten.nodes.len() as u32,
+        classes: different(&classes),
+    })
+}
+
+pub fn job(file: &[u8], mut out: Results) -> Done {
+    let done = run_job(file, &mut out);
+    out.work.fill(0);
+    done.unwrap_or_else(|(reason, place)| {
+        for buffer in [out.site, out.table, out.after, out.today, out.classes] {
+            buffer.fill(0);
+        }
+        Done { reason, place, after: 0, today: 0, nodes: 0, classes: 0 }
+    })
+}

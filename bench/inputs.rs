@@ -1,0 +1,248 @@
+//! Sites, conditions, sheets and job files to measure on.
+
+use crate::desk::SITE;
+
+const NAMES: usize = 544;
+const TARGETS: usize = 560;
+const ROWS: usize = 1_584;
+
+/// The same numbers in every run.
+struct Random(u64);
+
+impl Random {
+    fn below(&mut self, limit: usize) -> usize {
+        self.0 ^= self.0 << 13;
+        self.0 ^= self.0 >> 7;
+        self.0 ^= self.0 << 17;
+        (self.0 >> 11) as usize % limit
+    }
+}
+
+// ---- sites
+
+fn put(set: &mut [u8], slot: usize) {
+    set[slot / 8] |= 1 << (slot % 8);
+}
+
+/// Slots 0 to n - 1 present, label 0 on slot 1, name k at slot k where that is present.
+fn bare(n: usize) -> Vec<u8> {
+    let mut site = vec![0; SITE];
+    (0..n).for_each(|s| put(&mut site, s));
+    put(&mut site[32..], 1);
+    for k in 1..16.min(n) {
+        site[NAMES + k] = k as u8;
+    }
+    site
+}
+
+/// Link 4 from each slot to the one below it, link 5 to the half of its number.
+pub fn chain(n: usize) -> Vec<u8> {
+    let mut site = bare(n);
+    for s in 2..n {
+        site[TARGETS + s] = (s - 1) as u8;
+        site[TARGETS + 256 + s] = (s / 2) as u8;
+    }
+    site
+}
+
+/// A chain, with `arcs` random arcs from each slot by each general link.
+pub fn random(n: usize, arcs: usize) -> Vec<u8> {
+    let mut site = chain(n);
+    let mut random = Random(0x9e37_79b9_7f4a_7c15);
+    for row in (0..4).flat_map(|m| (1..n).map(move |s| ROWS + 8192 * m + 32 * s)) {
+        (0..arcs).for_each(|_| put(&mut site[row..], 1 + random.below(n - 1)));
+    }
+    site
+}
+
+/// A chain, with every arc by every general link.
+pub fn full(n: usize) -> Vec<u8> {
+    let mut site = chain(n);
+    for row in (0..4).flat_map(|m| (1..n).map(move |s| ROWS + 8192 * m + 32 * s)) {
+        (1..n).for_each(|t| put(&mut site[row..], t));
+    }
+    site
+}
+
+/// The same without labels, names and functional links: two classes.
+pub fn uniform() -> Vec<u8> {
+    let mut site = full(256);
+    site[32..ROWS].fill(0);
+    site
+}
+
+/// The same with link 4 from each slot to the one below it: refinement comes in from both ends, in 128 rounds.
+pub fn rounds(general: bool) -> Vec<u8> {
+    let mut site = if general { uniform() } else { bare(256) };
+    site[32..TARGETS].fill(0);
+    (2..256).for_each(|s| site[TARGETS + s] = (s - 1) as u8);
+    site
+}
+
+pub fn slots(site: &[u8]) -> u32 {
+    site[..32].iter().map(|b| b.count_ones()).sum()
+}
+
+pub fn arcs(site: &[u8]) -> u32 {
+    let general: u32 = site[ROWS..].iter().map(|b| b.count_ones()).sum();
+    general + site[TARGETS..ROWS].iter().filter(|&&t| t != 0).count() as u32
+}
+
+// ---- conditions
+
+#[derive(Default)]
+struct Table(Vec<u8>);
+
+impl Table {
+    fn len(&self) -> usize {
+        self.0.len() / 6
+    }
+
+    fn push(&mut self, kind: u8, param: usize, left: usize, right: usize) -> usize {
+        let (l, r) = ((left as u16).to_le_bytes(), (right as u16).to_le_bytes());
+        self.0.extend([kind, param as u8, l[0], l[1], r[0], r[1]]);
+        self.len() - 1
+    }
+
+    fn label(&mut self, p: usize) -> usize {
+        self.push(2, p, 0, 0)
+    }
+
+    fn variable(&mut self, x: usize) -> usize {
+        self.push(4, x, 0, 0)
+    }
+
+    fn or(&mut self, a: usize, b: usize) -> usize {
+        self.push(6, 0, a, b)
+    }
+
+    fn and(&mut self, a: usize, b: usize) -> usize {
+        self.push(7, 0, a, b)
+    }
+
+    fn diamond(&mut self, way: usize, a: usize) -> usize {
+        self.push(8, way, a, 0)
+    }
+}
+
+/// mu 0 (label 0 or diamond `way` variable 0)
+pub fn reach(way: usize) -> Vec<u8> {
+    let mut t = Table::default();
+    let (start, x) = (t.label(0), t.variable(0));
+    let step = t.diamond(way, x);
+    let body = t.or(start, step);
+    t.push(10, 0, body, 0);
+    t.0
+}
+
+/// Label 0, then each node the `or` of the one before with itself: 2^(n - 1) paths.
+pub fn shared(n: usize) -> Vec<u8> {
+    let mut t = Table::default();
+    let mut last = t.label(0);
+    while t.len() < n {
+        last = t.or(last, last);
+    }
+    t.0
+}
+
+/// Label 0, then nots, diamonds and boxes of every way, each over the one before: one path.
+pub fn line(n: usize) -> Vec<u8> {
+    let mut t = Table::default();
+    let mut last = t.label(0);
+    while t.len() < n {
+        let k = t.len();
+        last = match k % 3 {
+            0 => t.push(5, 0, last, 0),
+            1 => t.diamond(k / 3 % 17, last),
+            _ => t.push(9, k / 3 % 17, last, 0),
+        };
+    }
+    t.0
+}
+
+/// Diamonds and boxes of the ways below `ways`, each over an `or` or `and` of the two nodes before it.
+pub fn mixed(n: usize, ways: usize) -> Vec<u8> {
+    let mut t = Table::default();
+    t.label(0);
+    t.push(1, 0, 0, 0);
+    while t.len() < n {
+        let k = t.len();
+        match k % 4 {
+            0 => t.or(k - 2, k - 1),
+            1 => t.diamond(k / 4 % ways, k - 1),
+            2 => t.and(k - 1, k - 2),
+            _ => t.push(9, k / 4 % ways, k - 1, 0),
+        };
+    }
+    t.0
+}
+
+/// Loops in loops, mu and nu by turns. On a chain each makes as many rounds as there are slots, in every round of the one around it:
+/// mu x (label 0 or <4> x or (label 15 and ..)), nu x (<4> x or (label 15 and ..)), where no slot has label 15 and `..` is the variable
+/// of the loop around and the loop inside.
+pub fn nested(depth: usize) -> Vec<u8> {
+    let mut t = Table::default();
+    let (start, nowhere) = (t.label(0), t.label(15));
+    let mut inner = None;
+    for x in (0..depth).rev() {
+        let v = t.variable(x);
+        let mut body = t.diamond(4, v);
+        if x % 2 == 0 {
+            body = t.or(start, body);
+        }
+        if x > 0 {
+            let outer = t.variable(x - 1);
+            let none = t.and(nowhere, outer);
+            body = t.or(body, none);
+        }
+        if let Some(inner) = inner {
+            let none = t.and(nowhere, inner);
+            body = t.or(body, none);
+        }
+        inner = Some(t.push(10 + (x % 2) as u8, x, body, 0));
+    }
+    t.0
+}
+
+/// Label 0, and loops around it, each in the next.
+pub fn loops(n: usize) -> Vec<u8> {
+    let mut t = Table::default();
+    let mut last = t.label(0);
+    while t.len() < n {
+        last = t.push(10 + (t.len() % 2) as u8, t.len() % 16, last, 0);
+    }
+    t.0
+}
+
+// ---- sheets
+
+/// AP: name 1 gains label 0, again and again.
+pub fn labels(n: usize) -> Vec<u8> {
+    [2, 1, 0, 0].repeat(n)
+}
+
+/// DT1: link 0 from name 1 to names 1, 2, ..
+pub fn cuts(n: usize) -> Vec<u8> {
+    (0..n).flat_map(|k| [5, 0, 1, 1 + (k % 15) as u8]).collect()
+}
+
+/// DS and then AS of the same slot, by turns.
+pub fn slots_gone(n: usize) -> Vec<u8> {
+    let slot = |k: usize| 2 + (k / 2 % 14) as u8;
+    (0..n).flat_map(|k| if k % 2 == 0 { [8, slot(k), 0, 0] } else { [7, slot(k), slot(k), 0] }).collect()
+}
+
+/// Every kind of edit but DS and AS.
+pub fn small_edits(n: usize) -> Vec<u8> {
+    let kinds = [[2, 1, 0, 0], [4, 0, 2, 3], [0, 4, 5, 0], [5, 1, 6, 7], [1, 8, 9, 4], [6, 5, 3, 0], [3, 2, 1, 0]];
+    (0..n).flat_map(|k| kinds[k % 7]).collect()
+}
+
+// ---- job files
+
+pub fn job(site: &[u8], cond: &[u8], sheet: &[u8]) -> Vec<u8> {
+    let mut file = [site, cond, sheet].concat();
+    let distances = [sheet.len(), sheet.len() + cond.len(), file.len()];
+    distances.iter().for_each(|d| file.extend((*d as u32).to_le_bytes()));
+    file
+}

@@ -1,0 +1,286 @@
+//! The proved library beside the desk in plain Rust, on the same inputs in one run. See bench/run and docs/PERFORMANCE.md.
+//!
+//! Each line: the input and its size, the time of a call of the library and of the Rust function in microseconds, and their ratio.
+//! Times are medians of processor time; calls of the two are interleaved. All answers and buffers are compared; a difference ends the run.
+
+mod desk;
+mod inputs;
+mod library;
+mod stack;
+
+use desk::{SITE, TABLE, WORK};
+use std::time::Duration;
+
+/// Results and work buffers, for one side.
+#[derive(PartialEq)]
+struct Buffers {
+    site: Vec<u8>,
+    table: Vec<u8>,
+    after: Vec<u8>,
+    today: Vec<u8>,
+    classes: Vec<u8>,
+    work: Vec<u8>,
+}
+
+impl Buffers {
+    fn new() -> Buffers {
+        let of = |length| vec![0xAA; length];
+        Buffers { site: of(SITE), table: of(TABLE), after: of(32), today: of(32), classes: of(256), work: of(WORK) }
+    }
+
+    fn results(&mut self) -> desk::Results<'_> {
+        let Buffers { site, table, after, today, classes, work } = self;
+        desk::Results { site, table, after, today, classes, work }
+    }
+}
+
+/// What is called.
+enum Call {
+    List(Vec<u8>, Vec<u8>),
+    Apply(Vec<u8>, Vec<u8>),
+    Rewrite(Vec<u8>, Vec<u8>),
+    Classes(Vec<u8>),
+    Job(Vec<u8>, Vec<u8>, Vec<u8>, Vec<u8>),
+}
+
+impl Call {
+    fn job(site: Vec<u8>, cond: Vec<u8>, sheet: Vec<u8>) -> Call {
+        let file = inputs::job(&site, &cond, &sheet);
+        Call::Job(file, site, cond, sheet)
+    }
+
+    /// The answer's numbers: the reason, W and the counts.
+    fn library(&self, out: &mut Buffers) -> Vec<u32> {
+        match self {
+            Call::List(site, cond) => {
+                let r = library::list(site, cond, &mut out.after, &mut out.work);
+                vec![r.reason, r.place, r.count]
+            }
+            Call::Apply(site, sheet) => {
+                let r = library::apply(site, sheet, &mut out.site);
+                vec![r.reason, r.place]
+            }
+            Call::Rewrite(cond, sheet) => {
+                let r = library::rewrite(cond, sheet, &mut out.table);
+                vec![r.reason, r.place, r.nodes]
+            }
+            Call::Classes(site) => {
+                let r = library::classes(site, &mut out.classes);
+                vec![r.reason, r.place, r.count]
+            }
+            Call::Job(file, ..) => {
+                let r = library::job(file, out.results());
+                vec![r.reason, r.place, r.after, r.today, r.nodes, r.classes]
+            }
+        }
+    }
+
+    fn rust(&self, out: &mut Buffers) -> Vec<u32> {
+        match self {
+            Call::List(site, cond) => {
+                let r = desk::list(site, cond, &mut out.after, &mut out.work);
+                vec![r.reason, r.place, r.count]
+            }
+            Call::Apply(site, sheet) => {
+                let r = desk::apply(site, sheet, &mut out.site);
+                vec![r.reason, r.place]
+            }
+            Call::Rewrite(cond, sheet) => {
+                let r = desk::rewrite(cond, sheet, &mut out.table);
+                vec![r.reason, r.place, r.nodes]
+            }
+            Call::Classes(site) => {
+                let r = desk::classes(site, &mut out.classes);
+                vec![r.reason, r.place, r.count]
+            }
+            Call::Job(file, ..) => {
+                let r = desk::job(file, out.results());
+                vec![r.reason, r.place, r.after, r.today, r.nodes, r.classes]
+            }
+        }
+    }
+
+    /// Slots and arcs of the site, nodes of the condition, edits of the sheet.
+    fn size(&self) -> [Option<usize>; 4] {
+        let slots = |site: &[u8]| Some(inputs::slots(site) as usize);
+        let arcs = |site: &[u8]| Some(inputs::arcs(site) as usize);
+        let nodes = |cond: &[u8]| Some(cond.len() / 6);
+        let edits = |sheet: &[u8]| Some(sheet.len() / 4);
+        match self {
+            Call::List(site, cond) => [slots(site), arcs(site), nodes(cond), None],
+            Call::Apply(site, sheet) => [slots(site), arcs(site), None, edits(sheet)],
+            Call::Rewrite(cond, sheet) => [None, None, nodes(cond), edits(sheet)],
+            Call::Classes(site) => [slots(site), arcs(site), None, None],
+            Call::Job(_, site, cond, sheet) => [slots(site), arcs(site), nodes(cond), edits(sheet)],
+        }
+    }
+
+    /// What came of it, in a word or two.
+    fn outcome(&self, answer: &[u32]) -> String {
+        match self {
+            Call::List(..) => format!("{} listed", answer[2]),
+            Call::Apply(..) => "through".to_string(),
+            Call::Rewrite(..) => format!("{} nodes", answer[2]),
+            Call::Classes(..) => format!("{} classes", answer[2]),
+            Call::Job(..) => format!("{} nodes, {} classes", answer[4], answer[5]),
+        }
+    }
+}
+
+#[repr(C)]
+struct Clock {
+    seconds: i64,
+    nanoseconds: i64,
+}
+
+extern "C" {
+    fn clock_gettime(clock: i32, time: *mut Clock) -> i32;
+}
+
+/// The processor time of this thread, on Linux: what other programs do at the same time does not count.
+fn now() -> Duration {
+    const THREAD: i32 = 3;
+    let mut time = Clock { seconds: 0, nanoseconds: 0 };
+    // Safety: `time` is a timespec of a 64-bit Linux.
+    assert_eq!(unsafe { clock_gettime(THREAD, &mut time) }, 0);
+    Duration::new(time.seconds as u64, time.nanoseconds as u32)
+}
+
+fn time(turns: u32, mut f: impl FnMut()) -> Duration {
+    let start = now();
+    (0..turns).for_each(|_| f());
+    (now() - start) / turns
+}
+
+fn median(mut times: Vec<Duration>) -> f64 {
+    times.sort();
+    times[times.len() / 2].as_secs_f64() * 1e6
+}
+
+fn title(text: &str) {
+    println!("\n{text}");
+    let (what, outcome) = ("input", "outcome");
+    println!("{what:44} slots   arcs nodes edits  {outcome:24} library µs     Rust µs ratio");
+}
+
+fn measure(what: &str, call: Call) {
+    let (mut ours, mut theirs) = (Buffers::new(), Buffers::new());
+    let (answer, other) = (call.library(&mut ours), call.rust(&mut theirs));
+    assert!(answer == other && ours == theirs, "{what}: the library and the Rust differ, {answer:?} and {other:?}");
+    assert_eq!(answer[0], 0, "{what}: refused");
+    let once = time(1, || drop(std::hint::black_box(call.library(&mut ours))));
+    let turns = (Duration::from_micros(800).as_nanos() / once.as_nanos().max(1)).clamp(1, 1000) as u32;
+    let samples = if once > Duration::from_millis(30) { 5 } else { 15 };
+    let (mut a, mut b) = (Vec::new(), Vec::new());
+    for _ in 0..samples {
+        a.push(time(turns, || drop(std::hint::black_box(call.library(&mut ours)))));
+        b.push(time(turns, || drop(std::hint::black_box(call.rust(&mut theirs)))));
+    }
+    let (a, b) = (median(a), median(b));
+    let [slots, arcs, nodes, edits] = call.size().map(|n| n.map_or("-".to_string(), |n| n.to_string()));
+    let outcome = call.outcome(&answer);
+    println!("{what:44} {slots:>5} {arcs:>6} {nodes:>5} {edits:>5}  {outcome:24} {a:>10.1}  {b:>10.1} {:>5.2}", a / b);
+}
+
+fn listing() {
+    let (sparse, dense) = (inputs::random(256, 2), inputs::full(256));
+    title("Listing: nodes, on a sparse and on a dense site");
+    for n in [64, 128, 256, 512, 1024, 2048] {
+        measure("one path: nots, diamonds, boxes; sparse", Call::List(sparse.clone(), inputs::line(n)));
+        measure("one path: nots, diamonds, boxes; dense", Call::List(dense.clone(), inputs::line(n)));
+        measure("shared: ors, ands, diamonds, boxes; sparse", Call::List(sparse.clone(), inputs::mixed(n, 17)));
+        measure("shared: ors, ands, diamonds, boxes; dense", Call::List(dense.clone(), inputs::mixed(n, 17)));
+    }
+    title("Listing: paths, each node the or of the one before with itself");
+    for k in [1, 10, 100, 1000, 2000] {
+        measure(&format!("2^{k} paths"), Call::List(sparse.clone(), inputs::shared(k + 1)));
+    }
+    title("Listing: one loop, along one way");
+    for (what, way) in [("link 0", 0), ("reverse of link 0", 8), ("link 4", 4), ("reverse of link 4", 12)] {
+        measure(&format!("mu along {what}; sparse"), Call::List(sparse.clone(), inputs::reach(way)));
+        measure(&format!("mu along {what}; dense"), Call::List(dense.clone(), inputs::reach(way)));
+    }
+    title("Listing: loops in loops, mu and nu by turns, on a chain");
+    for (depth, sizes) in [(1, [16, 64, 256]), (2, [16, 64, 256]), (3, [16, 32, 64])] {
+        for n in sizes {
+            measure(&format!("{depth} deep"), Call::List(inputs::chain(n), inputs::nested(depth)));
+        }
+    }
+}
+
+fn applying() {
+    let (sparse, dense) = (inputs::random(256, 2), inputs::full(256));
+    title("Applying: edits, on a sparse and on a dense site");
+    for n in [1, 2, 4, 8, 16, 32, 64] {
+        measure("all but DS and AS; sparse", Call::Apply(sparse.clone(), inputs::small_edits(n)));
+        measure("all but DS and AS; dense", Call::Apply(dense.clone(), inputs::small_edits(n)));
+        measure("DS and AS; sparse", Call::Apply(sparse.clone(), inputs::slots_gone(n)));
+        measure("DS and AS; dense", Call::Apply(dense.clone(), inputs::slots_gone(n)));
+    }
+}
+
+fn rewriting() {
+    title("Rewriting: nodes");
+    for n in [64, 128, 256, 512, 1024, 2047] {
+        measure("no edit", Call::Rewrite(inputs::mixed(n, 17), Vec::new()));
+        if n < 1500 {
+            measure("AP, one label", Call::Rewrite(inputs::mixed(n, 17), inputs::labels(1)));
+            measure("AP 64 times, one label", Call::Rewrite(inputs::mixed(n, 17), inputs::labels(64)));
+            measure("DT1 of link 0, one way in 17", Call::Rewrite(inputs::mixed(n, 17), inputs::cuts(1)));
+        }
+        if n < 600 {
+            measure("DS, ways 0 to 15", Call::Rewrite(inputs::mixed(n, 16), inputs::slots_gone(1)));
+        }
+    }
+    title("Rewriting: edits, 64 nodes");
+    for k in [1, 4, 16, 64] {
+        measure("AP, one label", Call::Rewrite(inputs::mixed(64, 17), inputs::labels(k)));
+    }
+    for k in [1, 2, 3, 4] {
+        measure("DT1 of link 0, one way in 17", Call::Rewrite(inputs::mixed(64, 17), inputs::cuts(k)));
+    }
+}
+
+fn classing() {
+    title("Classes: slots, on sparse and on dense sites");
+    for n in [16, 32, 64, 128, 256] {
+        measure("a chain", Call::Classes(inputs::chain(n)));
+        measure("a chain and 2 random arcs a slot and link", Call::Classes(inputs::random(n, 2)));
+        measure("a chain and half of all arcs", Call::Classes(inputs::random(n, n * 7 / 10)));
+        measure("a chain and all arcs", Call::Classes(inputs::full(n)));
+    }
+    title("Classes: rounds, all slots, no label, no name");
+    measure("all arcs by links 0 to 3", Call::Classes(inputs::uniform()));
+    measure("link 4 a chain, 128 rounds", Call::Classes(inputs::rounds(false)));
+    measure("both, 128 rounds", Call::Classes(inputs::rounds(true)));
+}
+
+fn jobs() {
+    title("Jobs");
+    let sites = [("16 slots", inputs::random(16, 2)), ("sparse", inputs::random(256, 2)), ("dense", inputs::full(256))];
+    for (what, site) in sites {
+        let job = |cond, sheet| Call::job(site.clone(), cond, sheet);
+        measure(&format!("R, DT1; {what}"), job(inputs::reach(4), inputs::cuts(1)));
+        measure(&format!("R, 16 edits; {what}"), job(inputs::reach(4), inputs::small_edits(16)));
+        measure(&format!("512 nodes, DS; {what}"), job(inputs::mixed(512, 16), inputs::slots_gone(1)));
+        measure(&format!("1,024 nodes, 64 AP; {what}"), job(inputs::mixed(1024, 17), inputs::labels(64)));
+    }
+}
+
+fn main() {
+    match std::env::args().nth(1).as_deref() {
+        Some("stack") => return stack::show(),
+        Some("list") => return listing(),
+        Some("apply") => return applying(),
+        Some("rewrite") => return rewriting(),
+        Some("classes") => return classing(),
+        Some("job") => return jobs(),
+        _ => {}
+    }
+    listing();
+    applying();
+    rewriting();
+    classing();
+    jobs();
+    stack::show();
+}
