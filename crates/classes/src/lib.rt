@@ -111,7 +111,7 @@ fn marks_of(site: &[u8]) -> [u8; ROWS_BYTES]
 // The partition before the first round: one class, split by what is said of its slots.
 fn start(site: &[u8]) -> [u8; SET_SLOTS]
     requires { ⌜ length (now site) ≡ siteBytes ⌝ }
-    ensures { λ r. ⌜ Parts (like 0 (siteOf (now (site .entry)))) r ⌝ }
+    ensures { λ r. ⌜ Parts (like 0 (siteOf (now (site .entry))) (siteOf (now (site .entry)))) r ⌝ }
 {
     let sig = marks_of(site);
     let one = [0u8; SET_SLOTS];

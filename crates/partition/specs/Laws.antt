@@ -4,3 +4,4 @@ pub mod Eight
 pub mod Parts
 pub mod Rows
 pub mod Rounds
+pub mod Between

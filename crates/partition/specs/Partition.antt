@@ -1,18 +1,22 @@
 -- Partitions of the slots: a list that gives each slot the lowest slot of its class.
 use mathlib.Core.Path.{_≡_}
-use mathlib.Core.Bool.{_&&_}
+use mathlib.Core.Bool.{true, _&&_}
 use mathlib.Core.List.{List}
 use Prim.Native.Nat.{ℕ, _+_, _<_}
 use lib.ListN.{getD}
-use Rattle.finite.specs.Tests.{same, first}
+use Rattle.finite.specs.Tests.{same, any, first}
 use Rattle.bitset.specs.Set.{setSlots}
 use Rattle.semantics.specs.Holds.{Model}
 use Rattle.semantics.specs.Laws.Refine.{Rel, like}
 use Rattle.partition.specs.Rows.{sameRow, seeSame, Neighbours}
 
+-- slot s, by its number in p, and slot t, by its number in q, are in one class
+abbrev pub across : List ℕ → List ℕ → Rel
+across p q s t = same (getD p s 0) (getD q t 0)
+
 -- s and t are in one class
 abbrev pub together : List ℕ → Rel
-together p s t = same (getD p s 0) (getD p t 0)
+together p = across p p
 
 -- each slot has the lowest slot of its class as number
 unfoldable pub Partition : List ℕ → Type 0
@@ -23,13 +27,18 @@ pub record Parts (E : Rel) (p : List ℕ) : Type 0 where
   pub lowest : Partition p
   pub by : (s t : ℕ) → s < setSlots → t < setSlots → together p s t ≡ E s t
 
+-- q gives each slot t of a second site the class of p, the partition of a first, whose slots E relates to t. It has one
+pub record Follows (E : Rel) (p q : List ℕ) : Type 0 where
+  pub met : (t : ℕ) → t < setSlots → any setSlots (E t) ≡ true
+  pub by : (t s : ℕ) → t < setSlots → s < setSlots → across q p t s ≡ E t s
+
 -- the classes of q, split by their rows of R; and by the classes of p that their rows of R are in
 unfoldable pub byRow : List ℕ → List ℕ → Rel
 byRow q R s t = together q s t && sameRow R s t
 
 unfoldable pub bySeen : List ℕ → List ℕ → List ℕ → Rel
-bySeen q R p s t = together q s t && seeSame R p s t
+bySeen q R p s t = together q s t && seeSame R p R p s t
 
 -- q is the next round's partition, where W are the neighbours and p is the partition of some round
 unfoldable pub Next : List ℕ → List ℕ → List ℕ → Type 0
-Next W p q = (M : Model) → Neighbours M W → (k : ℕ) → Parts (like k M) p → Parts (like (k + 1) M) q
+Next W p q = (M : Model) → Neighbours M W → (k : ℕ) → Parts (like k M M) p → Parts (like (k + 1) M M) q

@@ -24,9 +24,9 @@ sameRow R s t = all setSlots (λ c. Bool·beq (inRow R s c) (inRow R t c))
 unfoldable pub sees : List ℕ → List ℕ → ℕ → ℕ → Bool
 sees R p s c = any setSlots (λ t. inRow R s t && same (getD p t 0) c)
 
--- the slots of row s and those of row t are in the same classes of p
-unfoldable pub seeSame : List ℕ → List ℕ → ℕ → ℕ → Bool
-seeSame R p s t = all setSlots (λ c. Bool·beq (sees R p s c) (sees R p t c))
+-- the slots of row s of R are in the same classes, by their numbers p, as those of row t of S by q
+unfoldable pub seeSame : List ℕ → List ℕ → List ℕ → List ℕ → ℕ → ℕ → Bool
+seeSame R p S q s t = all setSlots (λ c. Bool·beq (sees R p s c) (sees S q t c))
 
 -- each slot's row of G are the classes of its row of R
 unfoldable pub Signed : List ℕ → List ℕ → List ℕ → Type 0

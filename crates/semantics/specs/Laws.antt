@@ -16,8 +16,8 @@ pub mod Steps
 pub mod Image
 pub mod Rewrite
 -- classes
-pub mod Invariance
 pub mod Refine
+pub mod Invariance
 pub mod Describe
 pub mod Classes
 -- the demands, for models and tables

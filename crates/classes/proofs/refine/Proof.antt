@@ -13,7 +13,7 @@ use Rattle.classes.proofs.refine.Statement.{statement}
 use Rattle.classes.proofs.refine.Tie as tie
 
 abbrev Inv-loop : tie.InvT-loop
-Inv-loop site ways p₀ rounds₀ p rounds = (rounds ≤ setSlots) × (length p ≡ setSlots) × Parts (like rounds (siteOf site)) p
+Inv-loop site ways p₀ rounds₀ p rounds = (rounds ≤ setSlots) × (length p ≡ setSlots) × Parts (like rounds (siteOf site) (siteOf site)) p
 
 abbrev μ-loop : tie.MeasureT-loop
 μ-loop site ways p₀ rounds₀ p rounds = setSlots - rounds

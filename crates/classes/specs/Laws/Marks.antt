@@ -87,13 +87,13 @@ module _ (M : Model) where
       subst (λ (z : ℕ). (mark M z c && same y (setSlots * z + c)) ≡ true) (sym (e ∙ same-eq m)) (s .2)))
 
   -- slots with the same marks agree, and the other way
-  marks-agree : (s t : ℕ) → ((c : ℕ) → c < marks → mark M s c ≡ mark M t c) → agree M s t ≡ true
+  marks-agree : (s t : ℕ) → ((c : ℕ) → c < marks → mark M s c ≡ mark M t c) → agree M M s t ≡ true
   unfolding agree
   marks-agree s t f = and-in (eq-beq (sym (mark-low s 0 (omega arith)) ∙ f 0 (omega arith) ∙ mark-low t 0 (omega arith))) (and-in
       (all-in labels _ (λ p h. eq-beq (sym (mark-label s p h) ∙ f (labelsFrom + p) (omega arith) ∙ mark-label t p h)))
       (all-in names _ (λ n h. eq-beq (same-turned s (M .place n) ∙ sym (mark-name s n) ∙ f (namesFrom + n) (omega arith) ∙ mark-name t n ∙ sym (same-turned t (M .place n))))))
 
-  agree-marks : (s t : ℕ) → agree M s t ≡ true → (c : ℕ) → c < marks → mark M s c ≡ mark M t c
+  agree-marks : (s t : ℕ) → agree M M s t ≡ true → (c : ℕ) → c < marks → mark M s c ≡ mark M t c
   unfolding agree
   agree-marks s t e c h =
       let a : Bool·beq (M .present s) (M .present t) ≡ true = and-l _ _ e in
@@ -111,7 +111,7 @@ module _ (M : Model) where
       (λ y. let l = not-below c namesFrom y in
       mark-high s c l ∙ sym (same-turned s (M .place (c - namesFrom))) ∙ beq-true _ _ (all-out names _ on-names (c - namesFrom) (omega arith)) ∙ same-turned t (M .place (c - namesFrom)) ∙ sym (mark-high t c l)))
 
-  rows-agree : (G : List ℕ) → Marked M G → (s t : ℕ) → s < setSlots → t < setSlots → sameRow G s t ≡ agree M s t
+  rows-agree : (G : List ℕ) → Marked M G → (s t : ℕ) → s < setSlots → t < setSlots → sameRow G s t ≡ agree M M s t
   unfolding Marked sameRow
   rows-agree G g s t h k = both
       (λ e. marks-agree s t (λ c l.
@@ -150,6 +150,6 @@ module _ (n : ℕ) where
   zeros-partition s h = zeros-at n s ∙ sym (first-is setSlots (together (replicate n 0) s) 0 (omega arith) (none-start _) (zeros-together s 0))
 
   -- split by their marks they are the partition before the first round
-  pub marked-part : (M : Model) (G r : List ℕ) → Marked M G → Parts (byRow (replicate n 0) G) r → Parts (like 0 M) r
+  pub marked-part : (M : Model) (G r : List ℕ) → Marked M G → Parts (byRow (replicate n 0) G) r → Parts (like 0 M M) r
   unfolding byRow like
   marked-part M G r g = parts-map _ _ r (λ s t h k. rw (zeros-together s t) (rows-agree M G g s t h k))

@@ -14,7 +14,7 @@ use Rattle.partition.specs.Partition.{Parts, Next}
 use Rattle.partition.specs.Laws.Rounds.{same-stable, stable-class, last-stable}
 use Rattle.classes.specs.Classes.{Classes}
 
-module _ (M : Model) (k : ℕ) (p : List ℕ) (l : length p ≡ setSlots) (n : Parts (like k M) p) where
+module _ (M : Model) (k : ℕ) (p : List ℕ) (l : length p ≡ setSlots) (n : Parts (like k M M) p) where
   -- a round that changed nothing
   pub refined-still : (W q : List ℕ) → Neighbours M W → Next W p q → all setSlots (λ s. same (getD p s 0) (getD q s 0)) ≡ true → Classes M p
   refined-still W q b f e = record {

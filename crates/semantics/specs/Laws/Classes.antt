@@ -14,13 +14,13 @@ use Rattle.semantics.specs.Laws.Refine.{like, like-refl, like-sym, like-
 
 module _ (M : Model) where
   -- the lowest slot that a round which told nothing apart relates to s
-  pub class-is : (k : ℕ) → Stable M k → (s : ℕ) → s < slots → IsClass M s (first slots (like k M s))
+  pub class-is : (k : ℕ) → Stable M M k → (s : ℕ) → s < slots → IsClass M s (first slots (like k M M s))
   class-is k c s h =
-      let a = first-in slots (like k M s) (any-in slots _ s h (like-refl M k s)) in
+      let a = first-in slots (like k M M s) (any-in slots _ s h (like-refl M k s)) in
       record {
         is-slot = a .0;
         alike = stable-alike M k c s _ h (a .0) .1 (a .1);
-        low = λ t l b. first-low slots (like k M s) t l (stable-alike M k c s t h l .0 b);
+        low = λ t l b. first-low slots (like k M M s) t l (stable-alike M k c s t h l .0 b);
       }
 
   pub class-same : (s t c d : ℕ) → s < slots → t < slots → IsClass M s c → IsClass M t d → (c ≡ d) ↔ Alike M s t
@@ -28,10 +28,10 @@ module _ (M : Model) where
       let sc = alike-like M s c h (p .is-slot) .0 (p .alike) in
       let td = alike-like M t d k (q .is-slot) .0 (q .alike) in (
         λ e. alike-like M s t h k .1
-            (like-trans M slots s d t (subst (λ x. like slots M s x ≡ true) e sc) (like-sym M slots t d td)),
+            (like-trans M M M slots s d t (subst (λ x. like slots M M s x ≡ true) e sc) (like-sym M M slots t d td)),
         λ z.
             let st = alike-like M s t h k .0 z in
-            let dc = q .low c (p .is-slot) (alike-like M t c k (p .is-slot) .1 (like-trans M slots t s c (like-sym M slots s t st) sc)) in
-            let cd = p .low d (q .is-slot) (alike-like M s d h (q .is-slot) .1 (like-trans M slots s t d st td)) in
+            let dc = q .low c (p .is-slot) (alike-like M t c k (p .is-slot) .1 (like-trans M M M slots t s c (like-sym M M slots s t st) sc)) in
+            let cd = p .low d (q .is-slot) (alike-like M s d h (q .is-slot) .1 (like-trans M M M slots s t d st td)) in
             omega arith,
       )

@@ -32,7 +32,7 @@ alike-untold M ρ s t h k = (
   λ a z.
       let e = alike-holds M s t h k a (z .0) (z .1) ρ in
       either (z .2) (λ q. q .1 (e .0 (q .0))) (λ q. q .0 (e .1 (q .1))),
-  λ n. either (look (like slots M s t))
+  λ n. either (look (like slots M M s t))
       (λ p. alike-like M s t h k .1 p)
       (λ p. absurd (n (tells-apart M ρ s t h k (λ a. clash (alike-like M s t h k .0 a) p)))),
 )

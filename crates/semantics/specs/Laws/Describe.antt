@@ -54,10 +54,10 @@ describe M zero s =
     (join kAnd (conj labels (λ p. sign (M .marked p s) (end kLabel p))) (conj names (λ n. sign (same s (M .place n)) (end kName n))))
 describe M (suc k) s = join kAnd (describe M k s) (conj linkWays (λ w. covered M w (describe M k) s))
 
--- its value is what the rounds say
-module _ (M : Model) (ρ : Env) where
+-- its value in N is what the rounds say
+module _ (N : Model) (ρ : Env) where
   abbrev value : Block → ℕ → Bool
-  value x t = eval M ρ (fill [] x) t
+  value x t = eval N ρ (fill [] x) t
 
   conj-value : (n : ℕ) (f : ℕ → Block) (t : ℕ) → value (conj n f) t ≡ all n (λ i. value (f i) t)
   unfolding eval fill atom two conj all
@@ -82,31 +82,31 @@ module _ (M : Model) (ρ : Env) where
       go true = refl
       go false = refl
 
-  covered-value : (w : ℕ) (f : ℕ → Block) (E : ℕ → ℕ → Bool) → ((x t : ℕ) → value (f x) t ≡ E x t)
-      → (s t : ℕ) → value (covered M w f s) t ≡ match M (wayOf w) E s t
+  covered-value : (M : Model) (w : ℕ) (f : ℕ → Block) (E : ℕ → ℕ → Bool) → ((x t : ℕ) → value (f x) t ≡ E x t)
+      → (s t : ℕ) → value (covered M w f s) t ≡ match M N (wayOf w) E s t
   unfolding eval fill atom one two covered match covers
-  covered-value w f E h s t = ap₂ _&&_ (conj-value slots _ t ∙ ap (all slots) (fun-ext forth)) (ap (all slots) (fun-ext back))
+  covered-value M w f E h s t = ap₂ _&&_ (conj-value slots _ t ∙ ap (all slots) (fun-ext forth)) (ap (all slots) (fun-ext back))
     where
       forth : (x : ℕ) → value (cond (step M (wayOf w) s x) (on kDia w (f x)) yes) t
-          ≡ (not (step M (wayOf w) s x) || any slots (λ u. step M (wayOf w) t u && E x u))
-      forth x = either (look (step M (wayOf w) s x)) (λ e. rw e (ap (any slots) (fun-ext (λ u. ap (λ y. step M (wayOf w) t u && y) (h x u))))) (λ e. rw e)
+          ≡ (not (step M (wayOf w) s x) || any slots (λ u. step N (wayOf w) t u && E x u))
+      forth x = either (look (step M (wayOf w) s x)) (λ e. rw e (ap (any slots) (fun-ext (λ u. ap (λ y. step N (wayOf w) t u && y) (h x u))))) (λ e. rw e)
 
-      back : (u : ℕ) → (not (step M (wayOf w) t u) || value (disj slots (λ x. cond (step M (wayOf w) s x) (f x) (no! yes))) u)
-          ≡ (not (step M (wayOf w) t u) || any slots (λ x. step M (wayOf w) s x && E x u))
+      back : (u : ℕ) → (not (step N (wayOf w) t u) || value (disj slots (λ x. cond (step M (wayOf w) s x) (f x) (no! yes))) u)
+          ≡ (not (step N (wayOf w) t u) || any slots (λ x. step M (wayOf w) s x && E x u))
       back u =
-          ap (λ y. not (step M (wayOf w) t u) || y)
+          ap (λ y. not (step N (wayOf w) t u) || y)
           (disj-value slots _ u ∙ ap (any slots) (fun-ext (λ x. either (look (step M (wayOf w) s x)) (λ e. rw e (h x u)) (λ e. rw e))))
 
-  describe-value : (k s t : ℕ) → value (describe M k s) t ≡ like k M s t
+  describe-value : (M : Model) (k s t : ℕ) → value (describe M k s) t ≡ like k M N s t
   unfolding eval fill atom two describe like agree
-  describe-value zero s t =
+  describe-value M zero s t =
       ap₂ _&&_ (sign-value _ (end kHere 0) t)
       (ap₂ _&&_
       (conj-value labels _ t ∙ ap (all labels) (fun-ext (λ p. sign-value _ (end kLabel p) t)))
       (conj-value names _ t ∙ ap (all names) (fun-ext (λ n. sign-value _ (end kName n) t))))
-  describe-value (suc k) s t =
-      ap₂ _&&_ (describe-value k s t)
-      (conj-value linkWays _ t ∙ ap (all linkWays) (fun-ext (λ w. covered-value w (describe M k) (like k M) (describe-value k) s t)))
+  describe-value M (suc k) s t =
+      ap₂ _&&_ (describe-value M k s t)
+      (conj-value linkWays _ t ∙ ap (all linkWays) (fun-ext (λ w. covered-value M w (describe M k) (like k M N) (describe-value M k) s t)))
 
 -- blocks of whole conditions, without variables, loops and slot numbers, with parameters in range
 plainLeaf : Leaf → Bool
@@ -272,17 +272,26 @@ ground-table x g = record {
   slot-free = ground-free x g 0;
 }
 
+-- the table that describes s in M up to k rounds holds in N at the slots that these do not tell apart from s
+pub describes : (M : Model) (k s : ℕ)
+    → (xs : List Node) × ClosedTable xs × ((N : Model) (ρ : Env) (t : ℕ) → t < slots → (like k M N s t ≡ true) ↔ Holds N ρ (formOf xs) t)
+unfolding formOf
+describes M k s =
+    let x = describe M k s in
+    let xs = emit x 0 in
+    let g = describe-ground M k s in
+    let c = ground-table x g in (
+      xs,
+      c,
+      λ N ρ t l. subst (λ (b : Bool). (b ≡ true) ↔ Holds N ρ (treeAt xs (length xs - 1)) t)
+          (ap (λ φ. eval N ρ φ t) (ground-form x g) ∙ describe-value N ρ M k s t)
+          (eval-table xs (c .fits) (c .even-rule) (length xs - 1) (omega (arith, c .some)) N ρ t l),
+    )
+
 -- slots that are not alike are told apart: by the table that describes one of them
 pub tells-apart : (M : Model) (ρ : Env) (s t : ℕ) → s < slots → t < slots → ¬ Alike M s t
     → (xs : List Node) × ClosedTable xs × TellsApart M ρ (formOf xs) s t
-unfolding TellsApart formOf
+unfolding TellsApart
 tells-apart M ρ s t h k a =
-    let x = describe M slots s in
-    let xs = emit x 0 in
-    let g = describe-ground M slots s in
-    let c = ground-table x g in
-    let at : (u : ℕ) → u < slots → (like slots M s u ≡ true) ↔ Holds M ρ (treeAt xs (length xs - 1)) u =
-    λ u l. subst (λ (b : Bool). (b ≡ true) ↔ Holds M ρ (treeAt xs (length xs - 1)) u)
-    (ap (λ φ. eval M ρ φ u) (ground-form x g) ∙ describe-value M ρ slots s u)
-    (eval-table xs (c .fits) (c .even-rule) (length xs - 1) (omega (arith, c .some)) M ρ u l) in
-    (xs, c, inl (at s h .0 (like-refl M slots s), λ q. a (alike-like M s t h k .1 (at t k .1 q))))
+    let d = describes M slots s in
+    (d .0, d .1, inl (d .2 M ρ s h .0 (like-refl M slots s), λ q. a (alike-like M s t h k .1 (d .2 M ρ t k .1 q))))
