@@ -64,6 +64,7 @@ pub fn show() {
         ("listing, one node", Call::List(dense.clone(), inputs::shared(1))),
         ("applying, 64 edits", Call::Apply(dense.clone(), inputs::slots_gone(64))),
         ("rewriting, to 1,792 nodes", Call::Rewrite(mixed.clone(), sheet.clone())),
+        ("rewriting, a line of 2,048 nodes", Call::Rewrite(inputs::line(2048), inputs::labels(0))),
         ("classes", Call::Classes(dense.clone())),
         ("the job, 2,047 loops in each other", Call::job(dense, loops, inputs::labels(0))),
     ] {

@@ -7,7 +7,7 @@
  * Each pointer is valid for its length and is not NULL, even for a length of 0. No result or work buffer overlaps another buffer or an
  * input. Nothing is kept between calls, so threads may call at the same time.
  *
- * Stack: listing recurses as deep as the condition. Give a thread that calls these functions DESK_STACK_BYTES.
+ * Stack: listing and the check of a condition recurse as deep as the condition. Give a thread that calls these functions DESK_STACK_BYTES.
  */
 #ifndef DESK_H
 #define DESK_H

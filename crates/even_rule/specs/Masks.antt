@@ -39,6 +39,10 @@ Odds S odds = (j : ℕ) → 6 * j + 6 ≤ length S → Shows false (treeAt (tabl
 unfoldable pub Kept : List ℕ → List ℕ → Type 0
 Kept done done′ = (j : ℕ) → getD done j 0 ≡ 1 → getD done′ j 0 ≡ 1
 
+-- the nodes from i on are done
+unfoldable pub DoneFrom : (S done : List ℕ) → ℕ → Type 0
+DoneFrom S done i = (j : ℕ) → i ≤ j → 6 * j + 6 ≤ length S → getD done j 0 ≡ 1
+
 -- a table whose nodes fit
 pub record Fit (S : List ℕ) : Type 0 where
   pub few : length S ≤ 12288

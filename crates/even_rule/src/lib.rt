@@ -121,16 +121,15 @@ fn descend(table: &[u8], done: &mut [u8], evens: &mut [u16], odds: &mut [u16], i
     visit(table, done, evens, odds, r);
 }
 
-// The masks of every node, the lowest first.
+// The masks of every node, from the last one down: the visit of a node goes on to its children, and one that is done is passed by.
 fn visit_all(table: &[u8], done: &mut [u8], evens: &mut [u16], odds: &mut [u16])
     requires { ⌜ Ready (now table) (now done) (now evens) (now odds) ⌝ }
     ensures { λ _. ⌜ Rows (now (table .entry)) (now (evens .exit)) (now (odds .exit)) ⌝ }
 {
-    let n = table.len() / 6;
-    let mut i = 0;
-    while i < n {
+    let mut i = table.len() / 6;
+    while 0 < i {
+        i -= 1;
         visit(table, done, evens, odds, i);
-        i += 1;
     }
 }
 

@@ -1,22 +1,32 @@
--- Inputs that meet no item are accepted by each entry point's chain of items.
+-- Each entry point's chain of items: inputs that meet no item are accepted, and the reasons are 0 to 14.
 use mathlib.Core.Path.{_≡_}
 use mathlib.Core.List.{List}
 use Prim.Native.Nat.{ℕ}
 use Rattle.verdict.specs.declared.Verdict.the-variants.{Accepted}
+use Rattle.bitset.specs.Set.{setBytes}
+use Rattle.site.specs.Layout.{siteBytes}
+use Rattle.site.specs.Site.{siteOf}
+use Rattle.site.specs.Refusal.{siteVerdict}
+use Rattle.sheet.specs.Bytes.{editsOf}
+use Rattle.sheet.specs.Refusal.{sheetVerdict}
+use Rattle.listing.specs.Listed.{workBytes}
 use Rattle.applying.specs.Refusal.{goesVerdict}
 use Rattle.rewriting.specs.Refusal.{lengthVerdict}
-use Rattle.refusals.specs.Laws.Items.{buffer-in}
+use Rattle.refusals.specs.Refusal.{bufferVerdict}
+use Rattle.refusals.specs.Laws.Items.{buffer-in, Numbered, numbered-then, numbered-buffer, numbered-site, numbered-condition, numbered-sheet, numbered-goes}
 use Rattle.list_entry.specs.Refusal.{listVerdict}
 use Rattle.list_entry.specs.Laws.Refusal.{Accepts}
 use Rattle.apply_entry.specs.Refusal.{applyVerdict}
 use Rattle.apply_entry.specs.Laws.Refusal.{Appliable}
 use Rattle.rewrite_entry.specs.Refusal.{rewriteVerdict}
 use Rattle.rewrite_entry.specs.Laws.Refusal.{Rewritable}
-use Rattle.classes_entry.specs.Refusal.{classesVerdict}
+use Rattle.classes_entry.specs.Refusal.{classesBytes, classesVerdict}
 use Rattle.classes_entry.specs.Laws.Refusal as classes
 use Rattle.job_entry.specs.Buffers.{Buffers}
 use Rattle.job_entry.specs.Refusal.{buffersVerdict, jobVerdict}
 use Rattle.job_entry.specs.Laws.Refusal.{JobAccepted}
+
+-- ---- no item is met
 
 pub list-accepted : (setLen workLen : ℕ) (site table : List ℕ) → Accepts setLen workLen site table → listVerdict setLen workLen site table ≡ Accepted
 unfolding listVerdict
@@ -51,3 +61,24 @@ job-accepted b file a =
       a .goes,
       a .short,
     )
+
+-- ---- the reasons are 0 to 14; of rewriting and of the job `rewrite-numbered` and `job-numbered` say it
+
+pub list-numbered : (setLen workLen : ℕ) (site table : List ℕ) → Numbered (listVerdict setLen workLen site table)
+unfolding listVerdict
+list-numbered setLen workLen site table =
+    numbered-then (bufferVerdict setLen setBytes) _ (numbered-buffer setLen setBytes)
+    (numbered-then (bufferVerdict workLen workBytes) _ (numbered-buffer workLen workBytes)
+    (numbered-then (siteVerdict site) _ (numbered-site site) (numbered-condition table)))
+
+pub apply-numbered : (resultLen : ℕ) (site sheet : List ℕ) → Numbered (applyVerdict resultLen site sheet)
+unfolding applyVerdict
+apply-numbered resultLen site sheet =
+    numbered-then (bufferVerdict resultLen siteBytes) _ (numbered-buffer resultLen siteBytes)
+    (numbered-then (siteVerdict site) _ (numbered-site site)
+    (numbered-then (sheetVerdict sheet) _ (numbered-sheet sheet) (numbered-goes (editsOf sheet) (siteOf site))))
+
+pub classes-numbered : (classesLen : ℕ) (site : List ℕ) → Numbered (classesVerdict classesLen site)
+unfolding classesVerdict
+classes-numbered classesLen site =
+    numbered-then (bufferVerdict classesLen classesBytes) _ (numbered-buffer classesLen classesBytes) (numbered-site site)

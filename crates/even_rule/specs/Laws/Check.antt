@@ -21,7 +21,7 @@ use Rattle.condition.specs.Bytes.{nodeAt, tableOf}
 use Rattle.condition.specs.Laws.Bytes.{length-table}
 use Rattle.condition.specs.Laws.Fits.{node-tree}
 use Rattle.even_rule.specs.Free.{FreeRows, noMasks}
-use Rattle.even_rule.specs.Masks.{Shows, Row, Rows, Odds, Fit, Good, Kept, Ready, United}
+use Rattle.even_rule.specs.Masks.{Shows, Row, Rows, Odds, Fit, Good, Kept, DoneFrom, Ready, United}
 use Rattle.even_rule.specs.Laws.Shows.{even-other, even-slot, even-loop}
 
 -- ---- item 9 at a node
@@ -46,17 +46,19 @@ pub rows-odds : (S evens odds : List ℕ) → Rows S evens odds → Odds S odds
 unfolding Rows Odds Row
 rows-odds S evens odds r j h = r j h .1
 
-pub all-done : (S done evens odds : List ℕ) (n : ℕ) → length S < 6 * n + 6 → Good S done evens odds → ((j : ℕ) → j < n → getD done j 0 ≡ 1)
-    → Rows S evens odds
-unfolding Good Rows
-all-done S done evens odds n e g d j h = g j h (d j (omega arith))
+pub past-end : (S done : List ℕ) (n : ℕ) → length S < 6 * n + 6 → DoneFrom S done n
+unfolding DoneFrom
+past-end S done n e j h l = absurd (omega arith)
 
 -- one node more
-pub more-done : (done done′ : List ℕ) (i : ℕ) → Kept done done′ → ((j : ℕ) → j < i → getD done j 0 ≡ 1) → getD done′ i 0 ≡ 1
-    → (j : ℕ) → j < i + 1 → getD done′ j 0 ≡ 1
-unfolding Kept
-more-done done done′ i k d e j h =
-    either (equal? j i) (λ q. rw q e) (λ q. k j (d j (omega arith)))
+pub more-done : (S done done′ : List ℕ) (i n : ℕ) → n ≤ i + 1 → Kept done done′ → DoneFrom S done n → getD done′ i 0 ≡ 1 → DoneFrom S done′ i
+unfolding Kept DoneFrom
+more-done S done done′ i n h k d e j g l =
+    either (equal? j i) (λ q. rw q e) (λ q. k j (d j (omega arith) l))
+
+pub all-done : (S done evens odds : List ℕ) (i : ℕ) → i ≡ 0 → Good S done evens odds → DoneFrom S done i → Rows S evens odds
+unfolding Good DoneFrom Rows
+all-done S done evens odds i e g d j h = g j h (d j (omega arith) h)
 
 -- none is at the start
 pub none-done : (S : List ℕ) → Fit S → Ready S (replicate 2048 0) (replicate 2048 0) (replicate 2048 0)

@@ -1,4 +1,4 @@
--- What a job knows of inputs that it does not refuse; and the reason 0 says that it does not.
+-- What a job knows of inputs that it does not refuse; the reasons are 0 to 14, and 0 says that it does not.
 use mathlib.Core.Path.{_≡_, refl}
 use mathlib.Core.Bool.{Bool, true, false, not, _&&_, cond}
 use mathlib.Core.List.{List}
@@ -6,7 +6,6 @@ use Prim.Native.Nat.{ℕ}
 use native.Mathlib.Omega.{arith}
 use lib.ListN.{length}
 use Rattle.finite.specs.Tests.{same}
-use Rattle.finite.specs.Laws.Bools.{either, look}
 use Rattle.bitset.specs.Set.{setBytes}
 use Rattle.verdict.specs.Verdict.{reasonOf, _then_}
 use Rattle.verdict.specs.Laws.{then-assoc}
@@ -29,7 +28,7 @@ use Rattle.trailer.specs.Pieces.{siteIn, conditionIn, sheetIn}
 use Rattle.listing.specs.Listed.{workBytes}
 use Rattle.refusals.specs.Refusal.{bufferVerdict}
 use Rattle.classes_entry.specs.Refusal.{classesBytes}
-use Rattle.refusals.specs.Laws.Items.{buffer-out, then-out, length-out, Numbered, numbered-then, numbered-buffer, numbered-site, numbered-condition, numbered-sheet, numbered-goes, numbered-length}
+use Rattle.refusals.specs.Laws.Items.{buffer-out, then-out, length-out, Numbered, numbered-accepted, numbered-item, numbered-then, numbered-buffer, numbered-site, numbered-condition, numbered-sheet, numbered-goes, numbered-length}
 use Rattle.job_steps.specs.Steps.{changeVerdict}
 use Rattle.job_entry.specs.Buffers.{Buffers, Sized}
 use Rattle.job_entry.specs.Refusal.{buffersVerdict, jobVerdict}
@@ -127,15 +126,15 @@ job-accepts b file e =
     let c = change-out (siteIn file) (conditionIn file) (sheetIn file) (p .1) in
     record { sized = sized-out b (q .0); pieces = file-out file (q .1); goes = c .0; short = c .1 }
 
--- ---- no item has the number 0
+-- ---- its items have the numbers 1 to 14
 
 numbered-trailer : (file : List ℕ) → Numbered (trailerVerdict file)
-unfolding Numbered trailerVerdict
-numbered-trailer file e = either (look (item2 file)) (λ g. absurd (let z = rw g at e in omega arith)) (λ g. rw g)
+unfolding trailerVerdict
+numbered-trailer file = numbered-item (item2 file) 2 0 Accepted (omega arith) (omega arith) numbered-accepted
 
-pub job-reason : (b : Buffers) (file : List ℕ) → reasonOf (jobVerdict b file) ≡ 0 → jobVerdict b file ≡ Accepted
-unfolding jobVerdict buffersVerdict Numbered
-job-reason b file =
+pub job-numbered : (b : Buffers) (file : List ℕ) → Numbered (jobVerdict b file)
+unfolding jobVerdict buffersVerdict
+job-numbered b file =
     numbered-then (buffersVerdict b) _
     (numbered-then (bufferVerdict (length (b .site)) siteBytes) _ (numbered-buffer (length (b .site)) siteBytes)
     (numbered-then (bufferVerdict (length (b .table)) tableBytes) _ (numbered-buffer (length (b .table)) tableBytes)
@@ -149,3 +148,6 @@ job-reason b file =
     (numbered-then (sheetVerdict (sheetIn file)) _ (numbered-sheet (sheetIn file))
     (numbered-then (goesVerdict (editsOf (sheetIn file)) (siteOf (siteIn file))) _ (numbered-goes (editsOf (sheetIn file)) (siteOf (siteIn file)))
     (numbered-length (editsOf (sheetIn file)) (tableOf (conditionIn file))))))))
+
+pub job-reason : (b : Buffers) (file : List ℕ) → reasonOf (jobVerdict b file) ≡ 0 → jobVerdict b file ≡ Accepted
+job-reason b file = job-numbered b file .accepts

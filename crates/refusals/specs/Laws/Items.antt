@@ -3,7 +3,7 @@ use mathlib.Core.Path.{_≡_, refl}
 use mathlib.Core.List.{List}
 use mathlib.Core.Bool.{Bool, true, false, not, cond}
 use mathlib.Core.Logic.{_≢_}
-use Prim.Native.Nat.{ℕ, _-_, _/_, _<_}
+use Prim.Native.Nat.{ℕ, _-_, _/_, _≤_, _<_}
 use native.Mathlib.Omega.{arith}
 use lib.ListN.{length}
 use Rattle.finite.specs.Tests.{same, below, first}
@@ -52,46 +52,43 @@ pub then-out : (v w : Verdict) → v then w ≡ Accepted → (v ≡ Accepted) ×
 then-out Accepted w e = (refl, e)
 then-out (Refused n k) w e = refused e
 
--- ---- no item has the number 0, so the reason 0 says that the inputs are accepted
+-- ---- items have the numbers 1 to 14, so the reason 0 says that the inputs are accepted
 
--- v refuses with no item 0
-unfoldable pub Numbered : Verdict → Type 0
-Numbered v = reasonOf v ≡ 0 → v ≡ Accepted
+pub record Numbered (v : Verdict) : Type 0 where
+  pub to-14 : reasonOf v ≤ 14
+  pub accepts : reasonOf v ≡ 0 → v ≡ Accepted
 
-numbered-accepted : Numbered Accepted
-unfolding Numbered
-numbered-accepted e = refl
+pub numbered-accepted : Numbered Accepted
+numbered-accepted = record { to-14 = omega arith; accepts = λ e. refl }
 
-numbered-item : (b : Bool) (n w : ℕ) (v : Verdict) → 0 < n → Numbered v → Numbered (cond b (Refused n w) v)
-unfolding Numbered
-numbered-item true n w v h k e = absurd (omega arith)
-numbered-item false n w v h k e = k e
+pub numbered-item : (b : Bool) (n w : ℕ) (v : Verdict) → 0 < n → n ≤ 14 → Numbered v → Numbered (cond b (Refused n w) v)
+numbered-item true n w v h g k = record { to-14 = g; accepts = λ e. absurd (omega arith) }
+numbered-item false n w v h g k = k
 
 pub numbered-then : (v w : Verdict) → Numbered v → Numbered w → Numbered (v then w)
-unfolding Numbered
-numbered-then Accepted w h k e = k e
-numbered-then (Refused n p) w h k e = h e
+numbered-then Accepted w h k = k
+numbered-then (Refused n p) w h k = h
 
 pub numbered-buffer : (len stated : ℕ) → Numbered (bufferVerdict len stated)
 unfolding bufferVerdict
-numbered-buffer len stated = numbered-item (not (same len stated)) 1 0 Accepted (omega arith) numbered-accepted
+numbered-buffer len stated = numbered-item (not (same len stated)) 1 0 Accepted (omega arith) (omega arith) numbered-accepted
 
 pub numbered-site : (S : List ℕ) → Numbered (siteVerdict S)
 unfolding siteVerdict
 numbered-site S =
-    numbered-item (not (same (length S) siteBytes)) 3 0 _ (omega arith)
-    (numbered-item (item4 (siteOf S)) 4 0 _ (omega arith)
-    (numbered-item (item5 (siteOf S)) 5 0 _ (omega arith)
-    (numbered-item (item6 (siteOf S)) 6 0 _ (omega arith) numbered-accepted)))
+    numbered-item (not (same (length S) siteBytes)) 3 0 _ (omega arith) (omega arith)
+    (numbered-item (item4 (siteOf S)) 4 0 _ (omega arith) (omega arith)
+    (numbered-item (item5 (siteOf S)) 5 0 _ (omega arith) (omega arith)
+    (numbered-item (item6 (siteOf S)) 6 0 _ (omega arith) (omega arith) numbered-accepted)))
 
 pub numbered-condition : (S : List ℕ) → Numbered (conditionVerdict S)
 unfolding conditionVerdict
 numbered-condition S =
     let n = length (tableOf S) in
-    numbered-item (not (sizeFits (length S))) 7 0 _ (omega arith)
-    (numbered-item (below (firstUnfit S) n) 8 (firstUnfit S) _ (omega arith)
-    (numbered-item (below (firstUneven S) n) 9 (firstUneven S) _ (omega arith)
-    (numbered-item (not (closed (formOf (tableOf S)))) 10 (n - 1) _ (omega arith) numbered-accepted)))
+    numbered-item (not (sizeFits (length S))) 7 0 _ (omega arith) (omega arith)
+    (numbered-item (below (firstUnfit S) n) 8 (firstUnfit S) _ (omega arith) (omega arith)
+    (numbered-item (below (firstUneven S) n) 9 (firstUneven S) _ (omega arith) (omega arith)
+    (numbered-item (not (closed (formOf (tableOf S)))) 10 (n - 1) _ (omega arith) (omega arith) numbered-accepted)))
 
 pub numbered-sheet : (s : List ℕ) → Numbered (sheetVerdict s)
 unfolding sheetVerdict
@@ -100,16 +97,16 @@ numbered-sheet s =
     let w = first n (faulty s) in
     either
     (look (sized s))
-    (λ e. rw e (numbered-item (below w n) 12 w Accepted (omega arith) numbered-accepted))
-    (λ e. rw e (numbered-item true 11 0 Accepted (omega arith) numbered-accepted))
+    (λ e. rw e (numbered-item (below w n) 12 w Accepted (omega arith) (omega arith) numbered-accepted))
+    (λ e. rw e (numbered-item true 11 0 Accepted (omega arith) (omega arith) numbered-accepted))
 
 pub numbered-goes : (es : List Edit) (M : Model) → Numbered (goesVerdict es M)
 unfolding goesVerdict
-numbered-goes es M = numbered-item (not (sheetGoes es M)) 13 (stuckAt es M) Accepted (omega arith) numbered-accepted
+numbered-goes es M = numbered-item (not (sheetGoes es M)) 13 (stuckAt es M) Accepted (omega arith) (omega arith) numbered-accepted
 
 pub numbered-length : (es : List Edit) (xs : List Node) → Numbered (lengthVerdict es xs)
 unfolding lengthVerdict
-numbered-length es xs = numbered-item (tooLong es xs) 14 0 Accepted (omega arith) numbered-accepted
+numbered-length es xs = numbered-item (tooLong es xs) 14 0 Accepted (omega arith) (omega arith) numbered-accepted
 
 -- ---- item 14
 pub length-out : (es : List Edit) (xs : List Node) → lengthVerdict es xs ≡ Accepted → tooLong es xs ≡ false

@@ -1,4 +1,4 @@
--- What rewriting knows of inputs that it does not refuse; and the reason 0 says that it does not.
+-- What rewriting knows of inputs that it does not refuse; the reasons are 0 to 14, and 0 says that it does not.
 use mathlib.Core.Path.{_≡_}
 use mathlib.Core.Bool.{false}
 use mathlib.Core.List.{List}
@@ -21,10 +21,13 @@ pub record Rewritable (resultLen : ℕ) (table sheet : List ℕ) : Type 0 where
   pub sheet-accepted : sheetVerdict sheet ≡ Accepted
   pub short : tooLong (editsOf sheet) (tableOf table) ≡ false
 
-pub rewrite-reason : (resultLen : ℕ) (table sheet : List ℕ) → reasonOf (rewriteVerdict resultLen table sheet) ≡ 0
-    → rewriteVerdict resultLen table sheet ≡ Accepted
-unfolding rewriteVerdict Numbered
-rewrite-reason resultLen table sheet =
+pub rewrite-numbered : (resultLen : ℕ) (table sheet : List ℕ) → Numbered (rewriteVerdict resultLen table sheet)
+unfolding rewriteVerdict
+rewrite-numbered resultLen table sheet =
     numbered-then (bufferVerdict resultLen tableBytes) _ (numbered-buffer resultLen tableBytes)
     (numbered-then (conditionVerdict table) _ (numbered-condition table)
     (numbered-then (sheetVerdict sheet) _ (numbered-sheet sheet) (numbered-length (editsOf sheet) (tableOf table))))
+
+pub rewrite-reason : (resultLen : ℕ) (table sheet : List ℕ) → reasonOf (rewriteVerdict resultLen table sheet) ≡ 0
+    → rewriteVerdict resultLen table sheet ≡ Accepted
+rewrite-reason resultLen table sheet = rewrite-numbered resultLen table sheet .accepts
