@@ -4,11 +4,11 @@ use blocks::put_text;
 use sheet::Op;
 ghost use mathlib.Core.Path.{_≡_};
 ghost use mathlib.Core.Bool.{true};
-ghost use Prim.Native.Nat.{_<_};
+ghost use Prim.Native.Nat.{ℕ, _≤_, _<_};
 ghost use lib.ListN.{length};
 ghost use Rattle.semantics.specs.Edit.{legal};
 ghost use Rattle.semantics.specs.Table.{kindOf, kHere, kLabel, kName};
-ghost use Rattle.semantics.specs.Block.{old, blockLeaf, block};
+ghost use Rattle.semantics.specs.Block.{old, size, blockLeaf, block};
 ghost use Rattle.sheet.specs.Bytes.{editOf};
 ghost use Rattle.blocks.specs.Write.{tableBytes, Wrote};
 
@@ -112,5 +112,71 @@ pub fn put_block(out: &mut [u8], at: usize, e: Op, kind: u8, param: u8, t: usize
         10 => put_node(out, at, blocks::MU, param, t, 0),
         11 => put_node(out, at, blocks::NU, param, t, 0),
         _ => put_node(out, at, blocks::SLOT, param, 0, 0),
+    }
+}
+
+// How many nodes the blocks of here, a label and a name have.
+fn here_size(e: Op, p: u8) -> usize
+    ensures { λ r. ⌜ (r ≡ size (blockLeaf (editOf e) kHere p)) × (r ≤ 11) ⌝ }
+{
+    match e {
+        Op::As(_, _) => 3,
+        Op::Ds(_) => 4,
+        _ => 1,
+    }
+}
+
+fn label_size(e: Op, p: u8) -> usize
+    ensures { λ r. ⌜ (r ≡ size (blockLeaf (editOf e) kLabel p)) × (r ≤ 11) ⌝ }
+{
+    match e {
+        Op::Ap(_, q) => {
+            if p == q {
+                return 3;
+            }
+            1
+        }
+        Op::Dp(_, q) => {
+            if p == q {
+                return 4;
+            }
+            1
+        }
+        Op::Ds(_) => 4,
+        _ => 1,
+    }
+}
+
+fn name_size(e: Op, y: u8) -> usize
+    ensures { λ r. ⌜ (r ≡ size (blockLeaf (editOf e) kName y)) × (r ≤ 11) ⌝ }
+{
+    match e {
+        Op::Cn2(n, _, _) => {
+            if y == n {
+                return 11;
+            }
+            1
+        }
+        Op::Ds(_) => {
+            if y == 0 {
+                return 1;
+            }
+            11
+        }
+        _ => 1,
+    }
+}
+
+// How many nodes the block of a node has, whatever the images of its children.
+pub fn block_size(e: Op, kind: u8, param: u8) -> usize
+    ensures { λ r. ⌜ ((t u : ℕ) → r ≡ size (block (editOf e) (kindOf kind) param (old t) (old u))) × (r ≤ 11) ⌝ }
+{
+    match kind {
+        1 => here_size(e, param),
+        2 => label_size(e, param),
+        3 => name_size(e, param),
+        8 => way_blocks::dia_size(e, param),
+        9 => way_blocks::box_size(e, param),
+        _ => 1,
     }
 }

@@ -4,6 +4,8 @@ pub mod Grow
 pub mod Double
 -- one edit; buffers; the sheet
 pub mod State
+pub mod Numbered
+pub mod Puts
 pub mod Placed
 pub mod Buffers
 pub mod Passes

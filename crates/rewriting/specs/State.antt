@@ -9,7 +9,7 @@ use Rattle.semantics.specs.Table.{Node, kindOf}
 use Rattle.semantics.specs.Edit.{Edit}
 use Rattle.semantics.specs.Block.{Block, old, block, root, emit, rewriteSheet}
 use Rattle.condition.specs.Bytes.{nodeAt, bytesOf}
-use Rattle.blocks.specs.Write.{tableNodes, tableBytes, Written}
+use Rattle.blocks.specs.Write.{tableNodes, tableBytes}
 use Rattle.rewriting.specs.Refusal.{tooLong}
 
 pub record State : Type 0 where
@@ -39,31 +39,41 @@ imageOf e s i = getD (stateAt e s (suc i) .images) i 0
 abbrev pub usedChild : ℕ → ℕ → ℕ → ℕ → ℕ → ℕ
 usedChild lo hi k c i = cond (ltb k lo) i (cond (ltb k hi) c i)
 
--- the nodes below n are placed: their images stand in a buffer, their blocks are written, and next is the number of the next node
-pub record Ready (s : List ℕ) (e : Edit) (images out : List ℕ) (n next : ℕ) : Type 0 where
+-- the number of the first node of node i's block
+unfoldable pub startOf : Edit → List ℕ → ℕ → ℕ
+startOf e s i = length (stateAt e s i .out)
+
+-- the nodes below n have numbers: their images stand in a buffer
+pub record Numbered (s : List ℕ) (e : Edit) (images : List ℕ) (n : ℕ) : Type 0 where
   pub size : length images ≡ tableNodes
-  pub room : length out ≡ tableBytes
   pub some : 6 * n ≤ length s
   pub most : n ≤ tableNodes
-  pub imaged : take n images ≡ stateAt e s n .images
-  pub written : Written out (stateAt e s n .out)
-  pub count : next ≡ length (stateAt e s n .out)
-  pub few : next ≤ 11 * n
-  pub low : (j : ℕ) → j < n → getD images j 0 < 22528
+  pub imaged : (j : ℕ) → j < n → getD images j 0 ≡ imageOf e s j
+  pub few : startOf e s n ≤ 22528
 
--- node i is placed, where n were and i is at most n; r is its image. Where it was placed, nothing changes; where not, one more is
-pub record Placed (s : List ℕ) (e : Edit) (images out images′ out′ : List ℕ) (n i r : ℕ) : Type 0 where
-  pub image : r ≡ imageOf e s i
-  pub small : r < 22528
-  pub stays : i < n → (images′ ≡ images) × (out′ ≡ out)
-  pub more : i ≡ n → Ready s e images′ out′ (i + 1) (r + 1)
+-- the start of node i's block, which is behind the block before it, and the image of a child c of node i, 0 where c is not lower
+unfoldable pub startIn : List ℕ → ℕ → ℕ
+startIn images zero = 0
+startIn images (suc j) = getD images j 0 + 1
 
--- the child c of node i, where the nodes below i are placed: nothing changes; r is its image, and 0 where c is not below i
-pub record Child (s : List ℕ) (e : Edit) (images out images′ out′ : List ℕ) (i c r : ℕ) : Type 0 where
-  pub image : r ≡ getD (stateAt e s i .images) c 0
-  pub small : r < 22528
-  pub images-stay : images′ ≡ images
-  pub out-stays : out′ ≡ out
+unfoldable pub imageIn : List ℕ → ℕ → ℕ → ℕ
+imageIn images i c = cond (ltb c i) (getD images c 0) 0
+
+-- the block of node j stands in a buffer, as far as there is room
+unfoldable pub Stands : List ℕ → Edit → List ℕ → ℕ → Type 0
+Stands s e out j = (p : ℕ) → 6 * startOf e s j ≤ p → p < 6 * startOf e s (suc j) → p < tableBytes
+    → getD out p 0 ≡ getD (bytesOf (stateAt e s (suc j) .out)) p 0
+
+-- the blocks of the nodes that are marked as done stand in a buffer
+pub record Filled (s : List ℕ) (e : Edit) (done out : List ℕ) : Type 0 where
+  pub size : length done ≡ tableNodes
+  pub room : length out ≡ tableBytes
+  pub stand : (j : ℕ) → 0 < getD done j 0 → Stands s e out j
+
+-- more may be done, and what was done is
+pub record More (s : List ℕ) (e : Edit) (done done′ out′ : List ℕ) : Type 0 where
+  pub filled : Filled s e done′ out′
+  pub stays : (j : ℕ) → 0 < getD done j 0 → 0 < getD done′ j 0
 
 -- all edits are done: a buffer starts with the rewritten table, which has r nodes; where the item is met, r is over 2,048
 pub record Passed (es : List Edit) (xs : List Node) (o : List ℕ) (r : ℕ) : Type 0 where

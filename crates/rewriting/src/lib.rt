@@ -7,13 +7,13 @@ ghost use mathlib.Core.Path.{_≡_};
 ghost use mathlib.Core.List.{_++_};
 ghost use mathlib.Core.Bool.{true};
 ghost use Prim.Native.Nat.{_+_, _*_, _-_, _≤_, _<_};
-ghost use lib.ListN.{length, take, replicate};
+ghost use lib.ListN.{length, getD, take, replicate};
 ghost use Rattle.semantics.specs.Edit.{legal, sheetLegal};
 ghost use Rattle.semantics.specs.Block.{rewriteTable};
 ghost use Rattle.condition.specs.Bytes.{nodes};
 ghost use Rattle.sheet.specs.Bytes.{editOf, editsOf};
 ghost use Rattle.blocks.specs.Write.{tableNodes, tableBytes, Written};
-ghost use Rattle.rewriting.specs.State.{usedChild, Ready, Placed, Child, Passed};
+ghost use Rattle.rewriting.specs.State.{usedChild, startOf, Numbered, startIn, imageIn, Filled, More, Passed};
 ghost use Rattle.rewriting.specs.Answer.{verdictOf, nodesOf};
 ghost use Rattle.rewriting.specs.Rewriting.{Rewrote};
 
@@ -37,65 +37,133 @@ fn used_child(k: u8, lo: u8, hi: u8, c: usize, i: usize) -> usize
     i
 }
 
-// Node i is placed, where those below it are: its block is written, from the images of its children. Gives its image.
-fn place(table: &[u8], e: Op, images: &mut [u16], out: &mut [u8], next: usize, i: usize) -> usize
-    requires { ⌜ Ready (now table) (editOf e) (now images) (now out) i next ⌝ }
+// Where the block of node i begins, which is behind the image of the node before it.
+fn start(images: &[u16], i: usize) -> usize
+    requires { ⌜ (i ≤ length (now images)) × (i ≤ tableNodes) ⌝ }
+    ensures { λ r. ⌜ r ≡ startIn (now (images .entry)) i ⌝ }
+{
+    if i == 0 {
+        return 0;
+    }
+    let last = i - 1;
+    images[last] as usize + 1
+}
+
+// The image of the child c of node i, and 0 where c is not lower.
+fn image(images: &[u16], i: usize, c: usize) -> usize
+    requires { ⌜ (i ≤ length (now images)) × (i ≤ tableNodes) ⌝ }
+    ensures { λ r. ⌜ r ≡ imageIn (now (images .entry)) i c ⌝ }
+{
+    if c < i {
+        return images[c] as usize;
+    }
+    0
+}
+
+// The first pass: the images of the first n nodes, by the sizes of their blocks. Gives how many nodes the blocks have.
+fn number(table: &[u8], n: usize, e: Op, images: &mut [u16]) -> usize
+    requires { ⌜ (6 * n ≤ length (now table)) × (n ≤ tableNodes) × (length (now images) ≡ tableNodes) ⌝ }
+    ensures { λ r. ⌜ Numbered (now (table .entry)) (editOf e) (now (images .exit)) n × (r ≡ startOf (editOf e) (now (table .entry)) n) ⌝ }
+{
+    let mut i = 0;
+    let mut next = 0;
+    while i < n {
+        let k = condition::kind(table, i);
+        let p = condition::param(table, i);
+        next += node_blocks::block_size(e, k, p);
+        images[i] = narrow(next - 1);
+        i += 1;
+    }
+    next
+}
+
+// The second pass at node i: its children are placed, and then its block is written.
+fn place(table: &[u8], e: Op, images: &[u16], done: &mut [u8], out: &mut [u8], i: usize)
+    requires { ⌜ Numbered (now table) (editOf e) (now images) (i + 1) ⌝ }
     requires { ⌜ legal (editOf e) ≡ true ⌝ }
-    requires { ⌜ (i < tableNodes) × (6 * i + 6 ≤ length (now table)) ⌝ }
-    ensures { λ r. ⌜ Placed (now (table .entry)) (editOf e) (now (images .entry)) (now (out .entry)) (now (images .exit)) (now (out .exit)) i i r ⌝ }
+    requires { ⌜ Filled (now table) (editOf e) (now done) (now out) ⌝ }
+    ensures { λ _. ⌜ More (now (table .entry)) (editOf e) (now (done .entry)) (now (done .exit)) (now (out .exit)) × (0 < getD (now (done .exit)) i 0) ⌝ }
 {
     let k = condition::kind(table, i);
     let p = condition::param(table, i);
     let l = used_child(k, 5, 12, condition::left(table, i), i);
-    let t = child(table, e, images, out, next, i, l);
     let r = used_child(k, 6, 8, condition::right(table, i), i);
-    let u = child(table, e, images, out, next, i, r);
-    let after = node_blocks::put_block(out, next, e, k, p, t, u);
-    let image = after - 1;
-    images[i] = narrow(image);
-    image
+    place_below(table, e, images, done, out, i, l);
+    place_below(table, e, images, done, out, i, r);
+    let at = start(images, i);
+    let t = image(images, i, l);
+    let u = image(images, i, r);
+    node_blocks::put_block(out, at, e, k, p, t, u);
+    done[i] = 1;
 }
 
-// The image of node i, which is placed where it is not yet. It is apart from `place`, so that a placed child costs a look and no call.
-fn find(
+// Node c is placed, where it is below i and not done.
+fn place_below(
     table: &[u8],
     e: Op,
-    images: &mut [u16],
+    images: &[u16],
+    done: &mut [u8],
     out: &mut [u8],
-    placed: usize,
-    next: usize,
-    i: usize,
-) -> usize
-    requires { ⌜ Ready (now table) (editOf e) (now images) (now out) placed next ⌝ }
-    requires { ⌜ legal (editOf e) ≡ true ⌝ }
-    requires { ⌜ (i ≤ placed) × (i < tableNodes) × (6 * i + 6 ≤ length (now table)) ⌝ }
-    ensures { λ r. ⌜ Placed (now (table .entry)) (editOf e) (now (images .entry)) (now (out .entry)) (now (images .exit)) (now (out .exit)) placed i r ⌝ }
-{
-    if i < placed {
-        return images[i] as usize;
-    }
-    place(table, e, images, out, next, i)
-}
-
-// The image of the child c of node i, and 0 where c is not lower.
-fn child(
-    table: &[u8],
-    e: Op,
-    images: &mut [u16],
-    out: &mut [u8],
-    next: usize,
     i: usize,
     c: usize,
-) -> usize
-    requires { ⌜ Ready (now table) (editOf e) (now images) (now out) i next ⌝ }
+)
+    requires { ⌜ Numbered (now table) (editOf e) (now images) i ⌝ }
     requires { ⌜ legal (editOf e) ≡ true ⌝ }
-    requires { ⌜ (i < tableNodes) × (6 * i + 6 ≤ length (now table)) ⌝ }
-    ensures { λ r. ⌜ Child (now (table .entry)) (editOf e) (now (images .entry)) (now (out .entry)) (now (images .exit)) (now (out .exit)) i c r ⌝ }
+    requires { ⌜ Filled (now table) (editOf e) (now done) (now out) ⌝ }
+    ensures { λ _. ⌜ More (now (table .entry)) (editOf e) (now (done .entry)) (now (done .exit)) (now (out .exit)) × (c < i → 0 < getD (now (done .exit)) c 0) ⌝ }
 {
     if i <= c {
-        return 0;
+        return;
     }
-    find(table, e, images, out, i, next, c)
+    if 0 < done[c] {
+        return;
+    }
+    place(table, e, images, done, out, c);
+}
+
+// Node i is placed, where it is not done. It is a second caller of `place`, so that the compiler keeps `place` apart and a child that is
+// done costs a look and no call.
+fn place_open(table: &[u8], e: Op, images: &[u16], done: &mut [u8], out: &mut [u8], i: usize)
+    requires { ⌜ Numbered (now table) (editOf e) (now images) (i + 1) ⌝ }
+    requires { ⌜ legal (editOf e) ≡ true ⌝ }
+    requires { ⌜ Filled (now table) (editOf e) (now done) (now out) ⌝ }
+    ensures { λ _. ⌜ More (now (table .entry)) (editOf e) (now (done .entry)) (now (done .exit)) (now (out .exit)) × (0 < getD (now (done .exit)) i 0) ⌝ }
+{
+    if 0 < done[i] {
+        return;
+    }
+    place(table, e, images, done, out, i);
+}
+
+// The second pass, from the last node down: those that the ones above do not reach are placed too.
+fn place_down(table: &[u8], n: usize, e: Op, images: &[u16], done: &mut [u8], out: &mut [u8])
+    requires { ⌜ Numbered (now table) (editOf e) (now images) n ⌝ }
+    requires { ⌜ legal (editOf e) ≡ true ⌝ }
+    requires { ⌜ Filled (now table) (editOf e) (now done) (now out) ⌝ }
+    ensures { λ _. ⌜ Written (now (out .exit)) (rewriteTable (editOf e) (nodes (now (table .entry)) n)) ⌝ }
+{
+    let mut top = n;
+    while 0 < top {
+        let i = top - 1;
+        place_open(table, e, images, done, out, i);
+        top = i;
+    }
+}
+
+fn no_marks() -> [u8; TABLE_NODES]
+    ensures { λ r. ⌜ r ≡ replicate tableNodes 0 ⌝ }
+{
+    [0; TABLE_NODES]
+}
+
+fn place_all(table: &[u8], n: usize, e: Op, images: &[u16], out: &mut [u8])
+    requires { ⌜ Numbered (now table) (editOf e) (now images) n ⌝ }
+    requires { ⌜ legal (editOf e) ≡ true ⌝ }
+    requires { ⌜ length (now out) ≡ tableBytes ⌝ }
+    ensures { λ _. ⌜ Written (now (out .exit)) (rewriteTable (editOf e) (nodes (now (table .entry)) n)) ⌝ }
+{
+    let mut done = no_marks();
+    place_down(table, n, e, images, &mut done, out);
 }
 
 // The first n nodes of a table, rewritten for one edit. Gives how many nodes that makes; those that fit are written.
@@ -104,14 +172,9 @@ fn rewrite(table: &[u8], n: usize, e: Op, images: &mut [u16], out: &mut [u8]) ->
     requires { ⌜ legal (editOf e) ≡ true ⌝ }
     ensures { λ r. ⌜ (r ≡ length (rewriteTable (editOf e) (nodes (now (table .entry)) n))) × Written (now (out .exit)) (rewriteTable (editOf e) (nodes (now (table .entry)) n)) × (r ≤ 22528) ⌝ }
 {
-    let mut i = 0;
-    let mut next = 0;
-    while i < n {
-        let image = place(table, e, images, out, next, i);
-        next = image + 1;
-        i += 1;
-    }
-    next
+    let made = number(table, n, e, images);
+    place_all(table, n, e, images, out);
+    made
 }
 
 // Zeros from byte n on.

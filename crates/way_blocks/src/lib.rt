@@ -6,11 +6,11 @@ use blocks::put_node;
 use blocks::put_text;
 use sheet::Op;
 ghost use mathlib.Core.Path.{_≡_};
-ghost use Prim.Native.Nat.{_<_};
+ghost use Prim.Native.Nat.{ℕ, _≤_, _<_};
 ghost use lib.ListN.{length};
 ghost use Rattle.semantics.specs.Edit.{DS};
 ghost use Rattle.semantics.specs.Table.{wayOf};
-ghost use Rattle.semantics.specs.Block.{change, old, blockDia, blockBox};
+ghost use Rattle.semantics.specs.Block.{change, old, size, blockDia, blockBox};
 ghost use Rattle.sheet.specs.Bytes.{editOf};
 ghost use Rattle.blocks.specs.Write.{tableBytes, Wrote};
 ghost use Rattle.way_blocks.specs.Effect.{changeOf, onWay};
@@ -137,4 +137,46 @@ pub fn put_box(out: &mut [u8], at: usize, e: Op, w: u8, t: usize) -> usize
     ensures { λ r. ⌜ Wrote (now (out .entry)) at (blockBox (change (editOf e) (wayOf w)) w (old t)) (now (out .exit)) r ⌝ }
 {
     box_by(out, at, effect_of(e, w), w, t)
+}
+
+// How many nodes the block of a diamond has, which the edit has this effect on.
+fn dia_size_by(c: Effect) -> usize
+    ensures { λ r. ⌜ ((w t : ℕ) → r ≡ size (blockDia (changeOf c) w (old t))) × (r ≤ 11) ⌝ }
+{
+    match c {
+        Effect::Keep => 1,
+        Effect::Added(_, _) => 7,
+        Effect::Cut(_, _) => 9,
+        Effect::CutFrom(_) => 4,
+        Effect::CutTo(_) => 4,
+        Effect::CutOff(_) => 7,
+    }
+}
+
+// The same for a box.
+fn box_size_by(c: Effect) -> usize
+    ensures { λ r. ⌜ ((w t : ℕ) → r ≡ size (blockBox (changeOf c) w (old t))) × (r ≤ 11) ⌝ }
+{
+    match c {
+        Effect::Keep => 1,
+        Effect::Added(_, _) => 9,
+        Effect::Cut(_, _) => 7,
+        Effect::CutFrom(_) => 3,
+        Effect::CutTo(_) => 3,
+        Effect::CutOff(_) => 5,
+    }
+}
+
+// How many nodes the block of a diamond by way w has, whatever the image of its child.
+pub fn dia_size(e: Op, w: u8) -> usize
+    ensures { λ r. ⌜ ((t : ℕ) → r ≡ size (blockDia (change (editOf e) (wayOf w)) w (old t))) × (r ≤ 11) ⌝ }
+{
+    dia_size_by(effect_of(e, w))
+}
+
+// The same for a box.
+pub fn box_size(e: Op, w: u8) -> usize
+    ensures { λ r. ⌜ ((t : ℕ) → r ≡ size (blockBox (change (editOf e) (wayOf w)) w (old t))) × (r ≤ 11) ⌝ }
+{
+    box_size_by(effect_of(e, w))
 }

@@ -66,7 +66,7 @@ box-some (cutTo n) w T = omega arith
 box-some (cutOff n) w T = omega arith
 
 -- a node makes at least one
-block-some : (e : Edit) (k : Kind) (p : ℕ) (T U : Block) → 1 ≤ size (block e k p T U)
+pub block-some : (e : Edit) (k : Kind) (p : ℕ) (T U : Block) → 1 ≤ size (block e k p T U)
 unfolding block size
 block-some e (leaf k) p T U = leaf-some e k p
 block-some e (unary kNot) p T U = omega arith

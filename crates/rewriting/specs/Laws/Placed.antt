@@ -1,131 +1,168 @@
--- The steps of rewriting for one edit, as the code makes them.
+-- The second pass for one edit: blocks written in any order, each at its place.
 use mathlib.Core.Path.{_≡_, refl, sym, _∙_, ap, ap₂, subst}
-use mathlib.Core.List.{List, [], _∷_, _++_}
-use Prim.Native.Nat.{ℕ, _+_, _*_, _-_, _≤_, _<_}
+use mathlib.Core.List.{List, _++_}
+use Prim.Native.Nat.{ℕ, zero, suc, _+_, _*_, _-_, _≤_, _<_}
 use native.Mathlib.Omega.{arith}
-use native.Mathlib.Nat.{not-suc-le-zero}
-use native.Mathlib.Numerals.{add-one}
-use lib.ListN.{length, getD, set, length-append, length-set, List·getD-eq-default}
-use lib.Seq.{getD-take, getD-at, take-suc-set, getD-set-same, getD-set-other}
-use Rattle.finite.specs.Laws.Bools.{either}
-use Rattle.finite.specs.Laws.Below.{equal?}
+use lib.ListN.{length, getD, set, take, replicate, length-set, length-replicate, List·getD-append}
+use lib.Seq.{getD-take, getD-set-same, getD-set-other, getD-append-add, ext-getD, length-take-le}
+use Rattle.finite.specs.Tests.{below}
+use Rattle.finite.specs.Laws.Bools.{either, look}
+use Rattle.finite.specs.Laws.Below.{below-out, not-below, equal?}
 use Rattle.semantics.specs.Edit.{Edit}
 use Rattle.semantics.specs.Table.{kindOf, Node}
-use Rattle.semantics.specs.Block.{Block, old, root, emit, block, rewriteTable}
+use Rattle.semantics.specs.Block.{Block, old, size, emit, block, rewriteTable}
+use Rattle.semantics.specs.Laws.Emit.{emit-length}
 use Rattle.condition.specs.Bytes.{nodeAt, nodes, bytesOf}
-use Rattle.blocks.specs.Write.{tableNodes, tableBytes, Written, Wrote}
-use Rattle.blocks.specs.Laws.Write.{length-puts, written-more}
-use Rattle.rewriting.specs.State.{blockIn, step, stateAt, imageOf, usedChild, Ready, Placed, Child}
-use Rattle.rewriting.specs.Laws.State.{state-out, images-length, image-at, block-used}
+use Rattle.condition.specs.Laws.Bytes.{length-bytes}
+use Rattle.blocks.specs.Write.{tableNodes, tableBytes, puts, Written, Wrote}
+use Rattle.blocks.specs.Laws.Write.{length-puts}
+use Rattle.rewriting.specs.State.{blockIn, step, stateAt, usedChild, startOf, Numbered, startIn, imageIn, Stands, Filled, More}
+use Rattle.rewriting.specs.Laws.State.{state-out, block-used}
+use Rattle.rewriting.specs.Laws.Numbered.{blockAt, start-more, starts-up, numbered-low, start-none, start-is, image-is}
+use Rattle.rewriting.specs.Laws.Puts.{puts-low, puts-high, puts-in, bytes-append}
 
-pub ready-start : (s : List ℕ) (e : Edit) (images out : List ℕ) → length images ≡ tableNodes → length out ≡ tableBytes → Ready s e images out 0 0
-unfolding stateAt Written bytesOf
-ready-start s e images out h k = record {
-  size = h;
-  room = k;
-  some = omega arith;
-  most = omega arith;
-  imaged = refl;
-  written = λ _. refl;
-  count = refl;
-  few = omega arith;
-  low = λ j q. absurd (not-suc-le-zero q);
-}
+-- ---- one block written
 
--- node n is written, where n were placed
-module _ (s : List ℕ) (e : Edit) (images out : List ℕ) (n : ℕ) (next : ℕ) (R : Ready s e images out n next) (h : n < tableNodes) (f : 6 * n + 6 ≤ length s) (out′ : List ℕ) (r : ℕ) (w : Wrote out next (blockIn e (stateAt e s n .images) (nodeAt s n)) out′ r) where
-  wrote-here : Wrote out (length (stateAt e s n .out)) (blockIn e (stateAt e s n .images) (nodeAt s n)) out′ r
-  wrote-here = subst (λ (k : ℕ). Wrote out k (blockIn e (stateAt e s n .images) (nodeAt s n)) out′ r) (R .count) w
+-- the definition's bytes with block i behind those before it
+bytes-more : (e : Edit) (s : List ℕ) (i : ℕ)
+    → bytesOf (stateAt e s (suc i) .out) ≡ bytesOf (stateAt e s i .out) ++ bytesOf (emit (blockAt e s i) (startOf e s i))
+unfolding stateAt step startOf
+bytes-more e s i = bytes-append (stateAt e s i .out) (emit (blockAt e s i) (length (stateAt e s i .out)))
 
-  its-root : r - 1 ≡ root (blockIn e (stateAt e s n .images) (nodeAt s n)) (length (stateAt e s n .out))
-  its-root = omega (arith, wrote-here .image)
+bytes-start : (e : Edit) (s : List ℕ) (i : ℕ) → length (bytesOf (stateAt e s i .out)) ≡ 6 * startOf e s i
+unfolding startOf
+bytes-start e s i = length-bytes (stateAt e s i .out)
 
-  pub new-image : r - 1 ≡ imageOf e s n
-  unfolding imageOf stateAt step
-  new-image = its-root ∙ sym (getD-at (stateAt e s n .images) _ [] 0 n (images-length e s n))
+-- block i is written at its place
+module _ (s : List ℕ) (e : Edit) (out : List ℕ) (i : ℕ) (out′ : List ℕ) (h : out′ ≡ puts out (startOf e s i) 0 (emit (blockAt e s i) (startOf e s i))) where
+  block-end : startOf e s (suc i) ≡ startOf e s i + length (emit (blockAt e s i) (startOf e s i))
+  block-end = start-more e s i ∙ ap (λ (m : ℕ). startOf e s i + m) (sym (emit-length (blockAt e s i) (startOf e s i)))
 
-  pub ready-more : Ready s e (set images n (r - 1)) out′ (n + 1) r
-  unfolding stateAt step
-  ready-more =
-      let v = wrote-here in
-      rw add-one (record {
-        size = length-set images n (r - 1) ∙ R .size;
-        room = ap length (v .bytes) ∙ length-puts out (length (stateAt e s n .out)) 0 (emit (blockIn e (stateAt e s n .images) (nodeAt s n)) (length (stateAt e s n .out))) ∙ R .room;
-        some = omega arith;
-        most = omega arith;
-        imaged = take-suc-set images n (r - 1) (omega (arith, R .size)) ∙ ap₂ (λ (l : List ℕ) (k : ℕ). l ++ (k ∷ [])) (R .imaged) its-root;
-        written = subst (λ (o : List ℕ). Written o (stateAt e s n .out ++ emit (blockIn e (stateAt e s n .images) (nodeAt s n)) (length (stateAt e s n .out)))) (sym (v .bytes)) (written-more out (length (stateAt e s n .out)) 0 (stateAt e s n .out) (emit (blockIn e (stateAt e s n .images) (nodeAt s n)) (length (stateAt e s n .out))) (R .room) (omega arith) (R .written));
-        count = v .next ∙ sym (length-append (stateAt e s n .out) (emit (blockIn e (stateAt e s n .images) (nodeAt s n)) (length (stateAt e s n .out))));
-        few = omega (arith, w .few, R .few);
-        low = λ j q.
-            either
-            (equal? j n)
-            (λ p. subst (λ (k : ℕ). getD (set images n (r - 1)) k 0 < 22528) (sym p) (subst (λ (k : ℕ). k < 22528) (sym (getD-set-same images n (r - 1) 0 (omega (arith, R .size)))) (omega (arith, w .few, R .few))))
-            (λ p. subst (λ (k : ℕ). k < 22528) (sym (getD-set-other images n j (r - 1) 0 p)) (R .low j (omega arith)));
-      })
+  stands-new : length out ≡ tableBytes → Stands s e out′ i
+  unfolding Stands
+  stands-new l p a b c =
+      let z : p ≡ length (bytesOf (stateAt e s i .out)) + (p - 6 * (startOf e s i + 0)) = omega (arith, bytes-start e s i) in
+      ap (λ (o : List ℕ). getD o p 0) h
+      ∙ puts-in out (startOf e s i) 0 (emit (blockAt e s i) (startOf e s i)) p l (omega arith) (omega (arith, block-end)) c
+      ∙ sym (getD-append-add (bytesOf (stateAt e s i .out)) (bytesOf (emit (blockAt e s i) (startOf e s i))) (p - 6 * (startOf e s i + 0)) 0)
+      ∙ ap₂ (λ (l : List ℕ) (m : ℕ). getD l m 0) (sym (bytes-more e s i)) (sym z)
 
-pub placed-old : (s : List ℕ) (e : Edit) (images out : List ℕ) (n next i r : ℕ) → Ready s e images out n next → i < n → r ≡ getD images i 0 → Placed s e images out images out n i r
-placed-old s e images out n next i r R h q = record {
-  image = q ∙ sym (getD-take n images i 0 h) ∙ ap (λ (l : List ℕ). getD l i 0) (R .imaged) ∙ image-at e s n i h;
-  small = subst (λ (k : ℕ). k < 22528) (sym q) (R .low i h);
-  stays = λ _. (refl, refl);
-  more = λ p. absurd (omega arith);
-}
+  stands-still : (j : ℕ) → (j ≡ i → ⊥) → Stands s e out j → Stands s e out′ j
+  unfolding Stands
+  stands-still j ne S p a b c =
+      ap (λ (o : List ℕ). getD o p 0) h
+      ∙ either
+      (look (below j i))
+      (λ q. let lt : suc j ≤ i = below-out j i q in
+      puts-low out (startOf e s i) 0 (emit (blockAt e s i) (startOf e s i)) p (omega (arith, starts-up e s (suc j) i lt)))
+      (λ q. let le : i ≤ j = not-below j i q in let gt : suc i ≤ j = omega arith in
+      puts-high out (startOf e s i) 0 (emit (blockAt e s i) (startOf e s i)) p (omega (arith, starts-up e s (suc i) j gt, block-end)))
+      ∙ S p a b c
 
-pub child-none : (s : List ℕ) (e : Edit) (images out : List ℕ) (i c : ℕ) → i ≤ c → Child s e images out images out i c 0
-child-none s e images out i c h = record {
-  image = sym (List·getD-eq-default (stateAt e s i .images) 0 (omega (arith, images-length e s i)));
-  small = omega arith;
-  images-stay = refl;
-  out-stays = refl;
-}
+  pub filled-more : (done : List ℕ) → i < tableNodes → Filled s e done out → Filled s e (set done i 1) out′
+  filled-more done b F = record {
+    size = length-set done i 1 ∙ F .size;
+    room = ap length h ∙ length-puts out (startOf e s i) 0 (emit (blockAt e s i) (startOf e s i)) ∙ F .room;
+    stand = λ j m.
+        either
+        (equal? j i)
+        (λ q. subst (Stands s e out′) (sym q) (stands-new (F .room)))
+        (λ q. stands-still j q (F .stand j (subst (λ (x : ℕ). 0 < x) (getD-set-other done i j 1 0 q) m)));
+  }
 
-pub child-low : (s : List ℕ) (e : Edit) (images out images′ out′ : List ℕ) (i c r : ℕ) → c < i → Placed s e images out images′ out′ i c r → Child s e images out images′ out′ i c r
-child-low s e images out images′ out′ i c r h P = record {
-  image = P .image ∙ sym (image-at e s i c h);
-  small = P .small;
-  images-stay = P .stays h .0;
-  out-stays = P .stays h .1;
-}
+marked : (done : List ℕ) (i j : ℕ) → 0 < getD done j 0 → i < length done → 0 < getD (set done i 1) j 0
+marked done i j m b =
+    either
+    (equal? j i)
+    (λ q. rw (q, getD-set-same done i 1 0 b) (omega arith))
+    (λ q. subst (λ (x : ℕ). 0 < x) (sym (getD-set-other done i j 1 0 q)) m)
 
--- nothing changed, so what was ready is
-pub ready-still : (s : List ℕ) (e : Edit) (images out images′ out′ : List ℕ) (n next i c r : ℕ) → Ready s e images out n next → Child s e images out images′ out′ i c r → Ready s e images′ out′ n next
-ready-still s e images out images′ out′ n next i c r R C =
-    subst (λ (l : List ℕ). Ready s e l out′ n next) (sym (C .images-stay)) (subst (λ (l : List ℕ). Ready s e images l n next) (sym (C .out-stays)) R)
+-- ---- the steps of the code
 
-pub placed-new : (s : List ℕ) (e : Edit) (images out images₁ out₁ images₂ out₂ : List ℕ) (next i k p lf rt l q t u : ℕ) (out₃ : List ℕ) (after v : ℕ)
-    → Ready s e images out i next → i < tableNodes → 6 * i + 6 ≤ length s → k ≡ nodeAt s i .kind → p ≡ nodeAt s i .param
-    → lf ≡ nodeAt s i .left → l ≡ usedChild 5 12 k lf i → Child s e images out images₁ out₁ i l t
-    → rt ≡ nodeAt s i .right → q ≡ usedChild 6 8 k rt i → Child s e images₁ out₁ images₂ out₂ i q u
-    → Wrote out₂ next (block e (kindOf k) p (old t) (old u)) out₃ after → v ≡ after - 1
-    → Placed s e images out (set images₂ i v) out₃ i i (after - 1)
+pub more-none : {s : List ℕ} {e : Edit} {done out : List ℕ} → Filled s e done out → More s e done done out
+more-none F = record { filled = F; stays = λ j m. m }
+
+-- the block of node i is written, after what its children's recursion left
+pub placed : {s : List ℕ} {e : Edit} {images done done₁ out₁ done₂ out₂ out₃ : List ℕ} (i : ℕ) {k p lf rt l q at t u r : ℕ}
+    → Numbered s e images (i + 1) → k ≡ nodeAt s i .kind → p ≡ nodeAt s i .param
+    → lf ≡ nodeAt s i .left → l ≡ usedChild 5 12 k lf i → rt ≡ nodeAt s i .right → q ≡ usedChild 6 8 k rt i
+    → More s e done done₁ out₁ → More s e done₁ done₂ out₂
+    → at ≡ startIn images i → t ≡ imageIn images i l → u ≡ imageIn images i q
+    → Wrote out₂ at (block e (kindOf k) p (old t) (old u)) out₃ r
+    → More s e done (set done₂ i 1) out₃ × (0 < getD (set done₂ i 1) i 0)
 unfolding blockIn
-placed-new s e images out images₁ out₁ images₂ out₂ next i k p lf rt l q t u out₃ after v R c d ek ep elf el C ert eq D W ev =
-    let R₂ : Ready s e images₂ out₂ i next =
-    ready-still s e images₁ out₁ images₂ out₂ i next i q u (ready-still s e images out images₁ out₁ i next i l t R C) D in
+placed {s} {e} {images} {done} {done₁} {out₁} {done₂} {out₂} {out₃} i {k} {p} {lf} {rt} {l} {q} {at} {t} {u} {r} N ek ep elf el ert eq C D ea et eu W =
+    let M : Numbered s e images i = numbered-low N i (omega arith) in
     let im : List ℕ = stateAt e s i .images in
-    let et : t ≡ getD im (usedChild 5 12 k (nodeAt s i .left) i) 0 = C .image ∙ ap (λ (m : ℕ). getD im m 0) (el ∙ ap (λ (x : ℕ). usedChild 5 12 k x i) elf) in
-    let eu : u ≡ getD im (usedChild 6 8 k (nodeAt s i .right) i) 0 = D .image ∙ ap (λ (m : ℕ). getD im m 0) (eq ∙ ap (λ (x : ℕ). usedChild 6 8 k x i) ert) in
-    let eb : block e (kindOf k) p (old t) (old u) ≡ blockIn e im (nodeAt s i) =
-    ap₂ (λ (x y : ℕ). block e (kindOf k) p (old x) (old y)) et eu
+    let gt : t ≡ getD im (usedChild 5 12 k (nodeAt s i .left) i) 0 = et ∙ image-is M l ∙ ap (λ (m : ℕ). getD im m 0) (el ∙ ap (λ (x : ℕ). usedChild 5 12 k x i) elf) in
+    let gu : u ≡ getD im (usedChild 6 8 k (nodeAt s i .right) i) 0 = eu ∙ image-is M q ∙ ap (λ (m : ℕ). getD im m 0) (eq ∙ ap (λ (x : ℕ). usedChild 6 8 k x i) ert) in
+    let eb : block e (kindOf k) p (old t) (old u) ≡ blockAt e s i =
+    ap₂ (λ (x y : ℕ). block e (kindOf k) p (old x) (old y)) gt gu
     ∙ block-used e k p im (nodeAt s i .left) (nodeAt s i .right) i
     ∙ ap₂ (λ (x y : ℕ). block e (kindOf x) y (old (getD im (nodeAt s i .left) 0)) (old (getD im (nodeAt s i .right) 0))) ek ep in
-    let w : Wrote out₂ next (blockIn e im (nodeAt s i)) out₃ after = subst (λ (B : Block). Wrote out₂ next B out₃ after) eb W in
-    let next-one : after - 1 + 1 ≡ after = omega (arith, W .image) in
-    record {
-      image = new-image s e images₂ out₂ i next R₂ c d out₃ after w;
-      small = omega (arith, W .few, R .few, W .image);
-      stays = λ x. absurd (omega arith);
-      more = λ _. rw (ev, next-one) (ready-more s e images₂ out₂ i next R₂ c d out₃ after w);
-    }
+    let w : out₃ ≡ puts out₂ (startOf e s i) 0 (emit (blockAt e s i) (startOf e s i)) =
+    W .bytes ∙ ap₂ (λ (B : Block) (m : ℕ). puts out₂ m 0 (emit B m)) eb (ea ∙ start-is i M) in
+    let b : i < tableNodes = omega (arith, N .most) in
+    let b₂ : i < length done₂ = omega (arith, D .filled .size) in (
+      record {
+        filled = filled-more s e out₂ i out₃ w done₂ b (D .filled);
+        stays = λ j m. marked done₂ i j (D .stays j (C .stays j m)) b₂;
+      },
+      subst (λ (x : ℕ). 0 < x) (sym (getD-set-same done₂ i 1 0 b₂)) (omega arith),
+    )
 
--- a node that is not placed, where those below it are, is the next one
-pub ready-here : (s : List ℕ) (e : Edit) (images out : List ℕ) (n next i : ℕ) → i ≤ n → n ≤ i → Ready s e images out n next → Ready s e images out i next
-ready-here s e images out n next i a b R = let here : n ≡ i = omega arith in subst (λ (m : ℕ). Ready s e images out m next) here R
+-- ---- all blocks
 
-pub placed-here : (s : List ℕ) (e : Edit) (images out images′ out′ : List ℕ) (n i r : ℕ) → i ≤ n → n ≤ i → Placed s e images out images′ out′ i i r → Placed s e images out images′ out′ n i r
-placed-here s e images out images′ out′ n i r a b P = let here : i ≡ n = omega arith in subst (λ (m : ℕ). Placed s e images out images′ out′ m i r) here P
+-- the nodes from top to below n are done
+abbrev pub DoneFrom : List ℕ → ℕ → ℕ → Type 0
+DoneFrom done top n = (j : ℕ) → top ≤ j → j < n → 0 < getD done j 0
 
-pub rewritten : (s : List ℕ) (e : Edit) (images out : List ℕ) (n next : ℕ) → Ready s e images out n next → (next ≡ length (rewriteTable e (nodes s n))) × Written out (rewriteTable e (nodes s n)) × (next ≤ 22528)
-rewritten s e images out n next R =
-    (R .count ∙ ap length (state-out e s n), subst (λ (xs : List Node). Written out xs) (state-out e s n) (R .written), omega (arith, R .few, R .most))
+pub done-more : {s : List ℕ} {e : Edit} {done done′ out′ : List ℕ} {top n : ℕ} → More s e done done′ out′ → 0 < top
+    → 0 < getD done′ (top - 1) 0 → DoneFrom done top n → DoneFrom done′ (top - 1) n
+done-more {s} {e} {done} {done′} {out′} {top} {n} M h here D j a b =
+    either
+    (equal? j (top - 1))
+    (λ q. rw q here)
+    (λ q. M .stays j (D j (omega arith) b))
+
+zeros : (n j : ℕ) → _≡_ {A = ℕ} (getD (replicate n 0) j 0) 0
+zeros zero j = refl
+zeros (suc n) zero = refl
+zeros (suc n) (suc j) = zeros n j
+
+pub filled-none : (s : List ℕ) (e : Edit) (done out : List ℕ) → done ≡ replicate tableNodes 0 → length out ≡ tableBytes → Filled s e done out
+filled-none s e done out h l = record {
+  size = ap length h ∙ length-replicate {A = ℕ} tableNodes 0;
+  room = l;
+  stand = λ j m. absurd (omega (arith, ap (λ (d : List ℕ). getD d j 0) h, zeros tableNodes j));
+}
+
+all-stand : (s : List ℕ) (e : Edit) (out : List ℕ) (n : ℕ) → ((j : ℕ) → j < n → Stands s e out j) → (p : ℕ) → p < 6 * startOf e s n → p < tableBytes
+    → getD out p 0 ≡ getD (bytesOf (stateAt e s n .out)) p 0
+unfolding Stands
+all-stand s e out zero S p h b = absurd (omega (arith, start-none e s))
+all-stand s e out (suc n) S p h b =
+    either
+    (look (below p (6 * startOf e s n)))
+    (λ q. let lt : p < 6 * startOf e s n = below-out p _ q in
+    all-stand s e out n (λ j g. S j (omega arith)) p lt b
+    ∙ sym (ap (λ (l : List ℕ). getD l p 0) (bytes-more e s n)
+    ∙ List·getD-append (bytesOf (stateAt e s n .out)) _ 0 p (omega (arith, bytes-start e s n))))
+    (λ q. S n (omega arith) p (not-below p _ q) h b)
+
+state-written : (s : List ℕ) (e : Edit) (out : List ℕ) (n : ℕ) → length out ≡ tableBytes → ((j : ℕ) → j < n → Stands s e out j) → Written out (stateAt e s n .out)
+unfolding Written startOf
+state-written s e out n l S h =
+    let xs = stateAt e s n .out in
+    let k : length (take (6 * length xs) out) ≡ 6 * length xs = length-take-le (6 * length xs) out (omega arith) in
+    ext-getD 0 (take (6 * length xs) out) (bytesOf xs) (k ∙ sym (length-bytes xs))
+    (λ p q. let g : p < 6 * length xs = omega arith in getD-take (6 * length xs) out p 0 g ∙ all-stand s e out n S p g (omega arith))
+
+pub all-written : (s : List ℕ) (e : Edit) (done out : List ℕ) (n : ℕ) → Filled s e done out → ((j : ℕ) → j < n → 0 < getD done j 0)
+    → Written out (rewriteTable e (nodes s n))
+all-written s e done out n F m = subst (λ (xs : List Node). Written out xs) (state-out e s n) (state-written s e out n (F .room) (λ j g. F .stand j (m j g)))
+
+pub counted : {s : List ℕ} {e : Edit} {images : List ℕ} {n r : ℕ} → Numbered s e images n → r ≡ startOf e s n
+    → (r ≡ length (rewriteTable e (nodes s n))) × (r ≤ 22528)
+unfolding startOf
+counted {s} {e} {images} {n} {r} N h = (h ∙ ap length (state-out e s n), omega (arith, N .few))
