@@ -7,7 +7,7 @@ use Rattle.finite.specs.Tests.{same, any, count}
 use Rattle.bitset.specs.Set.{setSlots}
 use Rattle.semantics.specs.Form.{slots}
 use Rattle.semantics.specs.Holds.{Model}
-use Rattle.semantics.specs.Like.{IsClass}
+use Rattle.semantics.specs.Bisimulation.{IsClass}
 
 -- p has the class number of each slot: the lowest slot related to it by some likeness, that is by a bisimulation
 pub record Classes (M : Model) (p : List ℕ) : Type 0 where

@@ -5,7 +5,7 @@ ghost use Prim.Native.Nat.{_+_, _*_, _≤_, _<_};
 ghost use lib.ListN.{length, getD};
 ghost use Rattle.finite.specs.Tests.{same, any, all};
 ghost use Rattle.bitset.specs.Set.{setBytes, setSlots};
-ghost use Rattle.semantics.specs.Laws.Refine.{like};
+ghost use Rattle.semantics.specs.Laws.Refine.{bisimilarIn};
 ghost use Rattle.site.specs.Layout.{siteBytes, rowsBytes};
 ghost use Rattle.site.specs.Site.{siteOf};
 ghost use Rattle.partition.specs.Gains.{Gains};
@@ -111,7 +111,7 @@ fn marks_of(site: &[u8]) -> [u8; ROWS_BYTES]
 // The partition before the first round: one class, split by what is said of its slots.
 fn start(site: &[u8]) -> [u8; SET_SLOTS]
     requires { ⌜ length (now site) ≡ siteBytes ⌝ }
-    ensures { λ r. ⌜ Parts (like 0 (siteOf (now (site .entry))) (siteOf (now (site .entry)))) r ⌝ }
+    ensures { λ r. ⌜ Parts (bisimilarIn 0 (siteOf (now (site .entry))) (siteOf (now (site .entry)))) r ⌝ }
 {
     let sig = marks_of(site);
     let one = [0u8; SET_SLOTS];

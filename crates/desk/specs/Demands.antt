@@ -10,7 +10,7 @@ use lib.ListN.{length, getD, take}
 use Rattle.bitset.specs.Set.{setBytes}
 use Rattle.verdict.specs.declared.Verdict.the-variants.{Accepted}
 use Rattle.semantics.specs.Form.{slots}
-use Rattle.semantics.specs.Holds.{Env, TellsApart}
+use Rattle.semantics.specs.Holds.{Env, Distinguishes}
 use Rattle.semantics.specs.Table.{Node, formOf, ClosedTable}
 use Rattle.semantics.specs.Edit as edits
 use Rattle.semantics.specs.Block.{rewriteSheet}
@@ -119,10 +119,10 @@ Demand2 =
 -- some table of any length that has at least one node, meets neither item 8 nor item 9, is closed and has no node of kind 12
 -- (`ClosedTable`), rewritten through the whole sheet, holds on the site before at one of the slots s and t and not at the other.
 -- It is closed, so that the valuation ρ does not matter
-pub record ToldApart (site sheet : List ℕ) (ρ : Env) (s t : ℕ) : Type 0 where
+pub record Distinguished (site sheet : List ℕ) (ρ : Env) (s t : ℕ) : Type 0 where
   pub table : List Node
   pub is-closed : ClosedTable table
-  pub told : TellsApart (siteOf site) ρ (formOf (rewriteSheet (editsOf sheet) table)) s t
+  pub tells : Distinguishes (siteOf site) ρ (formOf (rewriteSheet (editsOf sheet) table)) s t
 
 -- what is to hold of the two calls: the sheet applied to the site, and the slots of the site that it leaves numbered
 pub record SameClasses {site sheet : List ℕ} (applied : ApplyCall site sheet) (numbered : ClassCall (applied .result′)) : Type 0 where
@@ -131,7 +131,7 @@ pub record SameClasses {site sheet : List ℕ} (applied : ApplyCall site sheet) 
   pub numbers : numbered .reason ≡ 0
   -- two slots have one class number exactly if no such table tells them apart
   pub same-number : (ρ : Env) (s t : ℕ) → s < slots → t < slots
-      → (getD (numbered .classes′) s 0 ≡ getD (numbered .classes′) t 0) ↔ ¬ ToldApart site sheet ρ s t
+      → (getD (numbered .classes′) s 0 ≡ getD (numbered .classes′) t 0) ↔ ¬ Distinguished site sheet ρ s t
 
 unfoldable pub Demand3 : Type 0
 Demand3 =

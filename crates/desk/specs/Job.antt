@@ -19,7 +19,7 @@ use Rattle.trailer.specs.Refusal.{trailerVerdict}
 use Rattle.trailer.specs.Pieces.{siteIn, conditionIn, sheetIn}
 use Rattle.job_entry.specs.Buffers.{Buffers, Sized}
 use Rattle.desk.specs.Returned.{ReturnedJob}
-use Rattle.desk.specs.Demands.{Runnable, ToldApart}
+use Rattle.desk.specs.Demands.{Runnable, Distinguished}
 
 -- a call of a job: six buffers of the stated lengths, and whatever it returns and leaves in them (′). The two sets are slices of bytes,
 -- each below 256
@@ -59,7 +59,7 @@ pub record JobAgrees {file : List ℕ} (c : JobCall file) : Type 0 where
   pub effects : siteOf (c .lent′ .site) ≡ edits.sheet (editsOf (sheetIn file)) (siteOf (siteIn file))
   -- demand 3: two slots have one class number after the sheet exactly if no table, rewritten through it, tells them apart today
   pub same-number : (ρ : Env) (s t : ℕ) → s < slots → t < slots
-      → (getD (c .lent′ .classes) s 0 ≡ getD (c .lent′ .classes) t 0) ↔ ¬ ToldApart (siteIn file) (sheetIn file) ρ s t
+      → (getD (c .lent′ .classes) s 0 ≡ getD (c .lent′ .classes) t 0) ↔ ¬ Distinguished (siteIn file) (sheetIn file) ρ s t
 
 -- the reason is 0 exactly where no item is met, and the job then agrees
 unfoldable pub DemandJob : Type 0

@@ -7,7 +7,7 @@ use lib.ListN.{getD}
 use Rattle.finite.specs.Tests.{same, any, first}
 use Rattle.bitset.specs.Set.{setSlots}
 use Rattle.semantics.specs.Holds.{Model}
-use Rattle.semantics.specs.Laws.Refine.{Rel, like}
+use Rattle.semantics.specs.Laws.Refine.{Rel, bisimilarIn}
 use Rattle.partition.specs.Rows.{sameRow, seeSame, Neighbours}
 
 -- slot s, by its number in p, and slot t, by its number in q, are in one class
@@ -41,4 +41,4 @@ bySeen q R p s t = together q s t && seeSame R p R p s t
 
 -- q is the next round's partition, where W are the neighbours and p is the partition of some round
 unfoldable pub Next : List ℕ → List ℕ → List ℕ → Type 0
-Next W p q = (M : Model) → Neighbours M W → (k : ℕ) → Parts (like k M M) p → Parts (like (k + 1) M M) q
+Next W p q = (M : Model) → Neighbours M W → (k : ℕ) → Parts (bisimilarIn k M M) p → Parts (bisimilarIn (k + 1) M M) q

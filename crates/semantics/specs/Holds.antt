@@ -50,5 +50,5 @@ Holds M ρ (nu v φ) s = (T : Set) × ((x : ℕ) → x < slots → T x ≡ true 
 Holds M ρ (slot k) s = s ≡ k
 
 -- the condition φ holds at one of the slots s and t and not at the other
-unfoldable pub TellsApart : Model → Env → Form → ℕ → ℕ → Type 0
-TellsApart M ρ φ s t = (Holds M ρ φ s × ¬ Holds M ρ φ t) ⊎ (¬ Holds M ρ φ s × Holds M ρ φ t)
+unfoldable pub Distinguishes : Model → Env → Form → ℕ → ℕ → Type 0
+Distinguishes M ρ φ s t = (Holds M ρ φ s × ¬ Holds M ρ φ t) ⊎ (¬ Holds M ρ φ s × Holds M ρ φ t)

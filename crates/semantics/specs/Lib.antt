@@ -4,6 +4,6 @@ pub mod Holds
 pub mod Table
 pub mod Edit
 pub mod Block
-pub mod Like
+pub mod Bisimulation
 -- what is proved of them
 pub mod Laws

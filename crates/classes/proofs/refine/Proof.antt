@@ -6,14 +6,14 @@ use borrow.Author.Needs.{needs}
 use lib.ListN.{length}
 use Rattle.bitset.specs.Set.{setSlots}
 use Rattle.site.specs.Site.{siteOf}
-use Rattle.semantics.specs.Laws.Refine.{like}
+use Rattle.semantics.specs.Laws.Refine.{bisimilarIn}
 use Rattle.partition.specs.Partition.{Parts, Next}
 use Rattle.classes.specs.Laws.Refined.{refined-still, refined-last}
 use Rattle.classes.proofs.refine.Statement.{statement}
 use Rattle.classes.proofs.refine.Tie as tie
 
 abbrev Inv-loop : tie.InvT-loop
-Inv-loop site ways p₀ rounds₀ p rounds = (rounds ≤ setSlots) × (length p ≡ setSlots) × Parts (like rounds (siteOf site) (siteOf site)) p
+Inv-loop site ways p₀ rounds₀ p rounds = (rounds ≤ setSlots) × (length p ≡ setSlots) × Parts (bisimilarIn rounds (siteOf site) (siteOf site)) p
 
 abbrev μ-loop : tie.MeasureT-loop
 μ-loop site ways p₀ rounds₀ p rounds = setSlots - rounds

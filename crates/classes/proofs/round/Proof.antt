@@ -4,7 +4,7 @@ use Prim.Native.Nat.{ℕ, _+_, _*_, _-_, _≤_}
 use native.Mathlib.Omega.{arith}
 use borrow.Author.Needs.{needs}
 use Rattle.semantics.specs.Holds.{Model}
-use Rattle.semantics.specs.Laws.Refine.{like}
+use Rattle.semantics.specs.Laws.Refine.{bisimilarIn}
 use Rattle.semantics.specs.Laws.Ways.{linkWays}
 use Rattle.site.specs.Layout.{rowsBytes}
 use Rattle.partition.specs.Rows.{Neighbours}
@@ -14,7 +14,7 @@ use Rattle.classes.proofs.round.Statement.{statement}
 use Rattle.classes.proofs.round.Tie as tie
 
 abbrev Inv-loop : tie.InvT-loop
-Inv-loop ways p q₀ w₀ q w = (w ≤ linkWays) × Partition q × ((M : Model) → Neighbours M ways → (k : ℕ) → Parts (like k M M) p → Parts (upto M M k w) q)
+Inv-loop ways p q₀ w₀ q w = (w ≤ linkWays) × Partition q × ((M : Model) → Neighbours M ways → (k : ℕ) → Parts (bisimilarIn k M M) p → Parts (upto M M k w) q)
 
 abbrev μ-loop : tie.MeasureT-loop
 μ-loop ways p q₀ w₀ q w = linkWays - w

@@ -13,7 +13,7 @@ use Rattle.finite.specs.Laws.Weights.{bit-zero}
 use Rattle.bitset.specs.Set.{setBytes, setSlots, has}
 use Rattle.semantics.specs.Form.{slots, labels, names}
 use Rattle.semantics.specs.Holds.{Model}
-use Rattle.semantics.specs.Laws.Refine.{agree, like}
+use Rattle.semantics.specs.Laws.Refine.{agree, bisimilarIn}
 use Rattle.site.specs.Site.{siteOf}
 use Rattle.site.specs.Laws.Read.{present-is, marked-is}
 use Rattle.partition.specs.Gains.{Gains}
@@ -150,6 +150,6 @@ module _ (n : ℕ) where
   zeros-partition s h = zeros-at n s ∙ sym (first-is setSlots (together (replicate n 0) s) 0 (omega arith) (none-start _) (zeros-together s 0))
 
   -- split by their marks they are the partition before the first round
-  pub marked-part : (M : Model) (G r : List ℕ) → Marked M G → Parts (byRow (replicate n 0) G) r → Parts (like 0 M M) r
-  unfolding byRow like
+  pub marked-part : (M : Model) (G r : List ℕ) → Marked M G → Parts (byRow (replicate n 0) G) r → Parts (bisimilarIn 0 M M) r
+  unfolding byRow bisimilarIn
   marked-part M G r g = parts-map _ _ r (λ s t h k. rw (zeros-together s t) (rows-agree M G g s t h k))

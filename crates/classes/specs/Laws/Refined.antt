@@ -8,13 +8,13 @@ use Rattle.finite.specs.Tests.{same, all}
 use Rattle.finite.specs.Laws.Below.{same-eq, all-out}
 use Rattle.bitset.specs.Set.{setSlots}
 use Rattle.semantics.specs.Holds.{Model}
-use Rattle.semantics.specs.Laws.Refine.{like}
+use Rattle.semantics.specs.Laws.Refine.{bisimilarIn}
 use Rattle.partition.specs.Rows.{Neighbours}
 use Rattle.partition.specs.Partition.{Parts, Next}
 use Rattle.partition.specs.Laws.Rounds.{same-stable, stable-class, last-stable}
 use Rattle.classes.specs.Classes.{Classes}
 
-module _ (M : Model) (k : ℕ) (p : List ℕ) (l : length p ≡ setSlots) (n : Parts (like k M M) p) where
+module _ (M : Model) (k : ℕ) (p : List ℕ) (l : length p ≡ setSlots) (n : Parts (bisimilarIn k M M) p) where
   -- a round that changed nothing
   pub refined-still : (W q : List ℕ) → Neighbours M W → Next W p q → all setSlots (λ s. same (getD p s 0) (getD q s 0)) ≡ true → Classes M p
   refined-still W q b f e = record {

@@ -11,8 +11,8 @@ use Rattle.verdict.specs.declared.Verdict.the-variants.{Accepted}
 use Rattle.semantics.specs.Form.{slots}
 use Rattle.semantics.specs.Table.{formOf}
 use Rattle.semantics.specs.Edit as edits
-use Rattle.semantics.specs.Like.{IsClass}
-use Rattle.semantics.specs.Laws.Demands.{class-untold}
+use Rattle.semantics.specs.Bisimulation.{IsClass}
+use Rattle.semantics.specs.Laws.Demands.{class-undistinguished}
 use Rattle.site.specs.Layout.{siteBytes}
 use Rattle.site.specs.Site.{siteOf}
 use Rattle.site.specs.Refusal.{siteVerdict}
@@ -161,10 +161,10 @@ module _ {site sheet : List ℕ} (j : Going site sheet) (a : ApplyCall site shee
         numbers = n .returned .reason-is ∙ ap reasonOf numbered;
         same-number = λ ρ s t h k.
             Iff·trans
-            (class-untold
+            (class-undistinguished
             (editsOf sheet) (legal j) (siteOf site) (valid j) (j .goes-through) ρ s t (getD (n .classes′) s 0) (getD (n .classes′) t 0) h k
             (classes-left s h) (classes-left t k))
-            (λ n z. n (z .table, z .is-closed, z .told), λ n z. n (record { table = z .0; is-closed = z .1; told = z .2 }));
+            (λ n z. n (z .table, z .is-closed, z .tells), λ n z. n (record { table = z .0; is-closed = z .1; tells = z .2 }));
       }
 
 pub demand-3 : Demand3

@@ -18,18 +18,18 @@ use Rattle.site.specs.Laws.Read.{present-is, present-in, marked-is, marked-in, 
 use Rattle.edits.specs.Laws.Cases.{guard}
 
 -- models that say the same are the same
-pub record Alike (M N : Model) : Type 0 where
-  pub present-alike : (s : ℕ) → M .present s ≡ N .present s
-  pub marked-alike : (p s : ℕ) → M .marked p s ≡ N .marked p s
-  pub place-alike : (n : ℕ) → M .place n ≡ N .place n
-  pub link-alike : (m s t : ℕ) → M .link m s t ≡ N .link m s t
+pub record SameFields (M N : Model) : Type 0 where
+  pub present-same : (s : ℕ) → M .present s ≡ N .present s
+  pub marked-same : (p s : ℕ) → M .marked p s ≡ N .marked p s
+  pub place-same : (n : ℕ) → M .place n ≡ N .place n
+  pub link-same : (m s t : ℕ) → M .link m s t ≡ N .link m s t
 
-pub alike : {M N : Model} → Alike M N → M ≡ N
-alike a = λ i. record {
-  present = λ s. a .present-alike s i;
-  marked = λ p s. a .marked-alike p s i;
-  place = λ n. a .place-alike n i;
-  link = λ m s t. a .link-alike m s t i;
+pub same-fields : {M N : Model} → SameFields M N → M ≡ N
+same-fields a = λ i. record {
+  present = λ s. a .present-same s i;
+  marked = λ p s. a .marked-same p s i;
+  place = λ n. a .place-same n i;
+  link = λ m s t. a .link-same m s t i;
 }
 
 -- S′ has the bytes of S from a up to b

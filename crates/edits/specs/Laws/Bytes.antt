@@ -23,7 +23,7 @@ use Rattle.site.specs.Laws.Read.{present-is, present-in, marked-is, marked-in, 
 use Rattle.site.specs.Laws.Target.{nil-none, target-byte}
 use Rattle.edits.specs.Change.{withName, withSlot, withoutSlot, withLabel, withoutLabel, withLink, withoutLink, withoutTarget, joins}
 use Rattle.edits.specs.Laws.Cases.{cond-yes, cond-no, same-by, takes, Changes, puts-changes, takes-changes, at-cond, cond-off}
-use Rattle.edits.specs.Laws.Areas.{alike, present-kept, marked-kept, place-kept-at, place-kept, row-kept, target-kept, link-kept, presents-are, marks-are, links-are}
+use Rattle.edits.specs.Laws.Areas.{same-fields, present-kept, marked-kept, place-kept-at, place-kept, row-kept, target-kept, link-kept, presents-are, marks-are, links-are}
 
 -- ---- a name's byte
 
@@ -32,17 +32,17 @@ unfolding withName
 name-put S n x l hn =
     let S′ : List ℕ = set S (nameAt n) x in
     let other : (j : ℕ) → j ≢ nameAt n → getD S′ j 0 ≡ getD S j 0 = λ j d. getD-set-other S (nameAt n) j x 0 d in
-    alike (record {
-      present-alike = present-kept S S′ (λ j a b. other j (λ e. omega arith));
-      marked-alike = marked-kept S S′ (λ j a b. other j (λ e. omega arith));
-      place-alike =
+    same-fields (record {
+      present-same = present-kept S S′ (λ j a b. other j (λ e. omega arith));
+      marked-same = marked-kept S S′ (λ j a b. other j (λ e. omega arith));
+      place-same =
           λ y.
           either
           (equal? y n)
           (λ e.
           place-is S′ y (omega arith) ∙ ap (λ (z : ℕ). getD S′ (nameAt z) 0) e ∙ getD-set-same S (nameAt n) x 0 (omega arith) ∙ sym (cond-yes x (siteOf S .place y) (eq-same e)))
           (λ d. place-kept-at S S′ y (other (nameAt y) (λ e. d (omega arith))) ∙ sym (cond-no x (siteOf S .place y) (ne-same d)));
-      link-alike = link-kept S S′ (λ j a b. other j (λ e. omega arith));
+      link-same = link-kept S S′ (λ j a b. other j (λ e. omega arith));
     })
 
 -- ---- one slot put in or taken out, at the address a
@@ -83,14 +83,14 @@ module _ (g : Bool → Bool → Bool) (ch : Changes g) (S S′ : List ℕ) where
       → siteOf S′ ≡ record { present = λ s. g (siteOf S .present s) (same s x); marked = siteOf S .marked; place = siteOf S .place; link = siteOf S .link }
   unfolding slots
   slot-changed x hx w =
-      alike (record {
-        present-alike =
+      same-fields (record {
+        present-same =
             presents-are S′ (λ s. g (siteOf S .present s) (same s x))
             (λ s hs. w .slots-are s ∙ ap (λ (b : Bool). g b (same s x)) (sym (present-is S s hs)))
             (λ s p. either (ch .comes _ _ p) (present-in S s) (λ q. let e = same-eq q in omega arith));
-        marked-alike = marked-kept S S′ (λ j u v. w .others j (λ e. omega arith));
-        place-alike = place-kept S S′ (λ j u v. w .others j (λ e. omega arith));
-        link-alike = link-kept S S′ (λ j u v. w .others j (λ e. omega arith));
+        marked-same = marked-kept S S′ (λ j u v. w .others j (λ e. omega arith));
+        place-same = place-kept S S′ (λ j u v. w .others j (λ e. omega arith));
+        link-same = link-kept S S′ (λ j u v. w .others j (λ e. omega arith));
       })
 
   -- of the slots of label p
@@ -103,9 +103,9 @@ module _ (g : Bool → Bool → Bool) (ch : Changes g) (S S′ : List ℕ) where
       }
   unfolding slots
   label-changed p x hp hx w =
-      alike (record {
-        present-alike = present-kept S S′ (λ j u v. w .others j (λ e. omega arith));
-        marked-alike =
+      same-fields (record {
+        present-same = present-kept S S′ (λ j u v. w .others j (λ e. omega arith));
+        marked-same =
             marks-are S′ (λ q s. cond (same q p) (g (siteOf S .marked q s) (same s x)) (siteOf S .marked q s))
             (λ q s hq hs.
             w .slots-are (labelAt q * 8 + s)
@@ -116,8 +116,8 @@ module _ (g : Bool → Bool → Bool) (ch : Changes g) (S S′ : List ℕ) where
             (cond-comes g (ch .comes) (siteOf S .marked q s) (same q p) (same s x) e)
             (marked-in S q s)
             (λ r. let u = same-eq (r .0) in let v = same-eq (r .1) in (omega arith, omega arith)));
-        place-alike = place-kept S S′ (λ j u v. w .others j (λ e. omega arith));
-        link-alike = link-kept S S′ (λ j u v. w .others j (λ e. omega arith));
+        place-same = place-kept S S′ (λ j u v. w .others j (λ e. omega arith));
+        link-same = link-kept S S′ (λ j u v. w .others j (λ e. omega arith));
       })
 
   -- of the targets of slot x by the general link m; the functional links are others
@@ -131,11 +131,11 @@ module _ (g : Bool → Bool → Bool) (ch : Changes g) (S S′ : List ℕ) where
   unfolding slots
   row-changed m x y hm hx hy w =
       let N : ℕ → ℕ → ℕ → Bool = siteOf S .link in
-      alike (record {
-        present-alike = present-kept S S′ (λ j u v. w .others j (λ e. omega arith));
-        marked-alike = marked-kept S S′ (λ j u v. w .others j (λ e. omega arith));
-        place-alike = place-kept S S′ (λ j u v. w .others j (λ e. omega arith));
-        link-alike =
+      same-fields (record {
+        present-same = present-kept S S′ (λ j u v. w .others j (λ e. omega arith));
+        marked-same = marked-kept S S′ (λ j u v. w .others j (λ e. omega arith));
+        place-same = place-kept S S′ (λ j u v. w .others j (λ e. omega arith));
+        link-same =
             links-are S′ (λ l s t. cond (same l m) (g (N l s t) (same s x && same t y)) (N l s t))
             (λ l s t hl hs ht.
             w .slots-are (rowAt l s * 8 + t)
@@ -206,11 +206,11 @@ unfolding slots
 target-put S f x v P len hg hf hx off on inside =
     let S′ : List ℕ = set S (targetAt f x) v in
     let other : (j : ℕ) → j ≢ targetAt f x → getD S′ j 0 ≡ getD S j 0 = λ j d. getD-set-other S (targetAt f x) j v 0 d in
-    alike (record {
-      present-alike = present-kept S S′ (λ j a b. other j (λ e. omega arith));
-      marked-alike = marked-kept S S′ (λ j a b. other j (λ e. omega arith));
-      place-alike = place-kept S S′ (λ j a b. other j (λ e. omega arith));
-      link-alike =
+    same-fields (record {
+      present-same = present-kept S S′ (λ j a b. other j (λ e. omega arith));
+      marked-same = marked-kept S S′ (λ j a b. other j (λ e. omega arith));
+      place-same = place-kept S S′ (λ j a b. other j (λ e. omega arith));
+      link-same =
           links-are S′ P
           (λ l s t hl hs ht.
           row-kept S S′ (λ j a b. other j (λ e. omega arith)) l s t hl hs ht
@@ -278,11 +278,11 @@ module _ (S : List ℕ) (f x : ℕ) (len : length S ≡ siteBytes) (hg : general
   pub link-other : (y : ℕ) → getD S (targetAt f x) 0 ≢ y → siteOf S ≡ withoutLink (siteOf S) f x y
   unfolding withoutLink
   link-other y w =
-      alike (record {
-        present-alike = λ s. refl;
-        marked-alike = λ p s. refl;
-        place-alike = λ n. refl;
-        link-alike = λ l s t. both (stays l s t) (cond-was (siteOf S .link l s t) (same l f) (not (same s x && same t y)));
+      same-fields (record {
+        present-same = λ s. refl;
+        marked-same = λ p s. refl;
+        place-same = λ n. refl;
+        link-same = λ l s t. both (stays l s t) (cond-was (siteOf S .link l s t) (same l f) (not (same s x && same t y)));
       })
     where
       stays : (l s t : ℕ) → siteOf S .link l s t ≡ true
@@ -358,11 +358,11 @@ pub row-cleared : (S ys : List ℕ) (m x k : ℕ) → length S ≡ siteBytes →
     → siteOf (back S ys (rowAt m x) k) ≡ withoutTarget (siteOf S) m x
 unfolding withoutTarget slots
 row-cleared S ys m x k len hm hx hk ly none =
-    alike (record {
-      present-alike = present-kept S S′ (λ j a b. below j (omega arith));
-      marked-alike = marked-kept S S′ (λ j a b. below j (omega arith));
-      place-alike = place-kept S S′ (λ j a b. below j (omega arith));
-      link-alike =
+    same-fields (record {
+      present-same = present-kept S S′ (λ j a b. below j (omega arith));
+      marked-same = marked-kept S S′ (λ j a b. below j (omega arith));
+      place-same = place-kept S S′ (λ j a b. below j (omega arith));
+      link-same =
           links-are S′ (λ l s t. cond (same l m) (N l s t && not (same s x)) (N l s t))
           (λ l s t hl hs ht.
           either

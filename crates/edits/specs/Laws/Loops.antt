@@ -14,20 +14,20 @@ use Rattle.site.specs.Site.{siteOf}
 use Rattle.site.specs.Laws.Read.{marked-in, place-out, link-in}
 use Rattle.edits.specs.Change.{withName, withoutLabel, withoutName, withoutLink, withoutTarget, withoutLinksOf, withoutLabels, withoutNames, withoutLinks, labelsTo, namesTo, columnTo, linksTo}
 use Rattle.edits.specs.Laws.Cases.{cond-yes, cond-no, cond-same, guard, below-more, more-cond, more-and, more-place, more-pairs, all-pairs}
-use Rattle.edits.specs.Laws.Areas.{alike}
+use Rattle.edits.specs.Laws.Areas.{same-fields}
 
 none-below : (q : ℕ) → below q 0 ≡ false
 none-below q = below-not q 0 (omega arith)
 
 -- models that differ in the labels, names or links alone
 marked-only : {M N : Model} → M .present ≡ N .present → M .place ≡ N .place → M .link ≡ N .link → ((p s : ℕ) → M .marked p s ≡ N .marked p s) → M ≡ N
-marked-only a b c h = alike (record { present-alike = λ s. ap (λ f. f s) a; marked-alike = h; place-alike = λ n. ap (λ f. f n) b; link-alike = λ m s t. ap (λ f. f m s t) c })
+marked-only a b c h = same-fields (record { present-same = λ s. ap (λ f. f s) a; marked-same = h; place-same = λ n. ap (λ f. f n) b; link-same = λ m s t. ap (λ f. f m s t) c })
 
 place-only : {M N : Model} → M .present ≡ N .present → M .marked ≡ N .marked → M .link ≡ N .link → ((n : ℕ) → M .place n ≡ N .place n) → M ≡ N
-place-only a b c h = alike (record { present-alike = λ s. ap (λ f. f s) a; marked-alike = λ p s. ap (λ f. f p s) b; place-alike = h; link-alike = λ m s t. ap (λ f. f m s t) c })
+place-only a b c h = same-fields (record { present-same = λ s. ap (λ f. f s) a; marked-same = λ p s. ap (λ f. f p s) b; place-same = h; link-same = λ m s t. ap (λ f. f m s t) c })
 
 link-only : {M N : Model} → M .present ≡ N .present → M .marked ≡ N .marked → M .place ≡ N .place → ((m s t : ℕ) → M .link m s t ≡ N .link m s t) → M ≡ N
-link-only a b c h = alike (record { present-alike = λ s. ap (λ f. f s) a; marked-alike = λ p s. ap (λ f. f p s) b; place-alike = λ n. ap (λ f. f n) c; link-alike = h })
+link-only a b c h = same-fields (record { present-same = λ s. ap (λ f. f s) a; marked-same = λ p s. ap (λ f. f p s) b; place-same = λ n. ap (λ f. f n) c; link-same = h })
 
 module _ (M : Model) (x : ℕ) where
   pub labels-start : M ≡ labelsTo M x 0

@@ -13,10 +13,10 @@ use Rattle.finite.specs.Laws.First.{first-in}
 use Rattle.bitset.specs.Set.{setSlots}
 use Rattle.semantics.specs.Form.{slots}
 use Rattle.semantics.specs.Holds.{Model}
-use Rattle.semantics.specs.Like.{Total}
+use Rattle.semantics.specs.Bisimulation.{Total}
 use Rattle.semantics.specs.Table.{wayOf}
 use Rattle.semantics.specs.Laws.Ways.{linkWays}
-use Rattle.semantics.specs.Laws.Refine.{Rel, match, like, like-sym, like-less}
+use Rattle.semantics.specs.Laws.Refine.{Rel, match, bisimilarIn, bisimilar-sym, bisimilar-less}
 use Rattle.partition.specs.Partition.{across, Parts, Follows}
 use Rattle.partition.specs.Laws.Parts.{first-cong, parts-first}
 use Rattle.partition.specs.Laws.Rounds.{upto}
@@ -45,21 +45,21 @@ follows-map E F p q e f = record {
 
 module _ (M N : Model) where
   -- a slot that has no slot left after some ways of a round has none after the round
-  pub upto-alone : (k w t : ℕ) → w ≤ linkWays → any setSlots (upto N M k w t) ≡ false → (s : ℕ) → s < setSlots → like (suc k) N M t s ≡ false
-  unfolding upto like
+  pub upto-alone : (k w t : ℕ) → w ≤ linkWays → any setSlots (upto N M k w t) ≡ false → (s : ℕ) → s < setSlots → bisimilarIn (suc k) N M t s ≡ false
+  unfolding upto bisimilarIn
   upto-alone k w t l e s h = no-true (λ p.
-      let matched : all linkWays (λ v. match N M (wayOf v) (like k N M) t s) ≡ true = and-r (like k N M t s) _ p in
-      let so-far : upto N M k w t s ≡ true = and-in (like-less N M k t s p) (all-in w _ (λ v b. all-out linkWays _ matched v (omega arith))) in
+      let matched : all linkWays (λ v. match N M (wayOf v) (bisimilarIn k N M) t s) ≡ true = and-r (bisimilarIn k N M t s) _ p in
+      let so-far : upto N M k w t s ≡ true = and-in (bisimilar-less N M k t s p) (all-in w _ (λ v b. all-out linkWays _ matched v (omega arith))) in
       clash so-far (any-none setSlots (upto N M k w t) e s h))
 
   -- the test at the end: each class of the first site has a slot of the second
-  pub follows-total : (k : ℕ) (p q : List ℕ) → Follows (like k N M) p q
-      → (all setSlots (λ s. any setSlots (λ t. across q p t s)) ≡ true) ↔ Total (λ s t. like k M N s t ≡ true)
+  pub follows-total : (k : ℕ) (p q : List ℕ) → Follows (bisimilarIn k N M) p q
+      → (all setSlots (λ s. any setSlots (λ t. across q p t s)) ≡ true) ↔ Total (λ s t. bisimilarIn k M N s t ≡ true)
   unfolding slots
   follows-total k p q f = (
     λ e. record {
-      ahead = λ s h. let a = any-out setSlots _ (all-out setSlots _ e s h) in (a .0, a .1, like-sym N M k (a .0) s (sym (f .by (a .0) s (a .1) h) ∙ a .2));
-      behind = λ t h. let a = any-out setSlots (like k N M t) (f .met t h) in (a .0, a .1, like-sym N M k t (a .0) (a .2));
+      ahead = λ s h. let a = any-out setSlots _ (all-out setSlots _ e s h) in (a .0, a .1, bisimilar-sym N M k (a .0) s (sym (f .by (a .0) s (a .1) h) ∙ a .2));
+      behind = λ t h. let a = any-out setSlots (bisimilarIn k N M t) (f .met t h) in (a .0, a .1, bisimilar-sym N M k t (a .0) (a .2));
     },
-    λ b. all-in setSlots _ (λ s h. let a = b .ahead s h in any-in setSlots _ (a .0) (a .1) (f .by (a .0) s (a .1) h ∙ like-sym M N k s (a .0) (a .2))),
+    λ b. all-in setSlots _ (λ s h. let a = b .ahead s h in any-in setSlots _ (a .0) (a .1) (f .by (a .0) s (a .1) h ∙ bisimilar-sym M N k s (a .0) (a .2))),
   )

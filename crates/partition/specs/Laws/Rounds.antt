@@ -14,10 +14,10 @@ use Rattle.bitset.specs.Laws.Part.{has-part}
 use Rattle.semantics.specs.Form.{slots}
 use Rattle.semantics.specs.Holds.{Model, step}
 use Rattle.semantics.specs.Table.{wayOf}
-use Rattle.semantics.specs.Like.{IsClass}
+use Rattle.semantics.specs.Bisimulation.{IsClass}
 use Rattle.semantics.specs.Laws.Ways.{linkWays}
 use Rattle.semantics.specs.Laws.Classes.{class-is}
-use Rattle.semantics.specs.Laws.Refine.{Rel, covers, covers-iff, match, like, Stable, stable}
+use Rattle.semantics.specs.Laws.Refine.{Rel, covers, covers-iff, match, bisimilarIn, Stable, stable}
 use Rattle.site.specs.Layout.{rowsBytes}
 use Rattle.partition.specs.Rows.{inRow, sees, seeSame, Neighbours}
 use Rattle.partition.specs.Partition.{across, Parts, bySeen, Next}
@@ -79,57 +79,57 @@ module _ (M N : Model) (E : Rel) (w : ℕ) (p q R S : List ℕ) (n : (s t : ℕ)
 
 -- ---- one round
 
--- alike after k rounds, and matched by the first n ways
+-- bisimilar in k rounds, and matched by the first n ways
 unfoldable pub upto : Model → Model → ℕ → ℕ → Rel
-upto M N k n s t = like k M N s t && all n (λ v. match M N (wayOf v) (like k M N) s t)
+upto M N k n s t = bisimilarIn k M N s t && all n (λ v. match M N (wayOf v) (bisimilarIn k M N) s t)
 
-upto-next : (M N : Model) (k w s t : ℕ) → (upto M N k w s t && match M N (wayOf w) (like k M N) s t) ≡ upto M N k (w + 1) s t
+upto-next : (M N : Model) (k w s t : ℕ) → (upto M N k w s t && match M N (wayOf w) (bisimilarIn k M N) s t) ≡ upto M N k (w + 1) s t
 unfolding upto all
 upto-next M N k w s t =
-    rw (add-one w) (and-assoc (like k M N s t) (all w (λ v. match M N (wayOf v) (like k M N) s t)) (match M N (wayOf w) (like k M N) s t)
-    ∙ ap (λ (x : Bool). like k M N s t && x) (and-comm (all w (λ v. match M N (wayOf v) (like k M N) s t)) (match M N (wayOf w) (like k M N) s t)))
+    rw (add-one w) (and-assoc (bisimilarIn k M N s t) (all w (λ v. match M N (wayOf v) (bisimilarIn k M N) s t)) (match M N (wayOf w) (bisimilarIn k M N) s t)
+    ∙ ap (λ (x : Bool). bisimilarIn k M N s t && x) (and-comm (all w (λ v. match M N (wayOf v) (bisimilarIn k M N) s t)) (match M N (wayOf w) (bisimilarIn k M N) s t)))
 
 -- two sites, whose numbers p and q after k rounds are refined to a and b by the ways below w: one way more
 pub upto-seen : (M N : Model) (k w : ℕ) (W W′ p q a b : List ℕ) → Neighbours M W → Neighbours N W′ → w < linkWays
     → ((x : ℕ) → x < setSlots → getD p x 0 < setSlots) → ((x : ℕ) → x < setSlots → getD q x 0 < setSlots)
-    → ((s t : ℕ) → s < setSlots → t < setSlots → across p q s t ≡ like k M N s t)
+    → ((s t : ℕ) → s < setSlots → t < setSlots → across p q s t ≡ bisimilarIn k M N s t)
     → ((s t : ℕ) → s < setSlots → t < setSlots → across a b s t ≡ upto M N k w s t)
     → (s t : ℕ) → s < setSlots → t < setSlots → (across a b s t && seeSame (wayRows W w) p (wayRows W′ w) q s t) ≡ upto M N k (w + 1) s t
 upto-seen M N k w W W′ p q a b nb nb′ hw sp sq n u s t h j =
-    ap₂ _&&_ (u s t h j) (seen-match M N (like k M N) w p q (wayRows W w) (wayRows W′ w) n sp sq
+    ap₂ _&&_ (u s t h j) (seen-match M N (bisimilarIn k M N) w p q (wayRows W w) (wayRows W′ w) n sp sq
     (λ x y hx hy. way-row M W w x y nb hw hx hy) (λ x y hx hy. way-row N W′ w x y nb′ hw hx hy) s t h j)
     ∙ upto-next M N k w s t
 
 -- one site
-pub upto-none : (M : Model) (k : ℕ) (p : List ℕ) → Parts (like k M M) p → Parts (upto M M k 0) p
+pub upto-none : (M : Model) (k : ℕ) (p : List ℕ) → Parts (bisimilarIn k M M) p → Parts (upto M M k 0) p
 unfolding upto all
-upto-none M k p n = parts-map (like k M M) (upto M M k 0) p (λ s t h j. sym (and-true (like k M M s t))) n
+upto-none M k p n = parts-map (bisimilarIn k M M) (upto M M k 0) p (λ s t h j. sym (and-true (bisimilarIn k M M s t))) n
 
-pub upto-more : (M : Model) (k w m : ℕ) (W p q r : List ℕ) → Neighbours M W → w < linkWays → m ≡ rowsBytes → Parts (like k M M) p
+pub upto-more : (M : Model) (k w m : ℕ) (W p q r : List ℕ) → Neighbours M W → w < linkWays → m ≡ rowsBytes → Parts (bisimilarIn k M M) p
     → Parts (upto M M k w) q → Parts (bySeen q (take m (drop (rowsBytes * w) W)) p) r → Parts (upto M M k (w + 1)) r
 unfolding bySeen
 upto-more M k w m W p q r nb hw e n u f =
     let small : (x : ℕ) → x < setSlots → getD p x 0 < setSlots = number-small p (n .lowest) in
     parts-map (bySeen q (wayRows W w) p) (upto M M k (w + 1)) r (upto-seen M M k w W W p p q q nb nb hw small small (n .by) (u .by)) (rw e at f)
 
-pub upto-all : (M : Model) (k : ℕ) (q : List ℕ) → Parts (upto M M k linkWays) q → Parts (like (k + 1) M M) q
-unfolding upto like
-upto-all M k q u = rw (add-one k) (parts-map (upto M M k linkWays) (like (suc k) M M) q (λ s t h j. refl) u)
+pub upto-all : (M : Model) (k : ℕ) (q : List ℕ) → Parts (upto M M k linkWays) q → Parts (bisimilarIn (k + 1) M M) q
+unfolding upto bisimilarIn
+upto-all M k q u = rw (add-one k) (parts-map (upto M M k linkWays) (bisimilarIn (suc k) M M) q (λ s t h j. refl) u)
 
 -- ---- the end
 
 -- two rounds with one partition: nothing more is told apart
-pub same-stable : (M : Model) (W : List ℕ) (k : ℕ) (p q : List ℕ) → Neighbours M W → Parts (like k M M) p → Next W p q
+pub same-stable : (M : Model) (W : List ℕ) (k : ℕ) (p q : List ℕ) → Neighbours M W → Parts (bisimilarIn k M M) p → Next W p q
     → ((s : ℕ) → s < setSlots → getD p s 0 ≡ getD q s 0) → Stable M M k
 unfolding slots Next
 same-stable M W k p q nb n f e s t h j l =
-    let m : Parts (like (suc k) M M) q = rw add-one at (f M nb k n) in
+    let m : Parts (bisimilarIn (suc k) M M) q = rw add-one at (f M nb k n) in
     sym (m .by s t h j) ∙ ap₂ same (sym (e s h)) (sym (e t j)) ∙ n .by s t h j ∙ l
 
 -- the partition of such a round has the class numbers
-pub stable-class : (M : Model) (k : ℕ) (p : List ℕ) → Parts (like k M M) p → Stable M M k → (s : ℕ) → s < slots → IsClass M s (getD p s 0)
+pub stable-class : (M : Model) (k : ℕ) (p : List ℕ) → Parts (bisimilarIn k M M) p → Stable M M k → (s : ℕ) → s < slots → IsClass M s (getD p s 0)
 unfolding slots
-stable-class M k p n c s h = rw (parts-first (like k M M) p n s h) (class-is M k c s h)
+stable-class M k p n c s h = rw (parts-first (bisimilarIn k M M) p n s h) (class-is M k c s h)
 
 -- and after as many rounds as there are slots
 pub last-stable : (M : Model) (k : ℕ) → k ≡ setSlots → Stable M M k

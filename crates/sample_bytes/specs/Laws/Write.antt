@@ -19,7 +19,7 @@ use Rattle.semantics.specs.Laws.Edits.{find-ends, target-one}
 use Rattle.site.specs.Layout.{generalLinks, labelsAt, namesAt, targetsAt, rowsAt, siteBytes, labelAt, nameAt, targetAt, rowAt}
 use Rattle.site.specs.Site.{siteOf}
 use Rattle.site.specs.Laws.Read.{functional-in, place-is, place-out}
-use Rattle.edits.specs.Laws.Areas.{alike, presents-are, marks-are, links-are}
+use Rattle.edits.specs.Laws.Areas.{same-fields, presents-are, marks-are, links-are}
 use Rattle.sample_bytes.specs.Write.{upTo, number, setByte, byteAt, bytesOf}
 
 -- ---- lists and numbers
@@ -195,13 +195,13 @@ module _ (M : Model) (v : Valid M) where
 
     pub read-back : siteOf (bytesOf M) ≡ M
     unfolding slots
-    read-back = alike (record {
-      present-alike = presents-are (bytesOf M) (M .present) present-back (v .small);
-      marked-alike = marks-are (bytesOf M) (M .marked)
+    read-back = same-fields (record {
+      present-same = presents-are (bytesOf M) (M .present) present-back (v .small);
+      marked-same = marks-are (bytesOf M) (M .marked)
           (λ p s hp hs. set-has M (labelAt p) (M .marked p) (omega arith) (λ i hi. label-byte M p i hp hi) s hs)
           (λ p s h. (few .labels-few p s h, v .small s (v .labelled p s h)));
-      place-alike = place-back;
-      link-alike = links-are (bytesOf M) (M .link)
+      place-same = place-back;
+      link-same = links-are (bytesOf M) (M .link)
           (λ m s t hm hs ht. set-has M (rowAt m s) (M .link m s) (omega arith) (λ i hi. row-byte M m s i hm hs hi) t ht)
           target-back
           (λ m s t h. (few .links-few m s t h, (v .small s (v .from m s t h .0), v .small t (v .to m s t h .0))));

@@ -1,4 +1,4 @@
--- A condition that describes a slot up to k rounds of refinement (its characteristic formula), as a block: slots that are not alike are told
+-- A condition that describes a slot up to k rounds of refinement (its characteristic formula), as a block: slots that are not bisimilar are told
 -- apart by its table.
 use mathlib.Core.Path.{_≡_, refl, _∙_, ap, ap₂, subst, fun-ext}
 use mathlib.Core.Logic.{inl, _↔_}
@@ -11,15 +11,15 @@ use Rattle.finite.specs.Tests.{same, below, any, all}
 use Rattle.finite.specs.Laws.Bools.{either, look, clash, and-in, and-l, and-r}
 use Rattle.finite.specs.Laws.Below.{same-refl, below-in, all-in}
 use Rattle.semantics.specs.Form.{slots, labels, names, variables, occ, free, closed, even}
-use Rattle.semantics.specs.Holds.{Env, Model, step, Holds, TellsApart}
+use Rattle.semantics.specs.Holds.{Env, Model, step, Holds, Distinguishes}
 use Rattle.semantics.specs.Table.{Leaf, kTrue, kHere, kLabel, kName, kVar, kSlot, Unary, kNot, kDia, kBox, kMu, kNu, Binary, kOr, kAnd, leaf, unary, binary, kindNo, wayOf, Node, atom, one, two, trees, treeAt, formOf, leafFits, unaryFits, evenTable, slotFree, ClosedTable}
 use Rattle.semantics.specs.Block.{Block, old, end, on, join, size, root, emit}
-use Rattle.semantics.specs.Like.{Alike}
+use Rattle.semantics.specs.Bisimulation.{Bisimilar}
 use Rattle.semantics.specs.Laws.Ways.{linkWays}
 use Rattle.semantics.specs.Laws.TreeAt.{table-length}
 use Rattle.semantics.specs.Laws.Emit.{blockFits, emit-length, emit-fits, fill, emit-tree, evenBlock, emit-even}
 use Rattle.semantics.specs.Laws.Eval.{eval, eval-table}
-use Rattle.semantics.specs.Laws.Refine.{covers, match, agree, like, like-refl, alike-like}
+use Rattle.semantics.specs.Laws.Refine.{covers, match, agree, bisimilarIn, bisimilar-refl, bisimilar-rounds}
 
 -- short names for the nodes of blocks
 abbrev yes : Block
@@ -97,8 +97,8 @@ module _ (N : Model) (ρ : Env) where
           ap (λ y. not (step N (wayOf w) t u) || y)
           (disj-value slots _ u ∙ ap (any slots) (fun-ext (λ x. either (look (step M (wayOf w) s x)) (λ e. rw e (h x u)) (λ e. rw e))))
 
-  describe-value : (M : Model) (k s t : ℕ) → value (describe M k s) t ≡ like k M N s t
-  unfolding eval fill atom two describe like agree
+  describe-value : (M : Model) (k s t : ℕ) → value (describe M k s) t ≡ bisimilarIn k M N s t
+  unfolding eval fill atom two describe bisimilarIn agree
   describe-value M zero s t =
       ap₂ _&&_ (sign-value _ (end kHere 0) t)
       (ap₂ _&&_
@@ -106,7 +106,7 @@ module _ (N : Model) (ρ : Env) where
       (conj-value names _ t ∙ ap (all names) (fun-ext (λ n. sign-value _ (end kName n) t))))
   describe-value M (suc k) s t =
       ap₂ _&&_ (describe-value M k s t)
-      (conj-value linkWays _ t ∙ ap (all linkWays) (fun-ext (λ w. covered-value M w (describe M k) (like k M N) (describe-value M k) s t)))
+      (conj-value linkWays _ t ∙ ap (all linkWays) (fun-ext (λ w. covered-value M w (describe M k) (bisimilarIn k M N) (describe-value M k) s t)))
 
 -- blocks of whole conditions, without variables, loops and slot numbers, with parameters in range
 plainLeaf : Leaf → Bool
@@ -274,7 +274,7 @@ ground-table x g = record {
 
 -- the table that describes s in M up to k rounds holds in N at the slots that these do not tell apart from s
 pub describes : (M : Model) (k s : ℕ)
-    → (xs : List Node) × ClosedTable xs × ((N : Model) (ρ : Env) (t : ℕ) → t < slots → (like k M N s t ≡ true) ↔ Holds N ρ (formOf xs) t)
+    → (xs : List Node) × ClosedTable xs × ((N : Model) (ρ : Env) (t : ℕ) → t < slots → (bisimilarIn k M N s t ≡ true) ↔ Holds N ρ (formOf xs) t)
 unfolding formOf
 describes M k s =
     let x = describe M k s in
@@ -288,10 +288,10 @@ describes M k s =
           (eval-table xs (c .fits) (c .even-rule) (length xs - 1) (omega (arith, c .some)) N ρ t l),
     )
 
--- slots that are not alike are told apart: by the table that describes one of them
-pub tells-apart : (M : Model) (ρ : Env) (s t : ℕ) → s < slots → t < slots → ¬ Alike M s t
-    → (xs : List Node) × ClosedTable xs × TellsApart M ρ (formOf xs) s t
-unfolding TellsApart
-tells-apart M ρ s t h k a =
+-- slots that are not bisimilar are told apart: by the table that describes one of them
+pub distinguished : (M : Model) (ρ : Env) (s t : ℕ) → s < slots → t < slots → ¬ Bisimilar M s t
+    → (xs : List Node) × ClosedTable xs × Distinguishes M ρ (formOf xs) s t
+unfolding Distinguishes
+distinguished M ρ s t h k a =
     let d = describes M slots s in
-    (d .0, d .1, inl (d .2 M ρ s h .0 (like-refl M slots s), λ q. a (alike-like M s t h k .1 (d .2 M ρ t k .1 q))))
+    (d .0, d .1, inl (d .2 M ρ s h .0 (bisimilar-refl M slots s), λ q. a (bisimilar-rounds M s t h k .1 (d .2 M ρ t k .1 q))))

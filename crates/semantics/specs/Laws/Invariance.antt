@@ -1,4 +1,4 @@
--- Bisimulation invariance: slots that a total likeness between two sites relates satisfy the same closed conditions without slot numbers.
+-- Bisimulation invariance: slots that a total bisimulation between two sites relates satisfy the same closed conditions without slot numbers.
 use mathlib.Core.Path.{_≡_, refl, sym, _∙_, ap, ap₂}
 use mathlib.Core.Logic.{_⊎_, inl, inr, _↔_, Iff·trans, _≢_}
 use mathlib.Core.List.{List, [], _∷_}
@@ -15,15 +15,15 @@ use Rattle.finite.specs.Laws.Dual.{all-any}
 use Rattle.semantics.specs.Form.{slots, labels, names, variables, Way, every, Form, top, here, label, name, var, neg, or, and, dia, box, mu, nu, slot, occ, free, closed}
 use Rattle.semantics.specs.Holds.{Set, Env, put, Model, step, Holds}
 use Rattle.semantics.specs.Table.{kTrue, kHere, kLabel, kName, kVar, kSlot, kNot, kDia, kBox, kMu, kNu, kOr, kAnd, Kind, leaf, unary, binary, kindNo, kindOf, wayOf, Node, atom, one, two, build, treeAt, formOf, leafFits, unaryFits, kindFits, nodeFits, nodesFit, slotFree, ClosedTable}
-use Rattle.semantics.specs.Like.{Link, LikenessBetween, Total, Alike}
+use Rattle.semantics.specs.Bisimulation.{Link, Bisimulation, Total, Bisimilar}
 use Rattle.semantics.specs.Laws.Ways.{way-link}
 use Rattle.semantics.specs.Laws.TreeAt.{fits-at, blank, Parts, tree-ind}
 use Rattle.semantics.specs.Laws.Monotone.{coincide}
 use Rattle.semantics.specs.Laws.FixedPoint.{iter, none, full}
 use Rattle.semantics.specs.Laws.Eval.{eval, eval-table}
-use Rattle.semantics.specs.Laws.Refine.{like, like-refl, stable, stable-likeness, alike-like}
+use Rattle.semantics.specs.Laws.Refine.{bisimilarIn, bisimilar-refl, stable, stable-bisimulation, bisimilar-rounds}
 
--- numbers in range and no slot number: what a likeness respects
+-- numbers in range and no slot number: what a bisimulation respects
 WayFits : Way → Type 0
 WayFits w = (w ≡ every) ⊎ Link w
 
@@ -42,7 +42,7 @@ Plain (mu v φ) = Plain φ
 Plain (nu v φ) = Plain φ
 Plain (slot k) = ⊥
 
-module _ (M N : Model) (R : ℕ → ℕ → Type 0) (like : LikenessBetween M N R) (total : Total R) where
+module _ (M N : Model) (R : ℕ → ℕ → Type 0) (bisim : Bisimulation M N R) (total : Total R) where
   -- two sets that related slots are in together
   abbrev Invariant : Set → Set → Type 0
   Invariant S T = (s t : ℕ) → s < slots → t < slots → R s t → S s ≡ T t
@@ -58,7 +58,7 @@ module _ (M N : Model) (R : ℕ → ℕ → Type 0) (like : LikenessBetween M N 
   iter-invariant F G f S T i zero s t h k q = i s t h k q
   iter-invariant F G f S T i (suc n) s t h k q = f (iter n F S) (iter n G T) (iter-invariant F G f S T i n) s t h k q
 
-  -- everywhere reaches related slots of both sites, for the likeness is total
+  -- everywhere reaches related slots of both sites, for the bisimulation is total
   every-invariant : (X Y : Set) → Invariant X Y → any slots X ≡ any slots Y
   every-invariant X Y i = both
       (λ p. let a = any-out slots _ p in
@@ -72,10 +72,10 @@ module _ (M N : Model) (R : ℕ → ℕ → Type 0) (like : LikenessBetween M N 
       → Invariant (λ s. any slots (λ u. step M w s u && X u)) (λ t. any slots (λ u. step N w t u && Y u))
   link-invariant X Y i w l s t h k q = both
       (λ p. let a = any-out slots _ p in
-      let b = like .forth w s t (a .0) l h k q (a .1) (and-l _ _ (a .2)) in
+      let b = bisim .forth w s t (a .0) l h k q (a .1) (and-l _ _ (a .2)) in
       any-in slots _ (b .0) (b .1) (and-in (b .2) (sym (i _ _ (a .1) (b .1) (b .3)) ∙ and-r (step M w s (a .0)) _ (a .2))))
       (λ p. let a = any-out slots _ p in
-      let b = like .back w s t (a .0) l h k q (a .1) (and-l _ _ (a .2)) in
+      let b = bisim .back w s t (a .0) l h k q (a .1) (and-l _ _ (a .2)) in
       any-in slots _ (b .0) (b .1) (and-in (b .2) (i _ _ (b .1) (a .1) (b .3) ∙ and-r (step N w t (a .0)) _ (a .2))))
 
   any-invariant : (X Y : Set) → Invariant X Y → (w : Way) → WayFits w
@@ -93,9 +93,9 @@ module _ (M N : Model) (R : ℕ → ℕ → Type 0) (like : LikenessBetween M N 
   invariant : (φ : Form) → Plain φ → (ρ σ : Env) → ((v : ℕ) → v < variables → Invariant (ρ v) (σ v)) → Invariant (eval M ρ φ) (eval N σ φ)
   unfolding eval Plain none full
   invariant top f ρ σ r s t h k q = refl
-  invariant here f ρ σ r s t h k q = like .on-here s t h k q
-  invariant (label p) f ρ σ r s t h k q = like .on-labels p s t f h k q
-  invariant (name m) f ρ σ r s t h k q = let e = like .on-names m s t f h k q in both (λ x. eq-same (e .0 (same-eq x))) (λ x. eq-same (e .1 (same-eq x)))
+  invariant here f ρ σ r s t h k q = bisim .on-here s t h k q
+  invariant (label p) f ρ σ r s t h k q = bisim .on-labels p s t f h k q
+  invariant (name m) f ρ σ r s t h k q = let e = bisim .on-names m s t f h k q in both (λ x. eq-same (e .0 (same-eq x))) (λ x. eq-same (e .1 (same-eq x)))
   invariant (var v) f ρ σ r s t h k q = r v f s t h k q
   invariant (neg φ) f ρ σ r s t h k q = ap not (invariant φ f ρ σ r s t h k q)
   invariant (or φ ψ) f ρ σ r s t h k q = ap₂ _||_ (invariant φ (f .0) ρ σ r s t h k q) (invariant ψ (f .1) ρ σ r s t h k q)
@@ -177,8 +177,8 @@ closed-value M xs c ρ s h =
     (eval-table xs (c .fits) (c .even-rule) i (omega (arith, c .some)) M (cleared ρ) s h)
     (coincide M (treeAt xs i) (cleared ρ) ρ agree s h)
 
--- slots that a total likeness relates satisfy the same closed conditions without slot numbers
-pub total-holds : (M N : Model) (R : ℕ → ℕ → Type 0) → LikenessBetween M N R → Total R → (s t : ℕ) → s < slots → t < slots → R s t
+-- slots that a total bisimulation relates satisfy the same closed conditions without slot numbers
+pub total-holds : (M N : Model) (R : ℕ → ℕ → Type 0) → Bisimulation M N R → Total R → (s t : ℕ) → s < slots → t < slots → R s t
     → (xs : List Node) → ClosedTable xs → (ρ : Env) → Holds M ρ (formOf xs) s ↔ Holds N ρ (formOf xs) t
 unfolding formOf cleared
 total-holds M N R r total s t h k q xs c ρ =
@@ -189,10 +189,10 @@ total-holds M N R r total s t h k q xs c ρ =
     (λ v l _ _ _ _ _. rw (below-in v variables l) refl) s t h k q in
     (λ p. at-t .0 (sym e ∙ at-s .1 p), λ p. at-s .0 (e ∙ at-t .1 p))
 
--- and so do alike slots, for the largest likeness on one site is total
-pub alike-holds : (M : Model) (s t : ℕ) → s < slots → t < slots → Alike M s t
+-- and so do bisimilar slots, for the largest bisimulation on one site is total
+pub bisimilar-holds : (M : Model) (s t : ℕ) → s < slots → t < slots → Bisimilar M s t
     → (xs : List Node) → ClosedTable xs → (ρ : Env) → Holds M ρ (formOf xs) s ↔ Holds M ρ (formOf xs) t
-alike-holds M s t h k a =
-    total-holds M M (λ x y. like slots M M x y ≡ true) (stable-likeness M M slots (stable M))
-    (record { ahead = λ x l. (x, l, like-refl M slots x); behind = λ x l. (x, l, like-refl M slots x) })
-    s t h k (alike-like M s t h k .0 a)
+bisimilar-holds M s t h k a =
+    total-holds M M (λ x y. bisimilarIn slots M M x y ≡ true) (stable-bisimulation M M slots (stable M))
+    (record { ahead = λ x l. (x, l, bisimilar-refl M slots x); behind = λ x l. (x, l, bisimilar-refl M slots x) })
+    s t h k (bisimilar-rounds M s t h k .0 a)

@@ -1,5 +1,5 @@
 -- Refinement: slots of two sites that agree on what is said of them, then those whose neighbours cannot be told apart, round after round. On
--- one site the relation is a likeness after as many rounds as there are slots.
+-- one site the relation is a bisimulation after as many rounds as there are slots.
 use mathlib.Core.Path.{_≡_, refl, sym, _∙_, ap, subst}
 use mathlib.Core.Logic.{_⊎_, inl, inr, _↔_, Iff·rfl}
 use mathlib.Core.Bool.{Bool, true, false, not, _&&_, _||_, Bool·beq}
@@ -13,7 +13,7 @@ use Rattle.finite.specs.Laws.Count.{count-more, count-full}
 use Rattle.semantics.specs.Form.{slots, labels, names, Way}
 use Rattle.semantics.specs.Holds.{Set, Model, step}
 use Rattle.semantics.specs.Table.{wayNo, wayOf}
-use Rattle.semantics.specs.Like.{Link, LikenessBetween, Likeness, Alike}
+use Rattle.semantics.specs.Bisimulation.{Link, Bisimulation, Bisimilar}
 use Rattle.semantics.specs.Laws.Ways.{linkWays, way-link, link-way}
 use Rattle.semantics.specs.Laws.Monotone.{_⊆_}
 use Rattle.semantics.specs.Laws.FixedPoint.{inside?}
@@ -34,9 +34,9 @@ agree M N s t =
     && (all labels (λ p. Bool·beq (M .marked p s) (N .marked p t)) && all names (λ n. Bool·beq (same s (M .place n)) (same t (N .place n))))
 
 -- what k rounds do not tell apart: a slot s of M and a slot t of N
-unfoldable pub like : ℕ → Model → Model → Rel
-like zero M N s t = agree M N s t
-like (suc k) M N s t = like k M N s t && all linkWays (λ p. match M N (wayOf p) (like k M N) s t)
+unfoldable pub bisimilarIn : ℕ → Model → Model → Rel
+bisimilarIn zero M N s t = agree M N s t
+bisimilarIn (suc k) M N s t = bisimilarIn k M N s t && all linkWays (λ p. match M N (wayOf p) (bisimilarIn k M N) s t)
 
 -- the tests, as statements
 abbrev pub Cover : Model → Model → Way → Rel → ℕ → ℕ → Type 0
@@ -57,25 +57,25 @@ Agree M N s t = (M .present s ≡ N .present t) × ((p : ℕ) → p < labels →
 
 -- a round that told nothing more apart
 abbrev pub Stable : Model → Model → ℕ → Type 0
-Stable M N k = (s t : ℕ) → s < slots → t < slots → like k M N s t ≡ true → like (suc k) M N s t ≡ true
+Stable M N k = (s t : ℕ) → s < slots → t < slots → bisimilarIn k M N s t ≡ true → bisimilarIn (suc k) M N s t ≡ true
 
 module _ (M N : Model) where
-  next-out : (k s t : ℕ) → like (suc k) M N s t ≡ true → (like k M N s t ≡ true) × Match M N (like k M N) s t
-  unfolding like match
+  next-out : (k s t : ℕ) → bisimilarIn (suc k) M N s t ≡ true → (bisimilarIn k M N s t ≡ true) × Match M N (bisimilarIn k M N) s t
+  unfolding bisimilarIn match
   next-out k s t p = (
     and-l _ _ p,
     λ w l.
         let n = link-way w l in
-        let q = all-out linkWays _ (and-r (like k M N s t) _ p) (wayNo w) (n .0) in
-        subst (λ d. Cover M N d (like k M N) s t × Cover N M d (λ a b. like k M N b a) t s) (n .1)
-        (covers-iff M N _ _ s t .0 (and-l _ _ q), covers-iff N M _ _ t s .0 (and-r (covers M N (wayOf (wayNo w)) (like k M N) s t) _ q)),
+        let q = all-out linkWays _ (and-r (bisimilarIn k M N s t) _ p) (wayNo w) (n .0) in
+        subst (λ d. Cover M N d (bisimilarIn k M N) s t × Cover N M d (λ a b. bisimilarIn k M N b a) t s) (n .1)
+        (covers-iff M N _ _ s t .0 (and-l _ _ q), covers-iff N M _ _ t s .0 (and-r (covers M N (wayOf (wayNo w)) (bisimilarIn k M N) s t) _ q)),
   )
 
-  next-in : (k s t : ℕ) → like k M N s t ≡ true → Match M N (like k M N) s t → like (suc k) M N s t ≡ true
-  unfolding like match
+  next-in : (k s t : ℕ) → bisimilarIn k M N s t ≡ true → Match M N (bisimilarIn k M N) s t → bisimilarIn (suc k) M N s t ≡ true
+  unfolding bisimilarIn match
   next-in k s t p c = and-in p (all-in linkWays _ (λ i h.
       let q = c (wayOf i) (way-link i h) in
-      and-in (covers-iff M N _ (like k M N) s t .1 (q .0)) (covers-iff N M _ (λ a b. like k M N b a) t s .1 (q .1))))
+      and-in (covers-iff M N _ (bisimilarIn k M N) s t .1 (q .0)) (covers-iff N M _ (λ a b. bisimilarIn k M N b a) t s .1 (q .1))))
 
   agree-out : (s t : ℕ) → agree M N s t ≡ true → Agree M N s t
   unfolding agree
@@ -91,100 +91,100 @@ module _ (M N : Model) where
   agree-in s t a = and-in (eq-beq (a .0)) (and-in (all-in labels _ (λ n h. eq-beq (a .1 n h))) (all-in names _ (λ n h. eq-beq (a .2 n h))))
 
   -- what a round does not tell apart, the one before does not
-  pub like-less : (k s t : ℕ) → like (suc k) M N s t ≡ true → like k M N s t ≡ true
-  like-less k s t p = next-out k s t p .0
+  pub bisimilar-less : (k s t : ℕ) → bisimilarIn (suc k) M N s t ≡ true → bisimilarIn k M N s t ≡ true
+  bisimilar-less k s t p = next-out k s t p .0
 
-  like-agree : (k s t : ℕ) → like k M N s t ≡ true → Agree M N s t
-  unfolding like
-  like-agree zero s t p = agree-out s t p
-  like-agree (suc k) s t p = like-agree k s t (like-less k s t p)
+  bisimilar-agree : (k s t : ℕ) → bisimilarIn k M N s t ≡ true → Agree M N s t
+  unfolding bisimilarIn
+  bisimilar-agree zero s t p = agree-out s t p
+  bisimilar-agree (suc k) s t p = bisimilar-agree k s t (bisimilar-less k s t p)
 
-  -- a round after which nothing more is told apart is a likeness
-  pub stable-likeness : (k : ℕ) → Stable M N k → LikenessBetween M N (λ s t. like k M N s t ≡ true)
-  stable-likeness k c = record {
-    on-here = λ s t h j p. like-agree k s t p .0;
-    on-labels = λ i s t l h j p. like-agree k s t p .1 i l;
+  -- a round after which nothing more is told apart is a bisimulation
+  pub stable-bisimulation : (k : ℕ) → Stable M N k → Bisimulation M N (λ s t. bisimilarIn k M N s t ≡ true)
+  stable-bisimulation k c = record {
+    on-here = λ s t h j p. bisimilar-agree k s t p .0;
+    on-labels = λ i s t l h j p. bisimilar-agree k s t p .1 i l;
     on-names = λ i s t l h j p.
-        let e = like-agree k s t p .2 i l in
+        let e = bisimilar-agree k s t p .2 i l in
         (λ q. same-eq (sym e ∙ eq-same q), λ q. same-eq (e ∙ eq-same q));
     forth = λ w s t x l h j p i q. next-out k s t (c s t h j p) .1 w l .0 x i q;
     back = λ w s t x l h j p i q. next-out k s t (c s t h j p) .1 w l .1 x i q;
   }
 
-  -- no round tells apart what some likeness relates
-  pub likeness-like : (R : ℕ → ℕ → Type 0) → LikenessBetween M N R → (k s t : ℕ) → s < slots → t < slots → R s t → like k M N s t ≡ true
-  unfolding like
-  likeness-like R r zero s t h j p =
+  -- no round tells apart what some bisimulation relates
+  pub bisimulation-rounds : (R : ℕ → ℕ → Type 0) → Bisimulation M N R → (k s t : ℕ) → s < slots → t < slots → R s t → bisimilarIn k M N s t ≡ true
+  unfolding bisimilarIn
+  bisimulation-rounds R r zero s t h j p =
       agree-in s t (
         r .on-here s t h j p,
         λ n l. r .on-labels n s t l h j p,
         λ n l. let e = r .on-names n s t l h j p in both (λ q. eq-same (e .0 (same-eq q))) (λ q. eq-same (e .1 (same-eq q))),
       )
-  likeness-like R r (suc k) s t h j p =
-      next-in k s t (likeness-like R r k s t h j p) (λ w l. (
-        λ x i q. let b = r .forth w s t x l h j p i q in (b .0, b .1, b .2, likeness-like R r k _ _ i (b .1) (b .3)),
-        λ x i q. let b = r .back w s t x l h j p i q in (b .0, b .1, b .2, likeness-like R r k _ _ (b .1) i (b .3)),
+  bisimulation-rounds R r (suc k) s t h j p =
+      next-in k s t (bisimulation-rounds R r k s t h j p) (λ w l. (
+        λ x i q. let b = r .forth w s t x l h j p i q in (b .0, b .1, b .2, bisimulation-rounds R r k _ _ i (b .1) (b .3)),
+        λ x i q. let b = r .back w s t x l h j p i q in (b .0, b .1, b .2, bisimulation-rounds R r k _ _ (b .1) i (b .3)),
       ))
 
-pub like-refl : (M : Model) (k s : ℕ) → like k M M s s ≡ true
-unfolding like
-like-refl M zero s = agree-in M M s s (refl, λ _ _. refl, λ _ _. refl)
-like-refl M (suc k) s = next-in M M k s s (like-refl M k s) (λ w l. (λ x h q. (x, h, q, like-refl M k x), λ x h q. (x, h, q, like-refl M k x)))
+pub bisimilar-refl : (M : Model) (k s : ℕ) → bisimilarIn k M M s s ≡ true
+unfolding bisimilarIn
+bisimilar-refl M zero s = agree-in M M s s (refl, λ _ _. refl, λ _ _. refl)
+bisimilar-refl M (suc k) s = next-in M M k s s (bisimilar-refl M k s) (λ w l. (λ x h q. (x, h, q, bisimilar-refl M k x), λ x h q. (x, h, q, bisimilar-refl M k x)))
 
-pub like-sym : (M N : Model) (k s t : ℕ) → like k M N s t ≡ true → like k N M t s ≡ true
-unfolding like
-like-sym M N zero s t p = let a = agree-out M N s t p in agree-in N M t s (sym (a .0), λ n h. sym (a .1 n h), λ n h. sym (a .2 n h))
-like-sym M N (suc k) s t p =
+pub bisimilar-sym : (M N : Model) (k s t : ℕ) → bisimilarIn k M N s t ≡ true → bisimilarIn k N M t s ≡ true
+unfolding bisimilarIn
+bisimilar-sym M N zero s t p = let a = agree-out M N s t p in agree-in N M t s (sym (a .0), λ n h. sym (a .1 n h), λ n h. sym (a .2 n h))
+bisimilar-sym M N (suc k) s t p =
     let a = next-out M N k s t p in
-    next-in N M k t s (like-sym M N k s t (a .0)) (λ w l. (
-      λ x h q. let b = a .1 w l .1 x h q in (b .0, b .1, b .2, like-sym M N k _ _ (b .3)),
-      λ x h q. let b = a .1 w l .0 x h q in (b .0, b .1, b .2, like-sym M N k _ _ (b .3)),
+    next-in N M k t s (bisimilar-sym M N k s t (a .0)) (λ w l. (
+      λ x h q. let b = a .1 w l .1 x h q in (b .0, b .1, b .2, bisimilar-sym M N k _ _ (b .3)),
+      λ x h q. let b = a .1 w l .0 x h q in (b .0, b .1, b .2, bisimilar-sym M N k _ _ (b .3)),
     ))
 
-pub like-trans : (M N O : Model) (k s t u : ℕ) → like k M N s t ≡ true → like k N O t u ≡ true → like k M O s u ≡ true
-unfolding like
-like-trans M N O zero s t u p q =
+pub bisimilar-trans : (M N O : Model) (k s t u : ℕ) → bisimilarIn k M N s t ≡ true → bisimilarIn k N O t u ≡ true → bisimilarIn k M O s u ≡ true
+unfolding bisimilarIn
+bisimilar-trans M N O zero s t u p q =
     let a = agree-out M N s t p in
     let b = agree-out N O t u q in
     agree-in M O s u (a .0 ∙ b .0, λ n h. a .1 n h ∙ b .1 n h, λ n h. a .2 n h ∙ b .2 n h)
-like-trans M N O (suc k) s t u p q =
+bisimilar-trans M N O (suc k) s t u p q =
     let a = next-out M N k s t p in
     let b = next-out N O k t u q in
-    next-in M O k s u (like-trans M N O k s t u (a .0) (b .0)) (λ w l. (
+    next-in M O k s u (bisimilar-trans M N O k s t u (a .0) (b .0)) (λ w l. (
       λ x h r. let c = a .1 w l .0 x h r in let d = b .1 w l .0 (c .0) (c .1) (c .2) in
-          (d .0, d .1, d .2, like-trans M N O k _ _ _ (c .3) (d .3)),
+          (d .0, d .1, d .2, bisimilar-trans M N O k _ _ _ (c .3) (d .3)),
       λ x h r. let c = b .1 w l .1 x h r in let d = a .1 w l .1 (c .0) (c .1) (c .2) in
-          (d .0, d .1, d .2, like-trans M N O k _ _ _ (d .3) (c .3)),
+          (d .0, d .1, d .2, bisimilar-trans M N O k _ _ _ (d .3) (c .3)),
     ))
 
 -- one site, which is stable after as many rounds as there are slots
 module _ (M : Model) where
   -- s is the lowest of its class
   rep : ℕ → Set
-  rep k s = not (any s (like k M M s))
+  rep k s = not (any s (bisimilarIn k M M s))
 
-  lowest : (k b s : ℕ) → s < b → (r : ℕ) × (r ≤ s) × (rep k r ≡ true) × (like k M M s r ≡ true)
+  lowest : (k b s : ℕ) → s < b → (r : ℕ) × (r ≤ s) × (rep k r ≡ true) × (bisimilarIn k M M s r ≡ true)
   unfolding rep
   lowest k zero s h = absurd (omega arith)
   lowest k (suc b) s h =
       either
-      (look (any s (like k M M s)))
+      (look (any s (bisimilarIn k M M s)))
       (λ e. let a = any-out s _ e in
       let c = lowest k b (a .0) (omega (arith, a .1)) in
-      (c .0, omega (arith, a .1, c .1), c .2, like-trans M M M k _ _ _ (a .2) (c .3)))
-      (λ e. (s, omega arith, ap not e, like-refl M k s))
+      (c .0, omega (arith, a .1, c .1), c .2, bisimilar-trans M M M k _ _ _ (a .2) (c .3)))
+      (λ e. (s, omega arith, ap not e, bisimilar-refl M k s))
 
   -- two lowest slots of one class are one
-  rep-one : (k r u : ℕ) → rep k r ≡ true → rep k u ≡ true → like k M M r u ≡ true → r ≡ u
+  rep-one : (k r u : ℕ) → rep k r ≡ true → rep k u ≡ true → bisimilarIn k M M r u ≡ true → r ≡ u
   unfolding rep
   rep-one k r u p q e =
       let a : ¬ (u < r) = λ h. not-out _ p (any-in r _ u h e) in
-      let b : ¬ (r < u) = λ h. not-out _ q (any-in u _ r h (like-sym M M k r u e)) in
+      let b : ¬ (r < u) = λ h. not-out _ q (any-in u _ r h (bisimilar-sym M M k r u e)) in
       omega arith
 
   rep-kept : (k : ℕ) → rep k ⊆ rep (suc k)
   unfolding rep
-  rep-kept k x h p = not-in {b = any x (like (suc k) M M x)} (λ q. let a = any-out x _ q in not-out _ p (any-in x _ (a .0) (a .1) (like-less M M k _ _ (a .2))))
+  rep-kept k x h p = not-in {b = any x (bisimilarIn (suc k) M M x)} (λ q. let a = any-out x _ q in not-out _ p (any-in x _ (a .0) (a .1) (bisimilar-less M M k _ _ (a .2))))
 
   stable-next : (k : ℕ) → Stable M M k → Stable M M (suc k)
   stable-next k c s t h j p =
@@ -199,10 +199,10 @@ module _ (M : Model) where
   stable-reps k c s t h j p =
       let a = lowest (suc k) slots s h in
       let b = lowest (suc k) slots t j in
-      let near : like k M M (a .0) (b .0) ≡ true =
-      like-trans M M M k _ _ _ (like-sym M M k _ _ (like-less M M k _ _ (a .3))) (like-trans M M M k _ _ _ p (like-less M M k _ _ (b .3))) in
+      let near : bisimilarIn k M M (a .0) (b .0) ≡ true =
+      bisimilar-trans M M M k _ _ _ (bisimilar-sym M M k _ _ (bisimilar-less M M k _ _ (a .3))) (bisimilar-trans M M M k _ _ _ p (bisimilar-less M M k _ _ (b .3))) in
       let e : a .0 ≡ b .0 = rep-one k _ _ (c _ (omega (arith, a .1)) (a .2)) (c _ (omega (arith, b .1)) (b .2)) near in
-      like-trans M M M (suc k) s (b .0) t (subst (λ x. like (suc k) M M s x ≡ true) e (a .3)) (like-sym M M (suc k) _ _ (b .3))
+      bisimilar-trans M M M (suc k) s (b .0) t (subst (λ x. bisimilarIn (suc k) M M s x ≡ true) e (a .3)) (bisimilar-sym M M (suc k) _ _ (b .3))
 
   -- each round before finds a new class, and there is one before the first
   settle : (k : ℕ) → Stable M M k ⊎ (k < count slots (rep k))
@@ -225,20 +225,20 @@ module _ (M : Model) where
       (λ c s t h j p.
       let all-reps : slots ≤ count slots (rep k) = omega arith in
       let e : s ≡ t = rep-one k s t (count-full slots (rep k) all-reps s h) (count-full slots (rep k) all-reps t j) p in
-      subst (λ x. like (suc k) M M s x ≡ true) e (like-refl M (suc k) s))
+      subst (λ x. bisimilarIn (suc k) M M s x ≡ true) e (bisimilar-refl M (suc k) s))
 
   pub stable : Stable M M slots
   stable = stable-from slots (omega arith)
 
-  -- so any stable round is the largest likeness
-  pub stable-alike : (k : ℕ) → Stable M M k → (s t : ℕ) → s < slots → t < slots → Alike M s t ↔ (like k M M s t ≡ true)
-  unfolding Alike
-  stable-alike k c s t h j =
-      (λ a. likeness-like M M (λ x y. a .0 x y ≡ true) (a .1) k s t h j (a .2), λ p. (like k M M, stable-likeness M M k c, p))
+  -- so any stable round is the largest bisimulation
+  pub stable-bisimilar : (k : ℕ) → Stable M M k → (s t : ℕ) → s < slots → t < slots → Bisimilar M s t ↔ (bisimilarIn k M M s t ≡ true)
+  unfolding Bisimilar
+  stable-bisimilar k c s t h j =
+      (λ a. bisimulation-rounds M M (λ x y. a .0 x y ≡ true) (a .1) k s t h j (a .2), λ p. (bisimilarIn k M M, stable-bisimulation M M k c, p))
 
-  pub alike-like : (s t : ℕ) → s < slots → t < slots → Alike M s t ↔ (like slots M M s t ≡ true)
-  alike-like = stable-alike slots stable
+  pub bisimilar-rounds : (s t : ℕ) → s < slots → t < slots → Bisimilar M s t ↔ (bisimilarIn slots M M s t ≡ true)
+  bisimilar-rounds = stable-bisimilar slots stable
 
-  -- that a likeness be a Boolean relation loses nothing: one of any kind relates none but alike slots
-  pub likeness-alike : (R : ℕ → ℕ → Type 0) → Likeness M R → (s t : ℕ) → s < slots → t < slots → R s t → Alike M s t
-  likeness-alike R r s t h j p = alike-like s t h j .1 (likeness-like M M R r slots s t h j p)
+  -- that a bisimulation be a Boolean relation loses nothing: one of any kind relates none but bisimilar slots
+  pub bisimulation-bisimilar : (R : ℕ → ℕ → Type 0) → Bisimulation M M R → (s t : ℕ) → s < slots → t < slots → R s t → Bisimilar M s t
+  bisimulation-bisimilar R r s t h j p = bisimilar-rounds s t h j .1 (bisimulation-rounds M M R r slots s t h j p)

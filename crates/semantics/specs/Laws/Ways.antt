@@ -9,7 +9,7 @@ use Rattle.finite.specs.Laws.Below.{below-in, below-out, below-not, not-below}
 use Rattle.semantics.specs.Form.{Way, along, against, every}
 use Rattle.semantics.specs.Holds.{Model, step}
 use Rattle.semantics.specs.Table.{wayNo, wayOf}
-use Rattle.semantics.specs.Like.{Link}
+use Rattle.semantics.specs.Bisimulation.{Link}
 
 pub way-along : (m : ℕ) → m < 8 → wayOf m ≡ along m
 unfolding wayOf
@@ -24,7 +24,7 @@ pub everywhere : (M : Model) (s t : ℕ) → step M (wayOf 16) s t ≡ true
 unfolding wayOf below step
 everywhere M s t = refl
 
--- the ways that a likeness goes by are those with the numbers 0 to 15
+-- the ways that a bisimulation goes by are those with the numbers 0 to 15
 abbrev pub linkWays : ℕ
 linkWays = 16
 

@@ -1,4 +1,4 @@
--- Likenesses, which are bisimulations, and class numbers. Document 01, "Classes"; between two sites: document 02, change 13.
+-- Bisimulations, which document 01 calls likenesses, and class numbers. Document 01, "Classes"; between two sites: document 02, change 13.
 use mathlib.Core.Path.{_≡_}
 use mathlib.Core.Logic.{_↔_}
 use mathlib.Core.Bool.{Bool, true}
@@ -12,9 +12,9 @@ Link (along m) = m < links
 Link (against m) = m < links
 Link every = ⊥
 
--- a likeness between two sites, with one slot from each, is a bisimulation: related slots agree on here, every label and every name, and
--- for each way 0 to 15 each neighbour of one is related to some neighbour of the other, both ways round
-pub record LikenessBetween (M N : Model) (R : ℕ → ℕ → Type 0) : Type 0 where
+-- a bisimulation between two sites (document 01's likeness, where both are one site) relates slots of one to slots of the other: related slots
+-- agree on here, every label and every name, and for each way 0 to 15 each neighbour of one is related to some neighbour of the other, both ways round
+pub record Bisimulation (M N : Model) (R : ℕ → ℕ → Type 0) : Type 0 where
   pub on-here : (s t : ℕ) → s < slots → t < slots → R s t → M .present s ≡ N .present t
   pub on-labels : (p s t : ℕ) → p < labels → s < slots → t < slots → R s t → M .marked p s ≡ N .marked p t
   pub on-names : (n s t : ℕ) → n < names → s < slots → t < slots → R s t → (s ≡ M .place n) ↔ (t ≡ N .place n)
@@ -23,21 +23,17 @@ pub record LikenessBetween (M N : Model) (R : ℕ → ℕ → Type 0) : Type 0 w
   pub back : (w : Way) (s t t′ : ℕ) → Link w → s < slots → t < slots → R s t → t′ < slots → step N w t t′ ≡ true
       → (s′ : ℕ) × (s′ < slots) × (step M w s s′ ≡ true) × R s′ t′
 
--- it relates each slot of either site to one of the other
+-- a relation that relates each slot of either site to one of the other
 pub record Total (R : ℕ → ℕ → Type 0) : Type 0 where
   pub ahead : (s : ℕ) → s < slots → (t : ℕ) × (t < slots) × R s t
   pub behind : (t : ℕ) → t < slots → (s : ℕ) × (s < slots) × R s t
 
--- a likeness, on the slots of one site
-abbrev pub Likeness : Model → (ℕ → ℕ → Type 0) → Type 0
-Likeness M R = LikenessBetween M M R
+-- some bisimulation of the site with itself relates s and t. A relation on slots is a set of pairs
+unfoldable pub Bisimilar : Model → ℕ → ℕ → Type 0
+Bisimilar M s t = (R : ℕ → ℕ → Bool) × Bisimulation M M (λ a b. R a b ≡ true) × (R s t ≡ true)
 
--- some likeness relates s and t: they are bisimilar. A relation on slots is a set of pairs
-unfoldable pub Alike : Model → ℕ → ℕ → Type 0
-Alike M s t = (R : ℕ → ℕ → Bool) × Likeness M (λ a b. R a b ≡ true) × (R s t ≡ true)
-
--- c is the class number of s: the lowest slot that some likeness relates to s
+-- c is the class number of s: the lowest slot that some bisimulation relates to s
 pub record IsClass (M : Model) (s c : ℕ) : Type 0 where
   pub is-slot : c < slots
-  pub alike : Alike M s c
-  pub low : (t : ℕ) → t < slots → Alike M s t → c ≤ t
+  pub bisimilar : Bisimilar M s c
+  pub low : (t : ℕ) → t < slots → Bisimilar M s t → c ≤ t
