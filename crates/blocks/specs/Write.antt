@@ -6,16 +6,10 @@ use Prim.Native.Nat.{ℕ, suc, _+_, _*_, _≤_}
 use lib.ListN.{length, take}
 use lib.Seq.{sets}
 use Rattle.finite.specs.Tests.{below}
+use Rattle.limits.specs.Limits.{tableNodes}
 use Rattle.semantics.specs.Table.{Node}
 use Rattle.semantics.specs.Block.{Block, emit, root}
 use Rattle.condition.specs.Bytes.{nodeBytes, bytesOf}
-
--- the most nodes of a table, and their bytes
-abbrev pub tableNodes : ℕ
-tableNodes = 2048
-
-abbrev pub tableBytes : ℕ
-tableBytes = 12288
 
 -- the node x written at place i
 unfoldable pub put : List ℕ → ℕ → Node → List ℕ

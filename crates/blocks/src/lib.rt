@@ -4,7 +4,8 @@ ghost use mathlib.Core.Path.{_≡_};
 ghost use Prim.Native.Nat.{_+_, _/_, _%_, _≤_, _<_};
 ghost use lib.ListN.{length};
 ghost use Rattle.blocks.specs.Text.{kindBy, paramBy, childBy, textNodes};
-ghost use Rattle.blocks.specs.Write.{tableBytes, put, puts};
+ghost use Rattle.limits.specs.Limits.{tableBytes};
+ghost use Rattle.blocks.specs.Write.{put, puts};
 
 // The most nodes of a table, and their bytes.
 pub const TABLE_NODES: usize = 2048;

@@ -5,7 +5,7 @@ use Prim.Native.Nat.{ℕ, _<_}
 use lib.ListN.{length, getD}
 use Rattle.finite.specs.Tests.{same, any, count}
 use Rattle.bitset.specs.Set.{setSlots}
-use Rattle.semantics.specs.Form.{slots}
+use Rattle.limits.specs.Limits.{slots}
 use Rattle.semantics.specs.Holds.{Model}
 use Rattle.semantics.specs.Bisimulation.{IsClass}
 

@@ -5,7 +5,7 @@ use mathlib.Core.List.{List}
 use Prim.Native.Nat.{ℕ, _+_, _-_, _*_, _<_}
 use Rattle.finite.specs.Tests.{same, below}
 use Rattle.bitset.specs.Set.{setSlots}
-use Rattle.semantics.specs.Form.{labels, names}
+use Rattle.limits.specs.Limits.{labels, names}
 use Rattle.semantics.specs.Holds.{Model}
 use Rattle.partition.specs.Rows.{inRow}
 

@@ -2,7 +2,7 @@
 use mathlib.Core.Bool.{cond}
 use Prim.Native.Nat.{ℕ}
 use lib.Dec.{ltb}
-use Rattle.semantics.specs.Form.{labels, names, variables}
+use Rattle.limits.specs.Limits.{labels, names, variables}
 use Rattle.semantics.specs.Table.{kTrue, kHere, kLabel, kName, kVar, kSlot, kNot, kDia, kBox, kMu, kNu, Kind, leaf, unary, binary}
 
 -- the parameter is below this number

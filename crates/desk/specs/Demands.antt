@@ -9,7 +9,7 @@ use Prim.Native.Nat.{ℕ, _*_, _<_}
 use lib.ListN.{length, getD, take}
 use Rattle.bitset.specs.Set.{setBytes}
 use Rattle.verdict.specs.declared.Verdict.the-variants.{Accepted}
-use Rattle.semantics.specs.Form.{slots}
+use Rattle.limits.specs.Limits.{slots, tableBytes}
 use Rattle.semantics.specs.Holds.{Env, Distinguishes}
 use Rattle.semantics.specs.Table.{Node, formOf, ClosedTable}
 use Rattle.semantics.specs.Edit as edits
@@ -21,7 +21,6 @@ use Rattle.condition.specs.Bytes.{tableOf}
 use Rattle.condition.specs.Refusal.{conditionVerdict}
 use Rattle.sheet.specs.Bytes.{editsOf}
 use Rattle.sheet.specs.Refusal.{sheetVerdict}
-use Rattle.blocks.specs.Write.{tableBytes}
 use Rattle.rewriting.specs.Refusal.{tooLong}
 use Rattle.listing.specs.Listed.{workBytes, Listed}
 use Rattle.classes_entry.specs.Refusal.{classesBytes}

@@ -6,7 +6,7 @@ use mathlib.Core.List.{List}
 use Prim.Native.Nat.{ℕ, _*_, _<_}
 use lib.ListN.{getD, take}
 use Rattle.verdict.specs.declared.Verdict.the-variants.{Accepted}
-use Rattle.semantics.specs.Form.{slots}
+use Rattle.limits.specs.Limits.{slots}
 use Rattle.semantics.specs.Holds.{Env}
 use Rattle.semantics.specs.Table.{formOf}
 use Rattle.semantics.specs.Edit as edits

@@ -6,7 +6,8 @@ use lib.ListN.{length, getD, replicate}
 use Rattle.finite.specs.Tests.{bit}
 use Rattle.verdict.specs.declared.Verdict.{Verdict}
 use Rattle.verdict.specs.declared.Verdict.the-variants.{Accepted, Refused}
-use Rattle.semantics.specs.Form.{variables, free}
+use Rattle.limits.specs.Limits.{variables}
+use Rattle.semantics.specs.Form.{free}
 use Rattle.semantics.specs.Table.{treeAt}
 use Rattle.condition.specs.Bytes.{tableOf}
 use Rattle.condition.specs.Refusal.{conditionVerdict}

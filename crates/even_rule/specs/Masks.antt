@@ -6,7 +6,8 @@ use Prim.Native.Nat.{ℕ, _+_, _*_, _≤_, _<_}
 use lib.ListN.{length, getD}
 use lib.Bits.{bitOr}
 use Rattle.finite.specs.Tests.{bit}
-use Rattle.semantics.specs.Form.{variables, Form, occ}
+use Rattle.limits.specs.Limits.{variables}
+use Rattle.semantics.specs.Form.{Form, occ}
 use Rattle.semantics.specs.Table.{treeAt, nodesFit}
 use Rattle.condition.specs.Bytes.{nodeAt, tableOf}
 

@@ -5,7 +5,7 @@ use Prim.Native.Nat.{ℕ}
 use lib.ListN.{length}
 use Rattle.bitset.specs.Set.{setBytes}
 use Rattle.site.specs.Layout.{siteBytes}
-use Rattle.blocks.specs.Write.{tableBytes}
+use Rattle.limits.specs.Limits.{tableBytes}
 use Rattle.listing.specs.Listed.{workBytes}
 use Rattle.classes_entry.specs.Refusal.{classesBytes}
 

@@ -12,7 +12,7 @@ use Rattle.condition.specs.Bytes.{tableOf}
 use Rattle.condition.specs.Refusal.{conditionVerdict}
 use Rattle.sheet.specs.Bytes.{editsOf}
 use Rattle.sheet.specs.Refusal.{sheetVerdict}
-use Rattle.blocks.specs.Write.{tableBytes}
+use Rattle.limits.specs.Limits.{tableBytes}
 use Rattle.applying.specs.Refusal.{goesVerdict}
 use Rattle.rewriting.specs.Refusal.{lengthVerdict}
 use Rattle.trailer.specs.Refusal.{trailerVerdict}

@@ -17,7 +17,7 @@ use Rattle.condition.specs.Bytes.{tableOf}
 use Rattle.condition.specs.Refusal.{conditionVerdict}
 use Rattle.even_rule.specs.Free.{FreeRows}
 use Rattle.sheet.specs.Refusal.{sheetVerdict}
-use Rattle.blocks.specs.Write.{tableNodes, tableBytes}
+use Rattle.limits.specs.Limits.{tableNodes, tableBytes}
 use Rattle.listing.specs.Listed.{workBytes, Listed}
 use Rattle.classes.specs.Classes.{Classes, different}
 use Rattle.trailer.specs.Refusal.{trailerVerdict}

@@ -8,7 +8,7 @@ use site::SITE_BYTES;
 use verdict::Verdict;
 ghost use mathlib.Core.Path.{_≡_};
 ghost use lib.ListN.{length, replicate};
-ghost use Rattle.blocks.specs.Write.{tableNodes};
+ghost use Rattle.limits.specs.Limits.{tableNodes};
 ghost use Rattle.job_entry.specs.Buffers.{six, Sets};
 ghost use Rattle.job_entry.specs.Answer.{verdictOf, afterOf, todayOf, nodesOf, classesOf};
 ghost use Rattle.job_entry.specs.Steps.{sizesFit, FileJudged, Zeros, Ready, Listable, Finished, Worked};

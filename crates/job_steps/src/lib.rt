@@ -14,7 +14,7 @@ ghost use Rattle.site.specs.Refusal.{siteVerdict};
 ghost use Rattle.condition.specs.Bytes.{tableOf};
 ghost use Rattle.condition.specs.Refusal.{conditionVerdict};
 ghost use Rattle.sheet.specs.Refusal.{sheetVerdict};
-ghost use Rattle.blocks.specs.Write.{tableNodes, tableBytes};
+ghost use Rattle.limits.specs.Limits.{tableNodes, tableBytes};
 ghost use Rattle.listing.specs.Listed.{workBytes, Listed};
 ghost use Rattle.job_steps.specs.Steps.{Judged, Changed};
 

@@ -7,7 +7,8 @@ use Prim.Native.Nat.{ℕ, _<_}
 use lib.ListN.{length}
 use Rattle.finite.specs.Tests.{count}
 use Rattle.bitset.specs.Set.{setBytes, has}
-use Rattle.semantics.specs.Form.{slots, Form}
+use Rattle.limits.specs.Limits.{slots}
+use Rattle.semantics.specs.Form.{Form}
 use Rattle.semantics.specs.Holds.{Env, Model, Holds}
 
 -- how many bytes the work buffer has: a set for each of 2,048 nodes

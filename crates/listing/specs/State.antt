@@ -13,7 +13,7 @@ use Rattle.site.specs.Layout.{siteBytes}
 use Rattle.site.specs.Site.{siteOf}
 use Rattle.condition.specs.Bytes.{tableOf}
 use Rattle.even_rule.specs.Free.{FreeRows}
-use Rattle.blocks.specs.Write.{tableNodes, tableBytes}
+use Rattle.limits.specs.Limits.{tableNodes, tableBytes}
 use Rattle.listing_sets.specs.Places.{setAt}
 use Rattle.listing.specs.Listed.{workBytes}
 

@@ -14,7 +14,7 @@ ghost use Rattle.verdict.specs.declared.Verdict.the-variants.{Accepted};
 ghost use Rattle.condition.specs.Bytes.{nodeAt, tableOf};
 ghost use Rattle.condition.specs.Refusal.{conditionVerdict};
 ghost use Rattle.even_rule.specs.Free.{FreeRows};
-ghost use Rattle.blocks.specs.Write.{tableNodes};
+ghost use Rattle.limits.specs.Limits.{tableNodes};
 ghost use Rattle.listing.specs.Listed.{workBytes, Listed};
 ghost use Rattle.listing.specs.State.{Ready, Done};
 use bitset::SET_BYTES;

@@ -3,7 +3,7 @@ use mathlib.Core.Bool.{Bool, _&&_, _||_}
 use Prim.Native.Nat.{ℕ, _+_, _*_}
 use Rattle.finite.specs.Tests.{same, any}
 use Rattle.bitset.specs.Set.{setSlots}
-use Rattle.semantics.specs.Form.{links}
+use Rattle.limits.specs.Limits.{links}
 use Rattle.semantics.specs.Holds.{Model}
 use Rattle.site.specs.Layout.{rowsBytes}
 

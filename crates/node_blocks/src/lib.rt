@@ -10,7 +10,8 @@ ghost use Rattle.semantics.specs.Edit.{legal};
 ghost use Rattle.semantics.specs.Table.{kindOf, kHere, kLabel, kName};
 ghost use Rattle.semantics.specs.Block.{old, size, blockLeaf, block};
 ghost use Rattle.sheet.specs.Bytes.{editOf};
-ghost use Rattle.blocks.specs.Write.{tableBytes, Wrote};
+ghost use Rattle.limits.specs.Limits.{tableBytes};
+ghost use Rattle.blocks.specs.Write.{Wrote};
 
 // The reverse of link f is the way f + 8.
 const LINKS: u8 = 8;

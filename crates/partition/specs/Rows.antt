@@ -5,11 +5,11 @@ use mathlib.Core.List.{List}
 use Prim.Native.Nat.{ℕ, _+_, _-_, _*_, _<_}
 use lib.Bits.{bitAnd}
 use lib.ListN.{getD}
+use Rattle.limits.specs.Limits.{everyWay}
 use Rattle.finite.specs.Tests.{same, any, all}
 use Rattle.bitset.specs.Set.{setSlots, has}
 use Rattle.semantics.specs.Holds.{Model, step}
 use Rattle.semantics.specs.Table.{wayOf}
-use Rattle.semantics.specs.Laws.Ways.{linkWays}
 use Rattle.site.specs.Layout.{rowsBytes}
 
 -- slot t is in row s
@@ -76,10 +76,10 @@ OthersIn p O C n = (g : ℕ) → g < n → getD C g 0 < setSlots → partOthersI
 
 -- the rows of the ways 0 to 15, way after way: slot t is in row s of way w where w reaches t from s
 abbrev pub waysBytes : ℕ
-waysBytes = rowsBytes * linkWays
+waysBytes = rowsBytes * everyWay
 
 abbrev pub byWay : List ℕ → ℕ → ℕ → ℕ → Bool
 byWay W w s t = has W (rowsBytes * 8 * w + (setSlots * s + t))
 
 unfoldable pub Neighbours : Model → List ℕ → Type 0
-Neighbours M W = (w s t : ℕ) → w < linkWays → s < setSlots → t < setSlots → byWay W w s t ≡ step M (wayOf w) s t
+Neighbours M W = (w s t : ℕ) → w < everyWay → s < setSlots → t < setSlots → byWay W w s t ≡ step M (wayOf w) s t

@@ -5,7 +5,7 @@ use Rattle.verdict.specs.Verdict.{_then_}
 use Rattle.verdict.specs.declared.Verdict.{Verdict}
 use Rattle.condition.specs.Refusal.{conditionVerdict}
 use Rattle.sheet.specs.Refusal.{sheetVerdict}
-use Rattle.blocks.specs.Write.{tableBytes}
+use Rattle.limits.specs.Limits.{tableBytes}
 use Rattle.refusals.specs.Refusal.{bufferVerdict}
 
 -- 1, then 7 to 10, then 11 and 12

@@ -8,7 +8,7 @@ use Rattle.verdict.specs.declared.Verdict.the-variants.{Accepted, Refused}
 use Rattle.semantics.specs.Table.{Node}
 use Rattle.semantics.specs.Edit.{Edit}
 use Rattle.semantics.specs.Block.{rewriteSheet}
-use Rattle.blocks.specs.Write.{tableNodes}
+use Rattle.limits.specs.Limits.{tableNodes}
 
 -- after some edit, the last one first, the rewritten table has over 2,048 nodes
 unfoldable pub tooLong : List Edit → List Node → Bool

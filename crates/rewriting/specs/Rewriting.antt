@@ -9,7 +9,7 @@ use Rattle.semantics.specs.Table.{Node}
 use Rattle.semantics.specs.Block.{rewriteSheet}
 use Rattle.condition.specs.Bytes.{tableOf, bytesOf}
 use Rattle.sheet.specs.Bytes.{editsOf}
-use Rattle.blocks.specs.Write.{tableBytes}
+use Rattle.limits.specs.Limits.{tableBytes}
 use Rattle.rewriting.specs.Refusal.{lengthVerdict}
 
 -- the rewritten table

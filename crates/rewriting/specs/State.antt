@@ -9,7 +9,7 @@ use Rattle.semantics.specs.Table.{Node, kindOf}
 use Rattle.semantics.specs.Edit.{Edit}
 use Rattle.semantics.specs.Block.{Block, old, block, root, emit, rewriteSheet}
 use Rattle.condition.specs.Bytes.{nodeAt, bytesOf}
-use Rattle.blocks.specs.Write.{tableNodes, tableBytes}
+use Rattle.limits.specs.Limits.{tableNodes, tableBytes}
 use Rattle.rewriting.specs.Refusal.{tooLong}
 
 pub record State : Type 0 where

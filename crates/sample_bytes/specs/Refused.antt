@@ -5,7 +5,7 @@ use Prim.Native.Nat.{ℕ}
 use lib.ListN.{replicate}
 use Rattle.bitset.specs.Set.{setBytes}
 use Rattle.site.specs.Layout.{siteBytes}
-use Rattle.blocks.specs.Write.{tableBytes}
+use Rattle.limits.specs.Limits.{tableBytes}
 use Rattle.desk.specs.Demands.{ApplyCall, RewriteCall, ListCall}
 
 pub record NotApplied {site sheet : List ℕ} (call : ApplyCall site sheet) (item w : ℕ) : Type 0 where

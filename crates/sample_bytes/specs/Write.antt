@@ -6,7 +6,8 @@ use Rattle.finite.specs.Tests.{below}
 use Rattle.bitset.specs.Set.{setBytes, setSlots}
 use Rattle.semantics.specs.Holds.{Set, Model}
 use Rattle.semantics.specs.Edit.{target}
-use Rattle.site.specs.Layout.{generalLinks, labelsAt, namesAt, targetsAt, rowsAt, rowsBytes, siteBytes}
+use Rattle.limits.specs.Limits.{generalLinks}
+use Rattle.site.specs.Layout.{labelsAt, namesAt, targetsAt, rowsAt, rowsBytes, siteBytes}
 
 -- the list of f 0, f 1, .., f (n - 1)
 unfoldable pub upTo : ℕ → (ℕ → ℕ) → List ℕ

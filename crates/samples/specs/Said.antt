@@ -6,7 +6,8 @@ use mathlib.Core.Bool.{true, false, not}
 use Prim.Native.Nat.{ℕ, _<_}
 use lib.ListN.{length, getD, take}
 use Rattle.finite.specs.Tests.{count, first}
-use Rattle.semantics.specs.Form.{slots, even, closed}
+use Rattle.limits.specs.Limits.{slots}
+use Rattle.semantics.specs.Form.{even, closed}
 use Rattle.semantics.specs.Holds.{Env, Model, Holds}
 use Rattle.semantics.specs.Table.{Node, treeAt, formOf, nodesFit, evenTable}
 use Rattle.semantics.specs.Edit.{DS, goes, Valid, sheet, sheetLegal, sheetGoes}

@@ -3,7 +3,8 @@ use mathlib.Core.Path.{_≡_}
 use mathlib.Core.Logic.{_↔_}
 use mathlib.Core.Bool.{Bool, true}
 use Prim.Native.Nat.{ℕ, _≤_, _<_}
-use Rattle.semantics.specs.Form.{slots, labels, names, links, Way, along, against, every}
+use Rattle.limits.specs.Limits.{slots, labels, names, links}
+use Rattle.semantics.specs.Form.{Way, along, against, every}
 use Rattle.semantics.specs.Holds.{Model, step}
 
 -- the ways 0 to 15

@@ -5,6 +5,7 @@ use mathlib.Core.Bool.{cond}
 use Prim.Native.Nat.{ℕ, suc, _+_}
 use lib.ListN.{length, getD}
 use Rattle.finite.specs.Tests.{same}
+use Rattle.limits.specs.Limits.{links, everyWay}
 use Rattle.semantics.specs.Form.{Way, along, against, every}
 use Rattle.semantics.specs.Edit.{Edit, CN1, CN2, AP, DP, AT, DT1, DT2, AS, DS}
 use Rattle.semantics.specs.Table.{Leaf, kTrue, kHere, kLabel, kName, kVar, kSlot, Unary, kNot, kDia, kBox, kMu, kNu, Binary, kOr, kAnd, Kind, leaf, unary, binary, kindNo, kindOf, wayOf, Node}
@@ -89,12 +90,12 @@ abbrev ⟨_⟩_ : ℕ → Block → Block
 abbrev ⟦_⟧_ : ℕ → Block → Block
 ⟦ w ⟧ x = on kBox w x
 
--- the block of a diamond, T being the image of its child. Way 16 is E, and way f + 8 is f-. In document 01's postfix:
+-- the block of a diamond, T being the image of its child. Way `everyWay` is E, and way f + links is f-. In document 01's postfix:
 --   added: T <w> a b T & <E> & |     cut: a ! T <w> & b ! T & <w> |     cutFrom: n ! T <w> &     cutTo: n ! T & <w>
 --   cutOff: n ! n ! T & <w> &
 unfoldable pub blockDia : Change → ℕ → Block → Block
 blockDia keep w T = ⟨ w ⟩ T
-blockDia (added a b) w T = (⟨ w ⟩ T) or (nm a & (⟨ 16 ⟩ (nm b & T)))
+blockDia (added a b) w T = (⟨ w ⟩ T) or (nm a & (⟨ everyWay ⟩ (nm b & T)))
 blockDia (cut a b) w T = (no! (nm a) & (⟨ w ⟩ T)) or (⟨ w ⟩ (no! (nm b) & T))
 blockDia (cutFrom n) w T = no! (nm n) & (⟨ w ⟩ T)
 blockDia (cutTo n) w T = ⟨ w ⟩ (no! (nm n) & T)
@@ -104,7 +105,7 @@ blockDia (cutOff n) w T = no! (nm n) & (⟨ w ⟩ (no! (nm n) & T))
 --   cutOff: n n T | [w] |
 unfoldable pub blockBox : Change → ℕ → Block → Block
 blockBox keep w T = ⟦ w ⟧ T
-blockBox (added a b) w T = (⟦ w ⟧ T) & (no! (nm a) or (⟦ 16 ⟧ (no! (nm b) or T)))
+blockBox (added a b) w T = (⟦ w ⟧ T) & (no! (nm a) or (⟦ everyWay ⟧ (no! (nm b) or T)))
 blockBox (cut a b) w T = (nm a or (⟦ w ⟧ T)) & (⟦ w ⟧ (nm b or T))
 blockBox (cutFrom n) w T = nm n or (⟦ w ⟧ T)
 blockBox (cutTo n) w T = ⟦ w ⟧ (nm n or T)
@@ -134,14 +135,14 @@ blockLeaf (AS n k) kLabel p = end kLabel p
 blockLeaf (DS n) kLabel p = end kLabel p & no! (nm n)
 blockLeaf (CN1 n1 n2) kName y = cond (same y n1) (nm n2) (nm y)
 blockLeaf (CN2 n1 n2 f) kName y =
-    cond (same y n1) ((⟨ f + 8 ⟩ nm n2) or (nm 0 & no! (⟨ 16 ⟩ (nm n2 & (⟨ f ⟩ end kTrue 0))))) (nm y)
+    cond (same y n1) ((⟨ f + links ⟩ nm n2) or (nm 0 & no! (⟨ everyWay ⟩ (nm n2 & (⟨ f ⟩ end kTrue 0))))) (nm y)
 blockLeaf (AP n q) kName y = nm y
 blockLeaf (DP n q) kName y = nm y
 blockLeaf (AT m n1 n2) kName y = nm y
 blockLeaf (DT1 m n1 n2) kName y = nm y
 blockLeaf (DT2 f n) kName y = nm y
 blockLeaf (AS n k) kName y = cond (same y n) (end kSlot k) (nm y)
-blockLeaf (DS n) kName y = cond (same y 0) (nm y) ((nm y & no! (nm n)) or (nm 0 & (⟨ 16 ⟩ (nm n & nm y))))
+blockLeaf (DS n) kName y = cond (same y 0) (nm y) ((nm y & no! (nm n)) or (nm 0 & (⟨ everyWay ⟩ (nm n & nm y))))
 blockLeaf e kVar p = end kVar p
 blockLeaf e kSlot p = end kSlot p
 

@@ -5,7 +5,7 @@ use mathlib.Core.List.{List, [], _∷_}
 use mathlib.Core.Bool.{Bool, true, not, _&&_, _||_, cond}
 use Prim.Native.Nat.{ℕ, zero, suc, _<_}
 use Rattle.finite.specs.Tests.{same, below}
-use Rattle.semantics.specs.Form.{slots, labels, names, links}
+use Rattle.limits.specs.Limits.{slots, labels, names, links, generalLinks}
 use Rattle.semantics.specs.Holds.{Set, Model}
 
 -- the nine operations, 0 to 8, with their operands in the order of document 01
@@ -20,9 +20,9 @@ pub data Edit : Type 0 where
   AS : (n k : ℕ) → Edit
   DS : (n : ℕ) → Edit
 
--- links 4 to 7 are functional
+-- the links from 4 on are functional
 unfoldable pub functional : ℕ → Bool
-functional m = not (below m 4) && below m links
+functional m = not (below m generalLinks) && below m links
 
 -- the last slot below n that is in S, and slot 0 where none is
 unfoldable pub find : ℕ → Set → ℕ

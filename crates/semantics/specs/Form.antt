@@ -3,23 +3,7 @@
 use mathlib.Core.Bool.{Bool, true, false, not, _&&_, _||_}
 use Prim.Native.Nat.{ℕ}
 use Rattle.finite.specs.Tests.{same, all}
-
--- how many slots there are. Shut, so that nothing counts to it: `unfolding slots` makes it 256
-unfoldable pub slots : ℕ
-slots = 256
-
--- how many labels, names, links and variables there are
-abbrev pub labels : ℕ
-labels = 16
-
-abbrev pub names : ℕ
-names = 16
-
-abbrev pub links : ℕ
-links = 8
-
-abbrev pub variables : ℕ
-variables = 16
+use Rattle.limits.specs.Limits.{variables}
 
 -- the ways to go from a slot, a modality each: along a link, against it (its converse), and everywhere (E, the universal modality)
 pub data Way : Type 0 where

@@ -4,7 +4,8 @@ use mathlib.Core.Logic.{_⊎_}
 use mathlib.Core.Bool.{Bool, true, cond}
 use Prim.Native.Nat.{ℕ, _<_}
 use Rattle.finite.specs.Tests.{same}
-use Rattle.semantics.specs.Form.{slots, Way, along, against, every, Form, top, here, label, name, var, neg, or, and, dia, box, mu, nu, slot}
+use Rattle.limits.specs.Limits.{slots}
+use Rattle.semantics.specs.Form.{Way, along, against, every, Form, top, here, label, name, var, neg, or, and, dia, box, mu, nu, slot}
 
 -- a set of slots, read below `slots` alone
 abbrev pub Set : Type 0

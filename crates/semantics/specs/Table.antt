@@ -6,7 +6,8 @@ use mathlib.Core.Bool.{Bool, true, not, _&&_, cond}
 use Prim.Native.Nat.{ℕ, suc, _+_, _-_, _<_}
 use lib.ListN.{length, getD}
 use Rattle.finite.specs.Tests.{same, below, all}
-use Rattle.semantics.specs.Form.{slots, labels, names, variables, Way, along, against, every, Form, top, here, label, name, var, neg, or, and, dia, box, mu, nu, slot, even, closed}
+use Rattle.limits.specs.Limits.{slots, labels, names, links, variables, everyWay}
+use Rattle.semantics.specs.Form.{Way, along, against, every, Form, top, here, label, name, var, neg, or, and, dia, box, mu, nu, slot, even, closed}
 
 -- the kinds of node: with no child, one (left) and two
 pub data Leaf : Type 0 where
@@ -50,11 +51,11 @@ kindOf k =
 -- the ways' numbers: 0 to 7 the links, 8 to 15 their reverses in the same order, 16 everywhere
 unfoldable pub wayNo : Way → ℕ
 wayNo (along m) = m
-wayNo (against m) = m + 8
-wayNo every = 16
+wayNo (against m) = m + links
+wayNo every = everyWay
 
 unfoldable pub wayOf : ℕ → Way
-wayOf p = cond (below p 8) (along p) (cond (below p 16) (against (p - 8)) every)
+wayOf p = cond (below p links) (along p) (cond (below p everyWay) (against (p - links)) every)
 
 pub record Node : Type 0 where
   pub kind : ℕ
@@ -115,8 +116,8 @@ leafFits kSlot p = below p slots
 
 unfoldable pub unaryFits : Unary → ℕ → Bool
 unaryFits kNot p = same p 0
-unaryFits kDia p = below p 17
-unaryFits kBox p = below p 17
+unaryFits kDia p = below p (suc everyWay)
+unaryFits kBox p = below p (suc everyWay)
 unaryFits kMu p = below p variables
 unaryFits kNu p = below p variables
 
@@ -140,7 +141,7 @@ evenTable xs = all (length xs) (λ i. even (treeAt xs i))
 -- no node has kind 12
 unfoldable pub slotFree : List Node → Bool
 slotFree [] = true
-slotFree (x ∷ xs) = not (same (x .kind) 12) && slotFree xs
+slotFree (x ∷ xs) = not (same (x .kind) (kindNo (leaf kSlot))) && slotFree xs
 
 -- a closed condition without slot numbers, of any length: at least one node, meeting neither item 8 nor item 9
 pub record ClosedTable (xs : List Node) : Type 0 where

@@ -5,7 +5,7 @@ ghost use mathlib.Core.Bool.{not, _&&_};
 ghost use Prim.Native.Nat.{_+_, _*_, _/_, _≤_};
 ghost use lib.ListN.{length};
 ghost use Rattle.finite.specs.Tests.{same, below, first};
-ghost use Rattle.semantics.specs.Form.{names};
+ghost use Rattle.limits.specs.Limits.{names};
 ghost use Rattle.semantics.specs.Edit.{functional};
 ghost use Rattle.sheet.specs.Bytes.{editOf, readEdit, editAt};
 ghost use Rattle.sheet.specs.Refusal.{editFits, fitsAt, faulty, sheetVerdict};

@@ -1,14 +1,10 @@
--- Where the parts of a site stand among its 34,352 bytes. Document 01, "The site". The code has the same constants.
+-- Where the parts of a site stand among its bytes. Document 01, "The site". The code has the same constants.
 use Prim.Native.Nat.{ℕ, _+_, _-_, _*_}
 use Rattle.bitset.specs.Set.{setBytes, setSlots}
-use Rattle.semantics.specs.Form.{labels, names}
-
--- links 0 to 3 are general, each with a set of targets for each slot; links 4 to 7 are functional, with one target for each
-abbrev pub generalLinks : ℕ
-generalLinks = 4
+use Rattle.limits.specs.Limits.{labels, names, links, generalLinks}
 
 abbrev pub functionalLinks : ℕ
-functionalLinks = 4
+functionalLinks = links - generalLinks
 
 -- in order: the present slots, a set for each label, a byte for each name, 256 bytes for each functional link, 256 sets for each
 -- general one

@@ -4,7 +4,7 @@ use mathlib.Core.List.{List}
 use Prim.Native.Nat.{ℕ}
 use lib.ListN.{length}
 use Rattle.finite.specs.Tests.{same, any}
-use Rattle.semantics.specs.Form.{slots, labels, names, links}
+use Rattle.limits.specs.Limits.{slots, labels, names, links}
 use Rattle.semantics.specs.Holds.{Model}
 use Rattle.verdict.specs.declared.Verdict.{Verdict}
 use Rattle.verdict.specs.declared.Verdict.the-variants.{Accepted, Refused}

@@ -5,10 +5,10 @@ use Prim.Native.Nat.{ℕ, _+_, _*_}
 use lib.ListN.{getD}
 use Rattle.finite.specs.Tests.{same, below}
 use Rattle.bitset.specs.Set.{has}
-use Rattle.semantics.specs.Form.{slots, labels, names}
+use Rattle.limits.specs.Limits.{slots, labels, names, generalLinks}
 use Rattle.semantics.specs.Holds.{Model}
 use Rattle.semantics.specs.Edit.{functional}
-use Rattle.site.specs.Layout.{generalLinks, labelAt, nameAt, targetAt, rowAt}
+use Rattle.site.specs.Layout.{labelAt, nameAt, targetAt, rowAt}
 
 -- link m leads from slot s to slot t: a general link by the set of s's targets, a functional one by its target, 0 for none
 unfoldable pub linked : List ℕ → ℕ → ℕ → ℕ → Bool

@@ -12,7 +12,8 @@ ghost use Rattle.semantics.specs.Edit.{DS};
 ghost use Rattle.semantics.specs.Table.{wayOf};
 ghost use Rattle.semantics.specs.Block.{change, old, size, blockDia, blockBox};
 ghost use Rattle.sheet.specs.Bytes.{editOf};
-ghost use Rattle.blocks.specs.Write.{tableBytes, Wrote};
+ghost use Rattle.limits.specs.Limits.{tableBytes};
+ghost use Rattle.blocks.specs.Write.{Wrote};
 ghost use Rattle.way_blocks.specs.Effect.{changeOf, onWay};
 
 // What an edit does to the neighbours by a way.

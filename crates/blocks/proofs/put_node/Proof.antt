@@ -6,7 +6,8 @@ use native.Mathlib.Numerals.{towards-suc}
 use lib.ListN.{length-set}
 use Rattle.finite.specs.Laws.Below.{below-in, below-not}
 use Rattle.condition.specs.Bytes.{nodeBytes}
-use Rattle.blocks.specs.Write.{tableNodes, put}
+use Rattle.limits.specs.Limits.{tableNodes}
+use Rattle.blocks.specs.Write.{put}
 use Rattle.blocks.proofs.put_node.Statement.{statement}
 use Rattle.blocks.proofs.put_node.Tie as tie
 

@@ -4,7 +4,8 @@ use Prim.Native.Nat.{ℕ, _+_, _-_, _/_, _≤_}
 use native.Mathlib.Omega.{arith}
 use lib.ListN.{length}
 use Rattle.blocks.specs.Text.{textNodes}
-use Rattle.blocks.specs.Write.{tableBytes, puts}
+use Rattle.limits.specs.Limits.{tableBytes}
+use Rattle.blocks.specs.Write.{puts}
 use Rattle.blocks.specs.Laws.Text.{text-step}
 use Rattle.blocks.proofs.put_text.Statement.{statement}
 use Rattle.blocks.proofs.put_text.Tie as tie

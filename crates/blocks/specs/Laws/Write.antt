@@ -10,7 +10,8 @@ use Rattle.finite.specs.Laws.Bools.{either, look}
 use Rattle.finite.specs.Laws.Below.{below-in}
 use Rattle.semantics.specs.Table.{Node}
 use Rattle.condition.specs.Bytes.{nodeBytes, bytesOf}
-use Rattle.blocks.specs.Write.{tableNodes, tableBytes, put, puts, Written}
+use Rattle.limits.specs.Limits.{tableNodes, tableBytes}
+use Rattle.blocks.specs.Write.{put, puts, Written}
 
 pub bytes-snoc : (xs : List Node) (x : Node) → bytesOf (xs ++ (x ∷ [])) ≡ bytesOf xs ++ nodeBytes x
 unfolding bytesOf

@@ -3,9 +3,9 @@ use mathlib.Core.Path.{_≡_}
 use Prim.Native.Nat.{ℕ, _+_, _*_, _-_, _≤_}
 use native.Mathlib.Omega.{arith}
 use borrow.Author.Needs.{needs}
+use Rattle.limits.specs.Limits.{everyWay}
 use Rattle.semantics.specs.Holds.{Model}
 use Rattle.semantics.specs.Laws.Refine.{bisimilarIn}
-use Rattle.semantics.specs.Laws.Ways.{linkWays}
 use Rattle.site.specs.Layout.{rowsBytes}
 use Rattle.partition.specs.Rows.{Neighbours}
 use Rattle.partition.specs.Partition.{Partition, Parts, Next}
@@ -14,10 +14,10 @@ use Rattle.classes.proofs.round.Statement.{statement}
 use Rattle.classes.proofs.round.Tie as tie
 
 abbrev Inv-loop : tie.InvT-loop
-Inv-loop ways p q₀ w₀ q w = (w ≤ linkWays) × Partition q × ((M : Model) → Neighbours M ways → (k : ℕ) → Parts (bisimilarIn k M M) p → Parts (upto M M k w) q)
+Inv-loop ways p q₀ w₀ q w = (w ≤ everyWay) × Partition q × ((M : Model) → Neighbours M ways → (k : ℕ) → Parts (bisimilarIn k M M) p → Parts (upto M M k w) q)
 
 abbrev μ-loop : tie.MeasureT-loop
-μ-loop ways p q₀ w₀ q w = linkWays - w
+μ-loop ways p q₀ w₀ q w = everyWay - w
 
 loop-holds : tie.Need-loop-holds Inv-loop μ-loop
 loop-holds c = (omega arith, c .before .pre .1, λ M _ k n. upto-none M k _ n)
@@ -55,7 +55,7 @@ loop-again c = let a = c .before .before .before .before .before .before .args i
 
 returns : tie.Need-returns Inv-loop μ-loop
 unfolding Next
-returns c = λ M b k n. let e : c .before .loop .w ≡ linkWays = omega arith in upto-all M k _ (rw e at (c .before .loop .inv .2 M b k n))
+returns c = λ M b k n. let e : c .before .loop .w ≡ everyWay = omega arith in upto-all M k _ (rw e at (c .before .loop .inv .2 M b k n))
 
 pub round-spec : {M : Type 1} → statement M
 round-spec =

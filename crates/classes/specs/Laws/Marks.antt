@@ -11,7 +11,7 @@ use Rattle.finite.specs.Laws.Below.{same-eq, same-refl, eq-same, below-in, belo
 use Rattle.finite.specs.Laws.First.{first-is, none-start}
 use Rattle.finite.specs.Laws.Weights.{bit-zero}
 use Rattle.bitset.specs.Set.{setBytes, setSlots, has}
-use Rattle.semantics.specs.Form.{slots, labels, names}
+use Rattle.limits.specs.Limits.{slots, labels, names}
 use Rattle.semantics.specs.Holds.{Model}
 use Rattle.semantics.specs.Laws.Refine.{agree, bisimilarIn}
 use Rattle.site.specs.Site.{siteOf}

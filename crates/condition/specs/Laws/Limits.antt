@@ -8,7 +8,7 @@ use borrow.Author.Tests.{lt-ltb, le-ltb}
 use Rattle.finite.specs.Tests.{same, below}
 use Rattle.finite.specs.Laws.Bools.{and-l, and-r, both}
 use Rattle.finite.specs.Laws.Below.{same-eq, eq-same, below-in, below-out, below-not}
-use Rattle.semantics.specs.Form.{slots}
+use Rattle.limits.specs.Limits.{slots}
 use Rattle.semantics.specs.Table.{Leaf, kTrue, kHere, kLabel, kName, kVar, kSlot, Unary, kNot, kDia, kBox, kMu, kNu, Kind, leaf, unary, binary, kindOf, Node, leafFits, unaryFits, kindFits, nodeFits}
 use Rattle.condition.specs.Limits.{paramLimit, childLimit}
 

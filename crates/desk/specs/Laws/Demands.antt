@@ -8,7 +8,7 @@ use native.Mathlib.Omega.{arith}
 use lib.ListN.{length, getD, replicate}
 use Rattle.verdict.specs.Verdict.{reasonOf}
 use Rattle.verdict.specs.declared.Verdict.the-variants.{Accepted}
-use Rattle.semantics.specs.Form.{slots}
+use Rattle.limits.specs.Limits.{slots, tableBytes}
 use Rattle.semantics.specs.Table.{formOf}
 use Rattle.semantics.specs.Edit as edits
 use Rattle.semantics.specs.Bisimulation.{IsClass}
@@ -23,7 +23,6 @@ use Rattle.condition.specs.Laws.Bytes.{length-table}
 use Rattle.condition.specs.Laws.Verdict.{accepted-sound}
 use Rattle.sheet.specs.Bytes.{editsOf}
 use Rattle.sheet.specs.Laws.Accepted.{accepted-sheet}
-use Rattle.blocks.specs.Write.{tableBytes}
 use Rattle.applying.specs.Laws.After.{after-accepted}
 use Rattle.classes_entry.specs.Refusal.{classesVerdict}
 use Rattle.classes_entry.specs.Classing.{ClassesAfter}

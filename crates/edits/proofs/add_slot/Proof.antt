@@ -1,6 +1,6 @@
 -- AS is a slot put in and a name moved to it.
 use native.Mathlib.Omega.{arith}
-use Rattle.semantics.specs.Form.{slots}
+use Rattle.limits.specs.Limits.{slots}
 use Rattle.site.specs.Site.{siteOf}
 use Rattle.edits.specs.Laws.Rows.{row-AS, legal-AS}
 use Rattle.edits.specs.Laws.Bytes.{slot-put}

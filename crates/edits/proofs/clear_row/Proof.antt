@@ -6,7 +6,7 @@ use lib.ListN.{drop, length-drop}
 use lib.Seq.{length-take-le}
 use borrow.Author.Needs.{needs}
 use Rattle.bitset.specs.Set.{setBytes}
-use Rattle.semantics.specs.Form.{slots}
+use Rattle.limits.specs.Limits.{slots}
 use Rattle.site.specs.Layout.{rowAt}
 use Rattle.edits.specs.Laws.Bytes.{row-cleared}
 use Rattle.edits.proofs.clear_row.Statement.{statement}

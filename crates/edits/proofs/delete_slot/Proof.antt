@@ -1,7 +1,7 @@
 -- DS: the slot goes, then its labels, its names and its links.
 use native.Mathlib.Omega.{arith}
 use borrow.Author.Needs.{needs}
-use Rattle.semantics.specs.Form.{slots}
+use Rattle.limits.specs.Limits.{slots}
 use Rattle.site.specs.Site.{siteOf}
 use Rattle.edits.specs.Laws.Rows.{row-DS, legal-DS}
 use Rattle.edits.specs.Laws.Bytes.{slot-taken}

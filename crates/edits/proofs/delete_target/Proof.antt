@@ -1,6 +1,6 @@
 -- DT2 is a target set to none.
 use native.Mathlib.Omega.{arith}
-use Rattle.semantics.specs.Form.{slots}
+use Rattle.limits.specs.Limits.{slots}
 use Rattle.site.specs.Site.{siteOf}
 use Rattle.edits.specs.Laws.Rows.{row-DT2, legal-DT2}
 use Rattle.edits.specs.Laws.Bytes.{target-taken}

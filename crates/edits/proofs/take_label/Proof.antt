@@ -1,6 +1,6 @@
 -- A slot of a label's set.
 use native.Mathlib.Omega.{arith}
-use Rattle.semantics.specs.Form.{slots}
+use Rattle.limits.specs.Limits.{slots}
 use Rattle.edits.specs.Laws.Bytes.{label-taken}
 use Rattle.edits.proofs.take_label.Statement.{statement}
 use Rattle.edits.proofs.take_label.Tie as tie

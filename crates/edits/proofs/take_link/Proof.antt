@@ -1,6 +1,6 @@
 -- A slot of a row, or the byte of a target.
 use native.Mathlib.Omega.{arith}
-use Rattle.semantics.specs.Form.{slots}
+use Rattle.limits.specs.Limits.{slots}
 use Rattle.edits.specs.Laws.Bytes.{row-taken}
 use Rattle.edits.proofs.take_link.Statement.{statement}
 use Rattle.edits.proofs.take_link.Tie as tie

@@ -1,6 +1,6 @@
 -- A row, or the byte of a target.
 use native.Mathlib.Omega.{arith}
-use Rattle.semantics.specs.Form.{slots}
+use Rattle.limits.specs.Limits.{slots}
 use Rattle.edits.specs.Laws.Bytes.{target-taken}
 use Rattle.edits.proofs.take_row.Statement.{statement}
 use Rattle.edits.proofs.take_row.Tie as tie

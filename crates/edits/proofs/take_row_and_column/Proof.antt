@@ -1,7 +1,7 @@
 -- The column, then the row.
 use native.Mathlib.Omega.{arith}
 use Rattle.bitset.specs.Set.{setSlots}
-use Rattle.semantics.specs.Form.{slots}
+use Rattle.limits.specs.Limits.{slots}
 use Rattle.edits.specs.Laws.Loops.{crossed}
 use Rattle.edits.proofs.take_row_and_column.Statement.{statement}
 use Rattle.edits.proofs.take_row_and_column.Tie as tie

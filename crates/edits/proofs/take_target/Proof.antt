@@ -1,7 +1,7 @@
 -- The byte of a target, where it is the slot.
 use mathlib.Core.Path.{sym, _∙_}
 use native.Mathlib.Omega.{arith}
-use Rattle.semantics.specs.Form.{slots}
+use Rattle.limits.specs.Limits.{slots}
 use Rattle.edits.specs.Laws.Bytes.{link-taken, link-other}
 use Rattle.edits.proofs.take_target.Statement.{statement}
 use Rattle.edits.proofs.take_target.Tie as tie

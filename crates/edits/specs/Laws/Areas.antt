@@ -10,9 +10,9 @@ use Rattle.finite.specs.Tests.{same, below, bit}
 use Rattle.finite.specs.Laws.Bools.{both, and-l, and-r}
 use Rattle.finite.specs.Laws.Below.{below-out}
 use Rattle.bitset.specs.Set.{has}
-use Rattle.semantics.specs.Form.{slots, labels, names, links}
+use Rattle.limits.specs.Limits.{slots, labels, names, links, generalLinks}
 use Rattle.semantics.specs.Holds.{Model}
-use Rattle.site.specs.Layout.{generalLinks, labelsAt, namesAt, targetsAt, rowsAt, siteBytes, labelAt, nameAt, targetAt, rowAt}
+use Rattle.site.specs.Layout.{labelsAt, namesAt, targetsAt, rowsAt, siteBytes, labelAt, nameAt, targetAt, rowAt}
 use Rattle.site.specs.Site.{siteOf}
 use Rattle.site.specs.Laws.Read.{present-is, present-in, marked-is, marked-in, place-out, row-is, target-is, link-in}
 use Rattle.edits.specs.Laws.Cases.{guard}

@@ -14,10 +14,10 @@ use Rattle.finite.specs.Laws.Below.{equal?, same-eq, same-refl, eq-same, ne-sam
 use Rattle.bitset.specs.Set.{setBytes, has, Is, inserted, removed}
 use Rattle.bitset.specs.Laws.Part.{back, back-below, back-above, back-has}
 use Rattle.bitset.specs.Laws.Slot.{has-inserted, has-removed, byte-inserted, byte-removed}
-use Rattle.semantics.specs.Form.{slots, labels, names, links}
+use Rattle.limits.specs.Limits.{slots, labels, names, links, generalLinks}
 use Rattle.semantics.specs.Holds.{Model}
 use Rattle.semantics.specs.Edit.{functional, target}
-use Rattle.site.specs.Layout.{generalLinks, siteBytes, labelAt, nameAt, targetAt, rowAt}
+use Rattle.site.specs.Layout.{siteBytes, labelAt, nameAt, targetAt, rowAt}
 use Rattle.site.specs.Site.{siteOf}
 use Rattle.site.specs.Laws.Read.{present-is, present-in, marked-is, marked-in, place-is, row-is, target-is, link-in, functional-in}
 use Rattle.site.specs.Laws.Target.{nil-none, target-byte}

@@ -8,7 +8,7 @@ use native.Mathlib.Decide.{decLt}
 use Rattle.finite.specs.Tests.{same, below}
 use Rattle.finite.specs.Laws.Below.{equal?, same-eq, eq-same, ne-same, below-in, below-not}
 use Rattle.finite.specs.Laws.Bools.{either, look, no-true, and-l, and-r}
-use Rattle.semantics.specs.Form.{slots, labels, names, links}
+use Rattle.limits.specs.Limits.{slots, labels, names, links}
 use Rattle.semantics.specs.Holds.{Model}
 use Rattle.site.specs.Site.{siteOf}
 use Rattle.site.specs.Laws.Read.{marked-in, place-out, link-in}

@@ -6,10 +6,9 @@ use Prim.Native.Nat.{ℕ, _≤_, _<_}
 use Rattle.finite.specs.Tests.{same, below}
 use Rattle.finite.specs.Laws.Bools.{no-true, and-l, and-r, not-out}
 use Rattle.finite.specs.Laws.Below.{eq-same, ne-same, below-in, below-out}
-use Rattle.semantics.specs.Form.{slots, labels, names, links}
+use Rattle.limits.specs.Limits.{slots, labels, names, links, generalLinks}
 use Rattle.semantics.specs.Holds.{Model}
 use Rattle.semantics.specs.Edit.{CN1, CN2, AP, DP, AT, DT1, DT2, AS, DS, functional, target, edit, legal, goes}
-use Rattle.site.specs.Layout.{generalLinks}
 use Rattle.site.specs.Laws.Read.{functional-in, functional-out}
 use Rattle.edits.specs.Change.{withName, withSlot, withoutSlot, withLabel, withoutLabel, withLink, withoutLink, withoutTarget, withoutLabels, withoutNames, withoutLinks, joins}
 

@@ -15,7 +15,7 @@ use Rattle.condition.specs.Bytes.{bytesOf}
 use Rattle.condition.specs.Refusal.{conditionVerdict}
 use Rattle.condition.specs.Laws.Bytes.{length-bytes}
 use Rattle.sheet.specs.Refusal.{sheetVerdict}
-use Rattle.blocks.specs.Write.{tableNodes, tableBytes}
+use Rattle.limits.specs.Limits.{tableNodes, tableBytes}
 use Rattle.trailer.specs.Refusal.{trailerVerdict}
 use Rattle.trailer.specs.Pieces.{siteIn, conditionIn, sheetIn}
 use Rattle.rewriting.specs.declared.Rewriting.{Rewriting}

@@ -19,7 +19,7 @@ use Rattle.condition.specs.Bytes.{tableOf}
 use Rattle.condition.specs.Refusal.{conditionVerdict}
 use Rattle.sheet.specs.Bytes.{editsOf}
 use Rattle.sheet.specs.Refusal.{sheetVerdict}
-use Rattle.blocks.specs.Write.{tableBytes}
+use Rattle.limits.specs.Limits.{tableBytes}
 use Rattle.applying.specs.Refusal.{goesVerdict}
 use Rattle.applying.specs.Laws.Left.{goes-out}
 use Rattle.rewriting.specs.Refusal.{tooLong, lengthVerdict}

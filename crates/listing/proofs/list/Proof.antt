@@ -4,7 +4,7 @@ use Prim.Native.Nat.{ℕ, _-_, _/_}
 use native.Mathlib.Omega.{arith}
 use lib.ListN.{length, replicate}
 use borrow.Author.Needs.{needs}
-use Rattle.semantics.specs.Form.{slots}
+use Rattle.limits.specs.Limits.{slots}
 use Rattle.condition.specs.Laws.Verdict.{accepted-sound}
 use Rattle.listing.specs.Laws.Answer.{none-known, whole, answer}
 use Rattle.listing.proofs.list.Statement.{statement}

@@ -10,7 +10,8 @@ use Rattle.finite.specs.Tests.{same}
 use Rattle.finite.specs.Laws.Bools.{either, clash, and-l, and-r, or-out, not-out}
 use Rattle.finite.specs.Laws.Below.{same-eq, below-out, all-out}
 use Rattle.bitset.specs.Set.{setSlots, has}
-use Rattle.semantics.specs.Form.{slots, variables, Form, occ, free, closed}
+use Rattle.limits.specs.Limits.{slots, variables, tableNodes}
+use Rattle.semantics.specs.Form.{Form, occ, free, closed}
 use Rattle.semantics.specs.Holds.{Env, Model, Holds}
 use Rattle.semantics.specs.Table.{kTrue, kHere, kLabel, kName, kVar, kSlot, kNot, kDia, kBox, kMu, kNu, kOr, kAnd, Kind, leaf, unary, binary, Node, atom, one, two, build, treeAt, formOf, leafFits, kindFits, nodesFit}
 use Rattle.semantics.specs.Laws.TreeAt.{Parts, tree-ind}
@@ -22,7 +23,6 @@ use Rattle.condition.specs.Bytes.{tableOf}
 use Rattle.condition.specs.Laws.Bytes.{length-table}
 use Rattle.condition.specs.Laws.Verdict.{Sound}
 use Rattle.even_rule.specs.Free.{FreeRows}
-use Rattle.blocks.specs.Write.{tableNodes}
 use Rattle.listing_sets.specs.Places.{setAt, Written}
 use Rattle.listing.specs.Listed.{workBytes}
 use Rattle.listing.specs.State.{Good, Ready, Done}

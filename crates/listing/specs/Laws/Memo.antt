@@ -9,7 +9,8 @@ use lib.Seq.{getD-set-other}
 use Rattle.finite.specs.Tests.{bit}
 use Rattle.finite.specs.Laws.Bools.{either, look, clash}
 use Rattle.finite.specs.Laws.Below.{equal?}
-use Rattle.semantics.specs.Form.{variables, free}
+use Rattle.limits.specs.Limits.{variables}
+use Rattle.semantics.specs.Form.{free}
 use Rattle.semantics.specs.Holds.{Set}
 use Rattle.semantics.specs.Table.{treeAt}
 use Rattle.semantics.specs.Laws.Agree.{_≐_, eval-agree}

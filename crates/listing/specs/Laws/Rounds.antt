@@ -11,7 +11,7 @@ use borrow.Author.Tests.{not-false}
 use Rattle.finite.specs.Laws.Bools.{either}
 use Rattle.finite.specs.Laws.Below.{equal?}
 use Rattle.bitset.specs.Set.{setSlots, has}
-use Rattle.semantics.specs.Form.{slots, variables}
+use Rattle.limits.specs.Limits.{slots, variables, tableNodes}
 use Rattle.semantics.specs.Holds.{Set, put}
 use Rattle.semantics.specs.Table.{treeAt}
 use Rattle.semantics.specs.Laws.Monotone.{put-same, put-other}
@@ -19,7 +19,6 @@ use Rattle.semantics.specs.Laws.FixedPoint.{iter}
 use Rattle.semantics.specs.Laws.Agree.{_≐_, eval-agree, eval-put, iter-rest}
 use Rattle.site.specs.Site.{siteOf}
 use Rattle.condition.specs.Bytes.{tableOf}
-use Rattle.blocks.specs.Write.{tableNodes}
 use Rattle.listing_sets.specs.Places.{setAt, Written, Cleared}
 use Rattle.listing_sets.specs.Nodes.{startOf}
 use Rattle.listing.specs.Listed.{workBytes}

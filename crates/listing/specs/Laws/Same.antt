@@ -9,7 +9,8 @@ use Rattle.finite.specs.Tests.{count}
 use Rattle.finite.specs.Laws.Bools.{both}
 use Rattle.bitset.specs.Set.{setBytes, has}
 use Rattle.bitset.specs.Laws.Bytes.{same-slots}
-use Rattle.semantics.specs.Form.{slots, Form}
+use Rattle.limits.specs.Limits.{slots}
+use Rattle.semantics.specs.Form.{Form}
 use Rattle.semantics.specs.Holds.{Env, Model, Holds}
 use Rattle.semantics.specs.Table.{Node, formOf, nodesFit}
 use Rattle.semantics.specs.Edit.{Edit, Valid, sheet, sheetLegal, sheetGoes}

@@ -3,7 +3,7 @@ use mathlib.Core.Bool.{not}
 use mathlib.Core.Path.{_∙_, ap}
 use native.Mathlib.Omega.{arith}
 use borrow.Author.Needs.{needs}
-use Rattle.semantics.specs.Form.{slots}
+use Rattle.limits.specs.Limits.{slots}
 use Rattle.listing_sets.specs.Laws.Places.{part-set, written}
 use Rattle.listing_sets.proofs.invert.Statement.{statement}
 use Rattle.listing_sets.proofs.invert.Tie as tie

@@ -5,7 +5,7 @@ use native.Mathlib.Omega.{arith}
 use borrow.Author.Needs.{needs}
 use Rattle.finite.specs.Tests.{same}
 use Rattle.semantics.specs.Laws.FixedPoint.{full}
-use Rattle.semantics.specs.Form.{slots}
+use Rattle.limits.specs.Limits.{slots}
 use Rattle.site.specs.Site.{siteOf}
 use Rattle.condition.specs.Laws.Limits.{limit-name}
 use Rattle.condition.specs.Bytes.{nodeAt}

@@ -2,7 +2,7 @@
 use mathlib.Core.Path.{_∙_}
 use native.Mathlib.Omega.{arith}
 use borrow.Author.Needs.{needs}
-use Rattle.semantics.specs.Form.{slots}
+use Rattle.limits.specs.Limits.{slots}
 use Rattle.listing_sets.specs.Laws.Places.{part-set}
 use Rattle.listing_sets.proofs.load.Statement.{statement}
 use Rattle.listing_sets.proofs.load.Tie as tie

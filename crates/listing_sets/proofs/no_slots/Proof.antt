@@ -1,7 +1,7 @@
 -- Every byte is 0.
 use Rattle.bitset.specs.Laws.Bytes.{has-empty}
 use Rattle.semantics.specs.Laws.FixedPoint.{none}
-use Rattle.semantics.specs.Form.{slots}
+use Rattle.limits.specs.Limits.{slots}
 use Rattle.listing_sets.proofs.no_slots.Statement.{statement}
 use Rattle.listing_sets.proofs.no_slots.Tie as tie
 

@@ -9,7 +9,7 @@ use Rattle.finite.specs.Tests.{any, all}
 use Rattle.bitset.specs.Set.{has}
 use Rattle.semantics.specs.Table.{wayOf}
 use Rattle.semantics.specs.Holds.{step}
-use Rattle.semantics.specs.Form.{slots}
+use Rattle.limits.specs.Limits.{slots}
 use Rattle.site.specs.Site.{siteOf}
 use Rattle.condition.specs.Bytes.{nodeAt}
 use Rattle.listing_sets.specs.Laws.Nodes.{makes-not, makes-diamond, makes-box}

@@ -1,7 +1,7 @@
 -- The set, copied into the part that is lent.
 use native.Mathlib.Omega.{arith}
 use borrow.Author.Needs.{needs}
-use Rattle.semantics.specs.Form.{slots}
+use Rattle.limits.specs.Limits.{slots}
 use Rattle.listing_sets.specs.Laws.Places.{written}
 use Rattle.listing_sets.proofs.store.Statement.{statement}
 use Rattle.listing_sets.proofs.store.Tie as tie

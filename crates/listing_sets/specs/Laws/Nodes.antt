@@ -10,7 +10,8 @@ use Rattle.finite.specs.Tests.{same, any, all}
 use Rattle.finite.specs.Laws.Bools.{either}
 use Rattle.finite.specs.Laws.Below.{equal?, eq-same, ne-same, any-cong, all-cong}
 use Rattle.bitset.specs.Set.{setSlots, has}
-use Rattle.semantics.specs.Form.{slots, labels, Form, var}
+use Rattle.limits.specs.Limits.{slots, labels}
+use Rattle.semantics.specs.Form.{Form, var}
 use Rattle.semantics.specs.Holds.{Set, Env, put, Model, step}
 use Rattle.semantics.specs.Table.{kTrue, kHere, kLabel, kName, kVar, kSlot, kNot, kDia, kBox, kMu, kNu, kOr, kAnd, Kind, leaf, unary, binary, kindOf, wayOf, Node, atom, one, two, build, treeAt, nodesFit}
 use Rattle.semantics.specs.Laws.FixedPoint.{iter, none, full}

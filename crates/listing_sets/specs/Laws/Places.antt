@@ -12,7 +12,7 @@ use Rattle.finite.specs.Laws.Bools.{either, look}
 use Rattle.finite.specs.Laws.Below.{equal?, below-out, not-below}
 use Rattle.bitset.specs.Set.{setBytes, setSlots, has}
 use Rattle.bitset.specs.Laws.Part.{has-part, back, back-below, back-above, back-has}
-use Rattle.semantics.specs.Form.{slots}
+use Rattle.limits.specs.Limits.{slots}
 use Rattle.semantics.specs.Holds.{Set}
 use Rattle.semantics.specs.Laws.Agree.{_≐_}
 use Rattle.listing_sets.specs.Places.{setAt, Written, Cleared}

@@ -5,7 +5,7 @@ use native.Mathlib.Omega.{arith}
 use borrow.Author.Needs.{needs}
 use Rattle.finite.specs.Tests.{same, any}
 use Rattle.bitset.specs.Set.{setSlots, has}
-use Rattle.semantics.specs.Form.{slots}
+use Rattle.limits.specs.Limits.{slots}
 use Rattle.site.specs.Site.{siteOf}
 use Rattle.modal.specs.Laws.Gather.{Gathered, gather-none, gather-more, gather-each}
 use Rattle.modal.proofs.preimage.Statement.{statement}

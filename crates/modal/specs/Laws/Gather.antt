@@ -15,7 +15,7 @@ use Rattle.finite.specs.Laws.Bits.{bit-suc}
 use Rattle.finite.specs.Laws.Weights.{bit-zero}
 use Rattle.bitset.specs.Set.{setBytes, setSlots, has, Is}
 use Rattle.bitset.specs.Laws.Bytes.{has-byte, has-empty}
-use Rattle.semantics.specs.Form.{slots}
+use Rattle.limits.specs.Limits.{slots}
 
 -- R has the slots that the turns below i put in; turn k puts in those of f k
 pub record Gathered (f : ℕ → ℕ → Bool) (R : List ℕ) (i : ℕ) : Type 0 where

@@ -12,8 +12,8 @@ use Rattle.finite.specs.Laws.Below.{same-eq, same-refl, eq-same, ne-same, any-c
 use Rattle.bitset.specs.Set.{setBytes, setSlots, has, Is, inserted}
 use Rattle.bitset.specs.Laws.Part.{has-part}
 use Rattle.bitset.specs.Laws.Slot.{has-inserted}
-use Rattle.semantics.specs.Form.{slots, links}
-use Rattle.site.specs.Layout.{generalLinks, targetAt, rowAt}
+use Rattle.limits.specs.Limits.{slots, links, generalLinks}
+use Rattle.site.specs.Layout.{targetAt, rowAt}
 use Rattle.site.specs.Site.{siteOf}
 use Rattle.site.specs.Laws.Read.{row-is, target-read}
 use Rattle.site.specs.Laws.Target.{nil-none}

@@ -10,7 +10,8 @@ use Rattle.finite.specs.Laws.Below.{below-not, any-cong}
 use Rattle.finite.specs.Laws.Dual.{all-any}
 use Rattle.bitset.specs.Set.{setBytes, setSlots, has, Is}
 use Rattle.bitset.specs.Laws.Bytes.{has-full}
-use Rattle.semantics.specs.Form.{slots, links, every}
+use Rattle.limits.specs.Limits.{slots, links}
+use Rattle.semantics.specs.Form.{every}
 use Rattle.semantics.specs.Holds.{Model, step}
 use Rattle.semantics.specs.Table.{wayOf}
 use Rattle.semantics.specs.Laws.Ways.{way-along, way-against}

@@ -4,7 +4,7 @@ use mathlib.Core.Path.{sym, _∙_, ap}
 use Prim.Native.Nat.{_+_, _*_, _-_, _≤_}
 use native.Mathlib.Omega.{arith}
 use Rattle.finite.specs.Tests.{same, any}
-use Rattle.semantics.specs.Form.{slots, links}
+use Rattle.limits.specs.Limits.{slots, links}
 use Rattle.site.specs.Site.{siteOf}
 use Rattle.site.specs.Laws.Read.{row-is}
 use Rattle.partition.specs.Gains.{Gains}

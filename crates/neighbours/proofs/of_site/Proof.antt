@@ -5,7 +5,7 @@ use native.Mathlib.Omega.{arith}
 use borrow.Author.Needs.{needs}
 use lib.ListN.{length, replicate}
 use Rattle.site.specs.Site.{siteOf}
-use Rattle.semantics.specs.Form.{links}
+use Rattle.limits.specs.Limits.{links}
 use Rattle.bitset.specs.Set.{setSlots}
 use Rattle.partition.specs.Gains.{Gains}
 use Rattle.partition.specs.Rows.{waysBytes}

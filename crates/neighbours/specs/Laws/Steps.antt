@@ -13,10 +13,10 @@ use Rattle.finite.specs.Laws.Bools.{either, look, and-in, and-l, and-r, or-l, o
 use Rattle.finite.specs.Laws.Below.{equal?, same-eq, same-refl, ne-same, any-in, any-out, none-any, below-out, not-below}
 use Rattle.finite.specs.Laws.Weights.{bit-zero}
 use Rattle.bitset.specs.Set.{setBytes, setSlots, has, inserted}
-use Rattle.semantics.specs.Form.{slots, links}
+use Rattle.limits.specs.Limits.{slots, links, generalLinks}
 use Rattle.semantics.specs.Holds.{Model, step}
 use Rattle.semantics.specs.Laws.Ways.{way-along, way-against}
-use Rattle.site.specs.Layout.{generalLinks, targetAt, rowAt}
+use Rattle.site.specs.Layout.{targetAt, rowAt}
 use Rattle.site.specs.Site.{siteOf}
 use Rattle.site.specs.Laws.Read.{row-is, target-read}
 use Rattle.partition.specs.Gains.{Gains}

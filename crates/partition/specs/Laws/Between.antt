@@ -11,11 +11,10 @@ use Rattle.finite.specs.Laws.Bools.{clash, no-true, and-in, and-r}
 use Rattle.finite.specs.Laws.Below.{any-in, any-out, any-none, all-in, all-out}
 use Rattle.finite.specs.Laws.First.{first-in}
 use Rattle.bitset.specs.Set.{setSlots}
-use Rattle.semantics.specs.Form.{slots}
+use Rattle.limits.specs.Limits.{slots, everyWay}
 use Rattle.semantics.specs.Holds.{Model}
 use Rattle.semantics.specs.Bisimulation.{Total}
 use Rattle.semantics.specs.Table.{wayOf}
-use Rattle.semantics.specs.Laws.Ways.{linkWays}
 use Rattle.semantics.specs.Laws.Refine.{Rel, match, bisimilarIn, bisimilar-sym, bisimilar-less}
 use Rattle.partition.specs.Partition.{across, Parts, Follows}
 use Rattle.partition.specs.Laws.Parts.{first-cong, parts-first}
@@ -45,11 +44,11 @@ follows-map E F p q e f = record {
 
 module _ (M N : Model) where
   -- a slot that has no slot left after some ways of a round has none after the round
-  pub upto-alone : (k w t : ℕ) → w ≤ linkWays → any setSlots (upto N M k w t) ≡ false → (s : ℕ) → s < setSlots → bisimilarIn (suc k) N M t s ≡ false
+  pub upto-alone : (k w t : ℕ) → w ≤ everyWay → any setSlots (upto N M k w t) ≡ false → (s : ℕ) → s < setSlots → bisimilarIn (suc k) N M t s ≡ false
   unfolding upto bisimilarIn
   upto-alone k w t l e s h = no-true (λ p.
-      let matched : all linkWays (λ v. match N M (wayOf v) (bisimilarIn k N M) t s) ≡ true = and-r (bisimilarIn k N M t s) _ p in
-      let so-far : upto N M k w t s ≡ true = and-in (bisimilar-less N M k t s p) (all-in w _ (λ v b. all-out linkWays _ matched v (omega arith))) in
+      let matched : all everyWay (λ v. match N M (wayOf v) (bisimilarIn k N M) t s) ≡ true = and-r (bisimilarIn k N M t s) _ p in
+      let so-far : upto N M k w t s ≡ true = and-in (bisimilar-less N M k t s p) (all-in w _ (λ v b. all-out everyWay _ matched v (omega arith))) in
       clash so-far (any-none setSlots (upto N M k w t) e s h))
 
   -- the test at the end: each class of the first site has a slot of the second

@@ -11,11 +11,10 @@ use Rattle.finite.specs.Laws.Bools.{and-in, and-l, and-r, both, beq-true, eq-be
 use Rattle.finite.specs.Laws.Below.{same-eq, same-refl, eq-same, any-in, any-out, all-in, all-out}
 use Rattle.bitset.specs.Set.{setSlots, has}
 use Rattle.bitset.specs.Laws.Part.{has-part}
-use Rattle.semantics.specs.Form.{slots}
+use Rattle.limits.specs.Limits.{slots, everyWay}
 use Rattle.semantics.specs.Holds.{Model, step}
 use Rattle.semantics.specs.Table.{wayOf}
 use Rattle.semantics.specs.Bisimulation.{IsClass}
-use Rattle.semantics.specs.Laws.Ways.{linkWays}
 use Rattle.semantics.specs.Laws.Classes.{class-is}
 use Rattle.semantics.specs.Laws.Refine.{Rel, covers, covers-iff, match, bisimilarIn, Stable, stable}
 use Rattle.site.specs.Layout.{rowsBytes}
@@ -29,7 +28,7 @@ use Rattle.partition.specs.Laws.Parts.{parts-map, parts-first, number-sm
 abbrev wayRows : List ℕ → ℕ → List ℕ
 wayRows W w = take rowsBytes (drop (rowsBytes * w) W)
 
-way-row : (M : Model) (W : List ℕ) (w s t : ℕ) → Neighbours M W → w < linkWays → s < setSlots → t < setSlots
+way-row : (M : Model) (W : List ℕ) (w s t : ℕ) → Neighbours M W → w < everyWay → s < setSlots → t < setSlots
     → inRow (wayRows W w) s t ≡ step M (wayOf w) s t
 unfolding Neighbours
 way-row M W w s t n hw hs ht =
@@ -90,7 +89,7 @@ upto-next M N k w s t =
     ∙ ap (λ (x : Bool). bisimilarIn k M N s t && x) (and-comm (all w (λ v. match M N (wayOf v) (bisimilarIn k M N) s t)) (match M N (wayOf w) (bisimilarIn k M N) s t)))
 
 -- two sites, whose numbers p and q after k rounds are refined to a and b by the ways below w: one way more
-pub upto-seen : (M N : Model) (k w : ℕ) (W W′ p q a b : List ℕ) → Neighbours M W → Neighbours N W′ → w < linkWays
+pub upto-seen : (M N : Model) (k w : ℕ) (W W′ p q a b : List ℕ) → Neighbours M W → Neighbours N W′ → w < everyWay
     → ((x : ℕ) → x < setSlots → getD p x 0 < setSlots) → ((x : ℕ) → x < setSlots → getD q x 0 < setSlots)
     → ((s t : ℕ) → s < setSlots → t < setSlots → across p q s t ≡ bisimilarIn k M N s t)
     → ((s t : ℕ) → s < setSlots → t < setSlots → across a b s t ≡ upto M N k w s t)
@@ -105,16 +104,16 @@ pub upto-none : (M : Model) (k : ℕ) (p : List ℕ) → Parts (bisimilarIn k M 
 unfolding upto all
 upto-none M k p n = parts-map (bisimilarIn k M M) (upto M M k 0) p (λ s t h j. sym (and-true (bisimilarIn k M M s t))) n
 
-pub upto-more : (M : Model) (k w m : ℕ) (W p q r : List ℕ) → Neighbours M W → w < linkWays → m ≡ rowsBytes → Parts (bisimilarIn k M M) p
+pub upto-more : (M : Model) (k w m : ℕ) (W p q r : List ℕ) → Neighbours M W → w < everyWay → m ≡ rowsBytes → Parts (bisimilarIn k M M) p
     → Parts (upto M M k w) q → Parts (bySeen q (take m (drop (rowsBytes * w) W)) p) r → Parts (upto M M k (w + 1)) r
 unfolding bySeen
 upto-more M k w m W p q r nb hw e n u f =
     let small : (x : ℕ) → x < setSlots → getD p x 0 < setSlots = number-small p (n .lowest) in
     parts-map (bySeen q (wayRows W w) p) (upto M M k (w + 1)) r (upto-seen M M k w W W p p q q nb nb hw small small (n .by) (u .by)) (rw e at f)
 
-pub upto-all : (M : Model) (k : ℕ) (q : List ℕ) → Parts (upto M M k linkWays) q → Parts (bisimilarIn (k + 1) M M) q
+pub upto-all : (M : Model) (k : ℕ) (q : List ℕ) → Parts (upto M M k everyWay) q → Parts (bisimilarIn (k + 1) M M) q
 unfolding upto bisimilarIn
-upto-all M k q u = rw (add-one k) (parts-map (upto M M k linkWays) (bisimilarIn (suc k) M M) q (λ s t h j. refl) u)
+upto-all M k q u = rw (add-one k) (parts-map (upto M M k everyWay) (bisimilarIn (suc k) M M) q (λ s t h j. refl) u)
 
 -- ---- the end
 

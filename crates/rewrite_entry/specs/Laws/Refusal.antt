@@ -8,7 +8,7 @@ use Rattle.condition.specs.Bytes.{tableOf}
 use Rattle.condition.specs.Refusal.{conditionVerdict}
 use Rattle.sheet.specs.Bytes.{editsOf}
 use Rattle.sheet.specs.Refusal.{sheetVerdict}
-use Rattle.blocks.specs.Write.{tableBytes}
+use Rattle.limits.specs.Limits.{tableBytes}
 use Rattle.verdict.specs.Verdict.{reasonOf}
 use Rattle.rewriting.specs.Refusal.{tooLong}
 use Rattle.refusals.specs.Refusal.{bufferVerdict}

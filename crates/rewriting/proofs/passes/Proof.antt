@@ -1,6 +1,6 @@
 -- The edits that are done are the last ones.
 use Rattle.rewriting.specs.Laws.Passes.{Passing, passing-start, passing-more, passing-long, passing-done, legal-at}
-use Rattle.blocks.specs.Write.{tableNodes, tableBytes}
+use Rattle.limits.specs.Limits.{tableNodes, tableBytes}
 use Rattle.condition.specs.Bytes.{nodes}
 use lib.ListN.{length}
 use native.Mathlib.Omega.{arith}

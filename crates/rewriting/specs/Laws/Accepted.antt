@@ -19,7 +19,7 @@ use Rattle.condition.specs.Laws.Verdict.{accepted-sound, sound-accepted}
 use Rattle.sheet.specs.Bytes.{editsOf}
 use Rattle.sheet.specs.Refusal.{sheetVerdict}
 use Rattle.sheet.specs.Laws.Accepted.{accepted-sheet}
-use Rattle.blocks.specs.Write.{tableNodes}
+use Rattle.limits.specs.Limits.{tableNodes}
 use Rattle.rewriting.specs.Refusal.{tooLong}
 use Rattle.rewriting.specs.Laws.Grow.{too-long-end}
 

@@ -11,7 +11,7 @@ use Rattle.semantics.specs.Edit.{Edit, CN1, CN2, AP, DP, AT, DT1, DT2, AS, DS}
 use Rattle.semantics.specs.Table.{Leaf, kTrue, kHere, kLabel, kName, kVar, kSlot, kNot, kDia, kBox, kMu, kNu, Kind, leaf, unary, binary, kindOf, wayOf, Node}
 use Rattle.semantics.specs.Block.{Change, keep, added, cut, cutFrom, cutTo, cutOff, change, Block, old, size, root, emit, blockDia, blockBox, blockLeaf, block, rewrite, rewriteTable, rewriteSheet}
 use Rattle.semantics.specs.Laws.Emit.{emit-length}
-use Rattle.blocks.specs.Write.{tableNodes}
+use Rattle.limits.specs.Limits.{tableNodes}
 use Rattle.rewriting.specs.Refusal.{tooLong}
 
 leaf-some : (e : Edit) (k : Leaf) (p : ℕ) → 1 ≤ size (blockLeaf e k p)

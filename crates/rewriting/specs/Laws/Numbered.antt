@@ -16,7 +16,7 @@ use Rattle.semantics.specs.Table.{kindOf}
 use Rattle.semantics.specs.Block.{Block, old, end, on, join, size, root, block}
 use Rattle.semantics.specs.Laws.Emit.{emit-length}
 use Rattle.condition.specs.Bytes.{nodeAt}
-use Rattle.blocks.specs.Write.{tableNodes}
+use Rattle.limits.specs.Limits.{tableNodes}
 use Rattle.rewriting.specs.State.{blockIn, step, stateAt, imageOf, startOf, Numbered, startIn, imageIn}
 use Rattle.rewriting.specs.Laws.State.{images-length, image-at}
 use Rattle.rewriting.specs.Laws.Grow.{block-some}

@@ -18,7 +18,8 @@ use Rattle.condition.specs.Bytes.{nodes, tableOf, bytesOf}
 use Rattle.condition.specs.Laws.Bytes.{length-nodes}
 use Rattle.sheet.specs.Bytes.{editAt, editsOf}
 use Rattle.sheet.specs.Laws.Read.{edits-length, edits-at, edits-drop}
-use Rattle.blocks.specs.Write.{tableNodes, tableBytes, Written}
+use Rattle.limits.specs.Limits.{tableNodes, tableBytes}
+use Rattle.blocks.specs.Write.{Written}
 use Rattle.rewriting.specs.Refusal.{tooLong, lengthVerdict}
 use Rattle.rewriting.specs.Rewriting.{rewritten, TableAfter, Rewrote}
 use Rattle.rewriting.specs.State.{Passed}

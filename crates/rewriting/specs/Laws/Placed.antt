@@ -14,7 +14,8 @@ use Rattle.semantics.specs.Block.{Block, old, size, emit, block, rewriteTable}
 use Rattle.semantics.specs.Laws.Emit.{emit-length}
 use Rattle.condition.specs.Bytes.{nodeAt, nodes, bytesOf}
 use Rattle.condition.specs.Laws.Bytes.{length-bytes}
-use Rattle.blocks.specs.Write.{tableNodes, tableBytes, puts, Written, Wrote}
+use Rattle.limits.specs.Limits.{tableNodes, tableBytes}
+use Rattle.blocks.specs.Write.{puts, Written, Wrote}
 use Rattle.blocks.specs.Laws.Write.{length-puts}
 use Rattle.rewriting.specs.State.{blockIn, step, stateAt, usedChild, startOf, Numbered, startIn, imageIn, Stands, Filled, More}
 use Rattle.rewriting.specs.Laws.State.{state-out, block-used}

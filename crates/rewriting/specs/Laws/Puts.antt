@@ -10,7 +10,8 @@ use Rattle.finite.specs.Laws.Bools.{either, look}
 use Rattle.finite.specs.Laws.Below.{below-in, below-out, not-below, equal?}
 use Rattle.semantics.specs.Table.{Node}
 use Rattle.condition.specs.Bytes.{nodeBytes, bytesOf}
-use Rattle.blocks.specs.Write.{tableNodes, tableBytes, put, puts}
+use Rattle.limits.specs.Limits.{tableNodes, tableBytes}
+use Rattle.blocks.specs.Write.{put, puts}
 use Rattle.blocks.specs.Laws.Write.{length-put}
 
 sets-low : (vs l : List ℕ) (i p : ℕ) → p < i → getD (sets l i vs) p 0 ≡ getD l p 0

@@ -21,7 +21,7 @@ use Rattle.condition.specs.Laws.Bytes.{table-back}
 use Rattle.sheet.specs.Refusal.{sheetVerdict}
 use Rattle.sheet.specs.Laws.Read.{edits-back}
 use Rattle.sheet.specs.Laws.Accepted.{sheet-accepted}
-use Rattle.blocks.specs.Write.{tableNodes}
+use Rattle.limits.specs.Limits.{tableNodes}
 use Rattle.rewriting.specs.Refusal.{tooLong, lengthVerdict}
 use Rattle.rewriting.specs.Laws.Grow.{too-long-end}
 use Rattle.rewriting.specs.Laws.Double.{total, meets, cost, nodes-through}

@@ -31,7 +31,7 @@ use Rattle.sheet.specs.Laws.Read.{edits-back}
 use Rattle.sheet.specs.Laws.Accepted.{sheet-accepted}
 use Rattle.applying.specs.Stuck.{stuckAt}
 use Rattle.applying.specs.Refusal.{goesVerdict}
-use Rattle.blocks.specs.Write.{tableNodes}
+use Rattle.limits.specs.Limits.{tableNodes}
 use Rattle.rewriting.specs.Refusal.{tooLong}
 use Rattle.rewriting.specs.Laws.Grow.{too-long-end}
 use Rattle.sample_bytes.specs.Said.{siteIn, tableIn, sheetIn}

@@ -8,7 +8,7 @@ use lib.ListN.{length}
 use Rattle.finite.specs.Tests.{same, below}
 use Rattle.finite.specs.Laws.Bools.{either, look, and-l, and-r}
 use Rattle.finite.specs.Laws.Below.{same-eq, below-out}
-use Rattle.semantics.specs.Form.{labels, names, links}
+use Rattle.limits.specs.Limits.{labels, names, links}
 use Rattle.samples.specs.Site.{each, Small, nameAt, model, siteA, ring}
 use Rattle.samples.specs.Rows.{Expected, lists, stuckAt, oddAt, Row, tableR, tableName, tableLoop, rows}
 use Rattle.samples.specs.Laws.Site.{some-each}

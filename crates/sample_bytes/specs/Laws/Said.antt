@@ -11,7 +11,8 @@ use Rattle.finite.specs.Laws.Bools.{either, clash, both, and-l, and-r, or-out}
 use Rattle.finite.specs.Laws.Below.{same-eq, below-out, count-cong}
 use Rattle.bitset.specs.Set as bitset
 use Rattle.bitset.specs.Set.{Is}
-use Rattle.semantics.specs.Form.{slots, Form}
+use Rattle.limits.specs.Limits.{slots, tableNodes}
+use Rattle.semantics.specs.Form.{Form}
 use Rattle.semantics.specs.Holds.{Env, Model, Holds}
 use Rattle.semantics.specs.Table.{Node, kindOf, atom, build, tree, trees, treeAt, formOf}
 use Rattle.semantics.specs.Edit.{Valid}
@@ -23,7 +24,6 @@ use Rattle.samples.specs.Said as model
 use Rattle.samples.specs.Said.{before, after, Sound, Stuck, Odd, Says, AllSaid}
 use Rattle.samples.specs.Laws.Said.{samples}
 use Rattle.site.specs.Site.{siteOf}
-use Rattle.blocks.specs.Write.{tableNodes}
 use Rattle.listing.specs.Listed.{Listed}
 use Rattle.refusals.specs.Laws.Items.{buffer-in}
 use Rattle.list_entry.specs.Refusal.{listVerdict}

@@ -12,11 +12,11 @@ use Rattle.finite.specs.Laws.Below.{same-eq, eq-same, below-in, below-not}
 use Rattle.finite.specs.Laws.Bits.{bit-suc}
 use Rattle.bitset.specs.Set.{setBytes, setSlots, has}
 use Rattle.bitset.specs.Laws.Bytes.{has-byte}
-use Rattle.semantics.specs.Form.{slots, labels, names, links}
+use Rattle.limits.specs.Limits.{slots, labels, names, links, generalLinks}
 use Rattle.semantics.specs.Holds.{Set, Model}
 use Rattle.semantics.specs.Edit.{functional, target, Valid}
 use Rattle.semantics.specs.Laws.Edits.{find-ends, target-one}
-use Rattle.site.specs.Layout.{generalLinks, labelsAt, namesAt, targetsAt, rowsAt, siteBytes, labelAt, nameAt, targetAt, rowAt}
+use Rattle.site.specs.Layout.{labelsAt, namesAt, targetsAt, rowsAt, siteBytes, labelAt, nameAt, targetAt, rowAt}
 use Rattle.site.specs.Site.{siteOf}
 use Rattle.site.specs.Laws.Read.{functional-in, place-is, place-out}
 use Rattle.edits.specs.Laws.Areas.{same-fields, presents-are, marks-are, links-are}

@@ -5,7 +5,8 @@ use mathlib.Core.Bool.{Bool, true, not, _&&_, Bool·beq}
 use Prim.Native.Nat.{ℕ}
 use lib.ListN.{length, getD, take}
 use Rattle.finite.specs.Tests.{same, below, any, all, count, first}
-use Rattle.semantics.specs.Form.{slots, Form, occ, free, closed, even}
+use Rattle.limits.specs.Limits.{slots}
+use Rattle.semantics.specs.Form.{Form, occ, free, closed, even}
 use Rattle.semantics.specs.Holds.{Set, Env, Model, put, step}
 use Rattle.semantics.specs.Table.{Node, kindNo, kindOf, wayNo, wayOf, atom, one, two, build, tree, trees, treeAt, formOf, leafFits, unaryFits, kindFits, nodeFits, nodesFit, evenTable}
 use Rattle.semantics.specs.Edit.{Edit, DS, functional, find, target, edit, legal, goes, sheet, sheetLegal, sheetGoes}

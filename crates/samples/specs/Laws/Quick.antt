@@ -6,7 +6,8 @@ use native.Mathlib.Omega.{arith}
 use Rattle.finite.specs.Tests.{same, below, any, all}
 use Rattle.finite.specs.Laws.Bools.{either, look, both, and-l, or-out, or-l, not-out}
 use Rattle.finite.specs.Laws.Below.{below-in, below-out, any-in, any-out, any-cong, all-in, all-out, all-cong}
-use Rattle.semantics.specs.Form.{slots, Way, along, against, every, Form, top, here, label, name, var, neg, or, and, dia, box, mu, nu, slot}
+use Rattle.limits.specs.Limits.{slots}
+use Rattle.semantics.specs.Form.{Way, along, against, every, Form, top, here, label, name, var, neg, or, and, dia, box, mu, nu, slot}
 use Rattle.semantics.specs.Holds.{Set, Env, put, Model, step}
 use Rattle.semantics.specs.Edit.{Valid}
 use Rattle.semantics.specs.Laws.FixedPoint.{iter, none, full}

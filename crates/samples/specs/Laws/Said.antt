@@ -9,7 +9,7 @@ use lib.ListN.{length, take}
 use Rattle.finite.specs.Tests.{same, below, count}
 use Rattle.finite.specs.Laws.Bools.{and-l, and-r, no-true, not-out, beq-true}
 use Rattle.finite.specs.Laws.Below.{same-eq, below-out, all-out}
-use Rattle.semantics.specs.Form.{slots}
+use Rattle.limits.specs.Limits.{slots}
 use Rattle.semantics.specs.Holds.{Env, Model, Holds}
 use Rattle.semantics.specs.Table.{Node, treeAt, formOf, nodesFit, evenTable}
 use Rattle.semantics.specs.Edit.{Edit, Valid, sheet, sheetLegal, sheetGoes}

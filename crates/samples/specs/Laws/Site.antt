@@ -7,7 +7,7 @@ use Prim.Native.Nat.{ℕ}
 use Rattle.finite.specs.Tests.{same, below}
 use Rattle.finite.specs.Laws.Bools.{either, look, clash, and-in, and-l, and-r, or-out, not-out}
 use Rattle.finite.specs.Laws.Below.{same-eq, eq-same, below-out}
-use Rattle.semantics.specs.Form.{slots}
+use Rattle.limits.specs.Limits.{slots}
 use Rattle.semantics.specs.Edit.{functional, Valid}
 use Rattle.samples.specs.Site.{some, each, Small, nameAt, model}
 

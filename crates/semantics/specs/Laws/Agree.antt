@@ -6,7 +6,8 @@ use native.Mathlib.Omega.{arith}
 use Rattle.finite.specs.Tests.{same}
 use Rattle.finite.specs.Laws.Bools.{either, look, and-in, or-l, or-r}
 use Rattle.finite.specs.Laws.Below.{same-refl, any-cong, all-cong, apart, equal?}
-use Rattle.semantics.specs.Form.{slots, Form, top, here, label, name, var, neg, or, and, dia, box, mu, nu, slot, occ, free}
+use Rattle.limits.specs.Limits.{slots}
+use Rattle.semantics.specs.Form.{Form, top, here, label, name, var, neg, or, and, dia, box, mu, nu, slot, occ, free}
 use Rattle.semantics.specs.Holds.{Set, Env, put, Model, step}
 use Rattle.semantics.specs.Laws.FixedPoint.{iter, none, full}
 use Rattle.semantics.specs.Laws.Eval.{eval}

@@ -7,7 +7,7 @@ use native.Mathlib.Omega.{arith}
 use Rattle.finite.specs.Tests.{first}
 use Rattle.finite.specs.Laws.Below.{any-in}
 use Rattle.finite.specs.Laws.First.{first-in, first-low}
-use Rattle.semantics.specs.Form.{slots}
+use Rattle.limits.specs.Limits.{slots}
 use Rattle.semantics.specs.Holds.{Model}
 use Rattle.semantics.specs.Bisimulation.{Bisimilar, IsClass}
 use Rattle.semantics.specs.Laws.Refine.{bisimilarIn, bisimilar-refl, bisimilar-sym, bisimilar-trans, Stable, stable-bisimilar, bisimilar-rounds}

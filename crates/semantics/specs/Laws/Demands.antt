@@ -6,7 +6,7 @@ use mathlib.Core.Bool.{true}
 use Prim.Native.Nat.{ℕ, _<_}
 use lib.ListN.{length}
 use Rattle.finite.specs.Laws.Bools.{either, look, clash}
-use Rattle.semantics.specs.Form.{slots}
+use Rattle.limits.specs.Limits.{slots}
 use Rattle.semantics.specs.Holds.{Env, Model, Holds, Distinguishes}
 use Rattle.semantics.specs.Table.{Node, formOf, nodesFit, ClosedTable}
 use Rattle.semantics.specs.Edit.{Edit, Valid, sheet, sheetLegal, sheetGoes}

@@ -10,12 +10,12 @@ use lib.ListN.{length}
 use Rattle.finite.specs.Tests.{same, below, any, all}
 use Rattle.finite.specs.Laws.Bools.{either, look, clash, and-in, and-l, and-r}
 use Rattle.finite.specs.Laws.Below.{same-refl, below-in, all-in}
-use Rattle.semantics.specs.Form.{slots, labels, names, variables, occ, free, closed, even}
+use Rattle.limits.specs.Limits.{slots, labels, names, variables, everyWay}
+use Rattle.semantics.specs.Form.{occ, free, closed, even}
 use Rattle.semantics.specs.Holds.{Env, Model, step, Holds, Distinguishes}
 use Rattle.semantics.specs.Table.{Leaf, kTrue, kHere, kLabel, kName, kVar, kSlot, Unary, kNot, kDia, kBox, kMu, kNu, Binary, kOr, kAnd, leaf, unary, binary, kindNo, wayOf, Node, atom, one, two, trees, treeAt, formOf, leafFits, unaryFits, evenTable, slotFree, ClosedTable}
 use Rattle.semantics.specs.Block.{Block, old, end, on, join, size, root, emit}
 use Rattle.semantics.specs.Bisimulation.{Bisimilar}
-use Rattle.semantics.specs.Laws.Ways.{linkWays}
 use Rattle.semantics.specs.Laws.TreeAt.{table-length}
 use Rattle.semantics.specs.Laws.Emit.{blockFits, emit-length, emit-fits, fill, emit-tree, evenBlock, emit-even}
 use Rattle.semantics.specs.Laws.Eval.{eval, eval-table}
@@ -52,7 +52,7 @@ describe : Model → ℕ → ℕ → Block
 describe M zero s =
     join kAnd (sign (M .present s) (end kHere 0))
     (join kAnd (conj labels (λ p. sign (M .marked p s) (end kLabel p))) (conj names (λ n. sign (same s (M .place n)) (end kName n))))
-describe M (suc k) s = join kAnd (describe M k s) (conj linkWays (λ w. covered M w (describe M k) s))
+describe M (suc k) s = join kAnd (describe M k s) (conj everyWay (λ w. covered M w (describe M k) s))
 
 -- its value in N is what the rounds say
 module _ (N : Model) (ρ : Env) where
@@ -106,7 +106,7 @@ module _ (N : Model) (ρ : Env) where
       (conj-value names _ t ∙ ap (all names) (fun-ext (λ n. sign-value _ (end kName n) t))))
   describe-value M (suc k) s t =
       ap₂ _&&_ (describe-value M k s t)
-      (conj-value linkWays _ t ∙ ap (all linkWays) (fun-ext (λ w. covered-value M w (describe M k) (bisimilarIn k M N) (describe-value M k) s t)))
+      (conj-value everyWay _ t ∙ ap (all everyWay) (fun-ext (λ w. covered-value M w (describe M k) (bisimilarIn k M N) (describe-value M k) s t)))
 
 -- blocks of whole conditions, without variables, loops and slot numbers, with parameters in range
 plainLeaf : Leaf → Bool
@@ -156,7 +156,7 @@ sign-ground : (b : Bool) (x : Block) → ground x ≡ true → ground (sign b x)
 unfolding sign
 sign-ground b x h = cond-ground b x (no! x) h (no-ground x h)
 
-covered-ground : (M : Model) (w : ℕ) (f : ℕ → Block) (s : ℕ) → below w 17 ≡ true → ((x : ℕ) → ground (f x) ≡ true) → ground (covered M w f s) ≡ true
+covered-ground : (M : Model) (w : ℕ) (f : ℕ → Block) (s : ℕ) → below w (suc everyWay) ≡ true → ((x : ℕ) → ground (f x) ≡ true) → ground (covered M w f s) ≡ true
 unfolding covered ground plainUnary unaryFits plainLeaf leafFits
 covered-ground M w f s l h =
     and-in
@@ -172,7 +172,7 @@ describe-ground M zero s =
     (conj-ground names _ (λ n h. sign-ground _ (end kName n) (below-in n names h))))
 describe-ground M (suc k) s =
     and-in (describe-ground M k s)
-    (conj-ground linkWays _ (λ w h. covered-ground M w (describe M k) s (below-in w 17 (omega arith)) (describe-ground M k)))
+    (conj-ground everyWay _ (λ w h. covered-ground M w (describe M k) s (below-in w (suc everyWay) (omega arith)) (describe-ground M k)))
 
 -- the table of such a block
 ground-fits : (x : Block) → ground x ≡ true → blockFits 0 x ≡ true
@@ -213,7 +213,7 @@ ground-closed (join kOr x y) g b v = ap₂ _||_ (ground-closed x (and-l (ground 
 ground-closed (join kAnd x y) g b v = ap₂ _||_ (ground-closed x (and-l (ground x) _ g) b v) (ground-closed y (and-r (ground x) _ g) b v)
 
 free-append : (xs ys : List Node) → slotFree xs ≡ true → slotFree ys ≡ true → slotFree (xs ++ ys) ≡ true
-unfolding slotFree
+unfolding slotFree kindNo
 free-append [] ys f g = g
 free-append (x ∷ xs) ys f g = and-in (and-l (not (same (x .kind) 12)) _ f) (free-append xs ys (and-r (not (same (x .kind) 12)) _ f) g)
 
@@ -240,7 +240,7 @@ binary-free kOr = refl
 binary-free kAnd = refl
 
 ground-free : (x : Block) → ground x ≡ true → (b : ℕ) → slotFree (emit x b) ≡ true
-unfolding ground emit slotFree
+unfolding ground emit slotFree kindNo
 ground-free (old i) g b = refl
 ground-free (end k p) g b = and-in (leaf-free k (and-l _ _ g)) refl
 ground-free (on k p x) g b =

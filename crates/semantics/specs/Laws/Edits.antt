@@ -8,7 +8,7 @@ use native.Mathlib.Omega.{arith}
 use Rattle.finite.specs.Tests.{same, below}
 use Rattle.finite.specs.Laws.Bools.{either, look, clash, and-in, and-l, and-r, or-l, or-r, or-out, not-in, not-out, cond-comes, cond-was}
 use Rattle.finite.specs.Laws.Below.{same-eq, eq-same, ne-same, equal?, below-out}
-use Rattle.semantics.specs.Form.{slots, names, links}
+use Rattle.limits.specs.Limits.{slots, names, links, generalLinks}
 use Rattle.semantics.specs.Holds.{Set, Model}
 use Rattle.semantics.specs.Edit.{Edit, CN1, CN2, AP, DP, AT, DT1, DT2, AS, DS, functional, find, target, edit, legal, goes, Valid, sheet, sheetLegal, sheetGoes}
 
@@ -70,7 +70,7 @@ Goes (DS n) M = M .place n ≢ 0
 -- a functional link is a link
 pub functional-small : (f : ℕ) → functional f ≡ true → f < links
 unfolding functional
-functional-small f p = below-out f 8 (and-r (not (below f 4)) _ p)
+functional-small f p = below-out f links (and-r (not (below f generalLinks)) _ p)
 
 module _ (M : Model) (v : Valid M) where
   -- a functional link leads to the target that the search finds

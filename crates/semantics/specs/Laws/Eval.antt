@@ -9,7 +9,8 @@ use Rattle.finite.specs.Tests.{same, any, all}
 use Rattle.finite.specs.Laws.Bools.{no-true, and-in, and-l, and-r, not-out}
 use Rattle.finite.specs.Laws.Below.{all-out}
 use Rattle.finite.specs.Laws.Reflect.{same-iff, not-iff, and-iff, or-iff, some-iff, every-iff}
-use Rattle.semantics.specs.Form.{slots, Form, top, here, label, name, var, neg, or, and, dia, box, mu, nu, slot, occ, even}
+use Rattle.limits.specs.Limits.{slots}
+use Rattle.semantics.specs.Form.{Form, top, here, label, name, var, neg, or, and, dia, box, mu, nu, slot, occ, even}
 use Rattle.semantics.specs.Holds.{Set, Env, put, Model, step, Holds}
 use Rattle.semantics.specs.Table.{Leaf, kTrue, kHere, kLabel, kName, kVar, kSlot, Unary, kNot, kDia, kBox, kMu, kNu, Binary, kOr, kAnd, Kind, leaf, unary, binary, Node, atom, one, two, build, treeAt, nodesFit, evenTable}
 use Rattle.semantics.specs.Laws.TreeAt.{Parts, tree-ind}

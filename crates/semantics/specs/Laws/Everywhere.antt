@@ -3,7 +3,8 @@ use mathlib.Core.Path.{_≡_, refl}
 use mathlib.Core.Logic.{_↔_}
 use mathlib.Core.Bool.{true}
 use Prim.Native.Nat.{ℕ, _<_}
-use Rattle.semantics.specs.Form.{slots, every, Form, here, and, dia}
+use Rattle.limits.specs.Limits.{slots}
+use Rattle.semantics.specs.Form.{every, Form, here, and, dia}
 use Rattle.semantics.specs.Holds.{Env, Model, step, Holds}
 
 -- at any slot s whatever, for E reaches all slots from each

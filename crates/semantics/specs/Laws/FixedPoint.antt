@@ -10,7 +10,7 @@ use borrow.Author.Tests.{not-false}
 use Rattle.finite.specs.Laws.Bools.{either, look, clash, or-out, not-in, not-out, imp-fails}
 use Rattle.finite.specs.Laws.Below.{all-out, all-fails}
 use Rattle.finite.specs.Laws.Count.{count-more, count-full}
-use Rattle.semantics.specs.Form.{slots}
+use Rattle.limits.specs.Limits.{slots}
 use Rattle.semantics.specs.Holds.{Set}
 use Rattle.semantics.specs.Laws.Monotone.{_⊆_}
 

@@ -10,7 +10,8 @@ use Rattle.finite.specs.Tests.{same, below}
 use Rattle.finite.specs.Laws.Bools.{either, look, clash, and-in, and-l}
 use Rattle.finite.specs.Laws.Below.{same-eq, eq-same, ne-same, same-refl, below-in}
 use Rattle.finite.specs.Laws.Reflect.{same-iff, not-iff, and-iff, or-iff}
-use Rattle.semantics.specs.Form.{slots, names, variables, Way, along, against, every, Form, top, name, neg, or, and, dia, box, mu, nu, occ, even}
+use Rattle.limits.specs.Limits.{slots, names, variables, links, everyWay}
+use Rattle.semantics.specs.Form.{Way, along, against, every, Form, top, name, neg, or, and, dia, box, mu, nu, occ, even}
 use Rattle.semantics.specs.Holds.{Env, Model, step, Holds}
 use Rattle.semantics.specs.Edit.{Edit, CN1, CN2, AP, DP, AT, DT1, DT2, AS, DS, functional, target, edit, Valid}
 use Rattle.semantics.specs.Table.{Leaf, kTrue, kHere, kLabel, kName, kVar, kSlot, kNot, kDia, kBox, kMu, kNu, kOr, kAnd, Kind, leaf, unary, binary, wayOf, Node, atom, one, two, build, leafFits, unaryFits, kindFits}
@@ -87,7 +88,7 @@ change-fits (DS n) l every = tt
 no-fits : {b : Bool} → b ≡ true → (same 0 0 && b) ≡ true
 no-fits f = and-in (same-refl 0) f
 
-E-fits : below 16 17 ≡ true
+E-fits : below everyWay (suc everyWay) ≡ true
 unfolding below
 E-fits = refl
 
@@ -102,7 +103,7 @@ even-nu p φ ψ e = cc
 
 -- the block of a node with a child, given the child's image i
 module _ (e : Edit) (l : Legal e) (ts : List Form) (p i : ℕ) (t : below i (length ts) ≡ true) (φ : Form) (kid : Image e φ (getD ts i top)) where
-  module _ (h : below p 17 ≡ true) where
+  module _ (h : below p (suc everyWay) ≡ true) where
     dia-shape : (c : Change) → ChangeFits c → Says e (dia (wayOf p) φ) (fill ts (blockDia c p (old i)))
         → Good e ts (blockDia c p (old i)) (dia (wayOf p) φ)
     unfolding ChangeFits blockDia makes blockFits unaryFits leafFits fill atom one two occ evenBlock even
@@ -210,7 +211,7 @@ module _ (M : Model) (v : Valid M) (ρ : Env) (s : ℕ) (k : s < slots) where
   at n = v .small _ (v .named n)
 
   target-says : (n f : ℕ) → functional f ≡ true
-      → (s ≡ target M f (M .place n)) ↔ Holds M ρ (or (dia (against f) (name n)) (and (name 0) (neg (dia (wayOf 16) (and (name n) (dia (along f) top)))))) s
+      → (s ≡ target M f (M .place n)) ↔ Holds M ρ (or (dia (against f) (name n)) (and (name 0) (neg (dia (wayOf everyWay) (and (name n) (dia (along f) top)))))) s
   unfolding Holds target step
   target-says n f func = (
     λ p. either ends
@@ -233,7 +234,7 @@ module _ (M : Model) (v : Valid M) (ρ : Env) (s : ℕ) (k : s < slots) where
   -- DS's block for a name y other than 0: it is at @y, or at nil where that was @n
   name-says : (n y : ℕ)
       → (s ≡ cond (same (M .place y) (M .place n)) 0 (M .place y))
-      ↔ Holds M ρ (or (and (name y) (neg (name n))) (and (name 0) (dia (wayOf 16) (and (name n) (name y))))) s
+      ↔ Holds M ρ (or (and (name y) (neg (name n))) (and (name 0) (dia (wayOf everyWay) (and (name n) (name y))))) s
   unfolding Holds
   name-says n y =
       either
@@ -284,8 +285,8 @@ leaf-good (CN1 n1 n2) l ts kName y f =
     (λ c. rw c (copied kName y f (λ M v g ρ s j. rw c Iff·rfl)))
 leaf-good (CN2 n1 n2 h) l ts kName y f =
     let small = functional-small h (l .2) in
-    let forward = below-in h 17 (omega arith) in
-    let reverse = below-in (h + 8) 17 (omega arith) in
+    let forward = below-in h (suc everyWay) (omega arith) in
+    let reverse = below-in (h + links) (suc everyWay) (omega arith) in
     either (look (same y n1))
     (λ c. rw c (good refl (λ _. refl) (λ b v. refl)
     (λ M v g ρ s j. rw (c, way-against h small, way-along h small) (target-says M v ρ s j n2 h (l .2)))

@@ -12,7 +12,8 @@ use Rattle.finite.specs.Laws.Bools.{either, look, and-in, and-l, and-r, or-l, o
 use Rattle.finite.specs.Laws.Below.{same-eq, eq-same, equal?, below-in, below-out, any-in, any-out, all-out}
 use Rattle.finite.specs.Laws.Bits.{all-below}
 use Rattle.finite.specs.Laws.Dual.{all-any}
-use Rattle.semantics.specs.Form.{slots, labels, names, variables, Way, every, Form, top, here, label, name, var, neg, or, and, dia, box, mu, nu, slot, occ, free, closed}
+use Rattle.limits.specs.Limits.{slots, labels, names, variables, everyWay}
+use Rattle.semantics.specs.Form.{Way, every, Form, top, here, label, name, var, neg, or, and, dia, box, mu, nu, slot, occ, free, closed}
 use Rattle.semantics.specs.Holds.{Set, Env, put, Model, step, Holds}
 use Rattle.semantics.specs.Table.{kTrue, kHere, kLabel, kName, kVar, kSlot, kNot, kDia, kBox, kMu, kNu, kOr, kAnd, Kind, leaf, unary, binary, kindNo, kindOf, wayOf, Node, atom, one, two, build, treeAt, formOf, leafFits, unaryFits, kindFits, nodeFits, nodesFit, slotFree, ClosedTable}
 use Rattle.semantics.specs.Bisimulation.{Link, Bisimulation, Total, Bisimilar}
@@ -110,13 +111,13 @@ module _ (M N : Model) (R : ℕ → ℕ → Type 0) (bisim : Bisimulation M N R)
       (λ S T i. invariant φ f (put ρ v S) (put σ v T) (put-invariant ρ σ v S T r i)) full full (λ _ _ _ _ _. refl) slots s t h k q
   invariant (slot j) f ρ σ r s t h k q = absurd f
 
-way-fits : (p : ℕ) → below p 17 ≡ true → WayFits (wayOf p)
+way-fits : (p : ℕ) → below p (suc everyWay) ≡ true → WayFits (wayOf p)
 unfolding WayFits wayOf below
 way-fits p h =
     either
-    (equal? p 16)
+    (equal? p everyWay)
     (λ e. rw e (inl refl))
-    (λ e. inr (way-link p (omega (arith, below-out p 17 h))))
+    (λ e. inr (way-link p (omega (arith, below-out p (suc everyWay) h))))
 
 -- the kind with a number has that number
 kind-number : (n : ℕ) → n < 13 → kindNo (kindOf n) ≡ n
@@ -124,7 +125,7 @@ unfolding kindNo kindOf
 kind-number n h = eqb→eq _ _ (all-below (λ m. eqb (kindNo (kindOf m)) m) 13 tt n h)
 
 free-at : (xs : List Node) (i : ℕ) → slotFree xs ≡ true → i < length xs → getD xs i blank .kind ≢ 12
-unfolding slotFree
+unfolding slotFree kindNo
 free-at [] i f h = absurd (omega arith)
 free-at (x ∷ xs) zero f h = λ e. not-out _ (and-l _ _ f) (eq-same e)
 free-at (x ∷ xs) (suc i) f h = free-at xs i (and-r (not (same (x .kind) 12)) _ f) (omega arith)

@@ -6,7 +6,8 @@ use Prim.Native.Nat.{ℕ, _<_}
 use Rattle.finite.specs.Tests.{same}
 use Rattle.finite.specs.Laws.Bools.{either, look, clash, and-in, or-l, or-r}
 use Rattle.finite.specs.Laws.Below.{same-eq, same-refl, ne-same, apart}
-use Rattle.semantics.specs.Form.{slots, Form, top, here, label, name, var, neg, or, and, dia, box, mu, nu, slot, occ}
+use Rattle.limits.specs.Limits.{slots}
+use Rattle.semantics.specs.Form.{Form, top, here, label, name, var, neg, or, and, dia, box, mu, nu, slot, occ}
 use Rattle.semantics.specs.Holds.{Set, Env, put, Model, Holds}
 
 -- S inside S′, on the slots

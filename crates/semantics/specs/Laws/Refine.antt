@@ -10,11 +10,12 @@ use Rattle.finite.specs.Laws.Bools.{either, look, clash, and-in, and-l, and-r, 
 use Rattle.finite.specs.Laws.Below.{same-eq, eq-same, any-in, any-out, all-out, all-in}
 use Rattle.finite.specs.Laws.Reflect.{some-iff, every-iff}
 use Rattle.finite.specs.Laws.Count.{count-more, count-full}
-use Rattle.semantics.specs.Form.{slots, labels, names, Way}
+use Rattle.limits.specs.Limits.{slots, labels, names, everyWay}
+use Rattle.semantics.specs.Form.{Way}
 use Rattle.semantics.specs.Holds.{Set, Model, step}
 use Rattle.semantics.specs.Table.{wayNo, wayOf}
 use Rattle.semantics.specs.Bisimulation.{Link, Bisimulation, Bisimilar}
-use Rattle.semantics.specs.Laws.Ways.{linkWays, way-link, link-way}
+use Rattle.semantics.specs.Laws.Ways.{way-link, link-way}
 use Rattle.semantics.specs.Laws.Monotone.{_⊆_}
 use Rattle.semantics.specs.Laws.FixedPoint.{inside?}
 
@@ -36,7 +37,7 @@ agree M N s t =
 -- what k rounds do not tell apart: a slot s of M and a slot t of N
 unfoldable pub bisimilarIn : ℕ → Model → Model → Rel
 bisimilarIn zero M N s t = agree M N s t
-bisimilarIn (suc k) M N s t = bisimilarIn k M N s t && all linkWays (λ p. match M N (wayOf p) (bisimilarIn k M N) s t)
+bisimilarIn (suc k) M N s t = bisimilarIn k M N s t && all everyWay (λ p. match M N (wayOf p) (bisimilarIn k M N) s t)
 
 -- the tests, as statements
 abbrev pub Cover : Model → Model → Way → Rel → ℕ → ℕ → Type 0
@@ -66,14 +67,14 @@ module _ (M N : Model) where
     and-l _ _ p,
     λ w l.
         let n = link-way w l in
-        let q = all-out linkWays _ (and-r (bisimilarIn k M N s t) _ p) (wayNo w) (n .0) in
+        let q = all-out everyWay _ (and-r (bisimilarIn k M N s t) _ p) (wayNo w) (n .0) in
         subst (λ d. Cover M N d (bisimilarIn k M N) s t × Cover N M d (λ a b. bisimilarIn k M N b a) t s) (n .1)
         (covers-iff M N _ _ s t .0 (and-l _ _ q), covers-iff N M _ _ t s .0 (and-r (covers M N (wayOf (wayNo w)) (bisimilarIn k M N) s t) _ q)),
   )
 
   next-in : (k s t : ℕ) → bisimilarIn k M N s t ≡ true → Match M N (bisimilarIn k M N) s t → bisimilarIn (suc k) M N s t ≡ true
   unfolding bisimilarIn match
-  next-in k s t p c = and-in p (all-in linkWays _ (λ i h.
+  next-in k s t p c = and-in p (all-in everyWay _ (λ i h.
       let q = c (wayOf i) (way-link i h) in
       and-in (covers-iff M N _ (bisimilarIn k M N) s t .1 (q .0)) (covers-iff N M _ (λ a b. bisimilarIn k M N b a) t s .1 (q .1))))
 

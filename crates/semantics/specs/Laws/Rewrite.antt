@@ -9,7 +9,8 @@ use lib.ListN.{length, getD, length-append, List·getD-append}
 use lib.Seq.{getD-at}
 use Rattle.finite.specs.Laws.Bools.{either, and-l, and-r}
 use Rattle.finite.specs.Laws.Below.{equal?, below-in, all-in, all-out, all-cong}
-use Rattle.semantics.specs.Form.{slots, variables, Form, top, occ, free, closed, even}
+use Rattle.limits.specs.Limits.{slots, variables}
+use Rattle.semantics.specs.Form.{Form, top, occ, free, closed, even}
 use Rattle.semantics.specs.Holds.{Env, Model, Holds}
 use Rattle.semantics.specs.Edit.{Edit, edit, legal, goes, Valid, sheet, sheetLegal, sheetGoes}
 use Rattle.semantics.specs.Table.{Kind, leaf, unary, binary, kindOf, Node, tree, trees, treeAt, formOf, nodeFits, nodesFit, evenTable}

@@ -9,7 +9,8 @@ use Rattle.finite.specs.Tests.{same}
 use Rattle.finite.specs.Laws.Bools.{either, look}
 use Rattle.finite.specs.Laws.Below.{equal?}
 use Rattle.finite.specs.Laws.Reflect.{same-iff, not-iff, and-iff, or-iff}
-use Rattle.semantics.specs.Form.{slots, Way, along, against, every, Form, top}
+use Rattle.limits.specs.Limits.{slots}
+use Rattle.semantics.specs.Form.{Way, along, against, every, Form, top}
 use Rattle.semantics.specs.Holds.{Env, Model, step, Holds}
 use Rattle.semantics.specs.Edit.{Edit, CN1, CN2, AP, DP, AT, DT1, DT2, AS, DS, edit}
 use Rattle.semantics.specs.Table.{wayOf, atom, one, two}

@@ -3,7 +3,7 @@ use Rattle.sheet.specs.Laws.Fits.{row-CN2, row-AT, row-DT1, row-AS, row-
 use Rattle.sheet.specs.Refusal.{operands, unusedZero, editFits}
 use Rattle.sheet.specs.Bytes.{readEdit}
 use Rattle.semantics.specs.Edit.{legal}
-use Rattle.semantics.specs.Form.{slots}
+use Rattle.limits.specs.Limits.{slots}
 use Rattle.finite.specs.Laws.Arms.{missed}
 use Rattle.finite.specs.Laws.Below.{below-not}
 use Rattle.finite.specs.Tests.{same, below}

@@ -10,7 +10,7 @@ use Rattle.finite.specs.Tests.{same, below}
 use Rattle.finite.specs.Laws.Bools.{either, look, and-l, and-r}
 use Rattle.finite.specs.Laws.Below.{same-eq, below-in, below-out, not-below}
 use Rattle.semantics.specs.Edit.{Edit, CN1, CN2, AP, DP, AT, DT1, DT2, AS, DS, functional, legal}
-use Rattle.semantics.specs.Form.{slots, names, links}
+use Rattle.limits.specs.Limits.{slots, names, links}
 use Rattle.sheet.specs.Bytes.{readEdit, fourAt, editBytes}
 use Rattle.sheet.specs.Refusal.{operands, unusedZero, editFits}
 

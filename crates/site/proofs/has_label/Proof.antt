@@ -1,7 +1,7 @@
 -- Slot s of the set at label p's bytes.
 use mathlib.Core.Path.{sym, _∙_}
 use native.Mathlib.Omega.{arith}
-use Rattle.semantics.specs.Form.{slots}
+use Rattle.limits.specs.Limits.{slots}
 use Rattle.site.specs.Laws.Read.{marked-is}
 use Rattle.site.proofs.has_label.Statement.{statement}
 use Rattle.site.proofs.has_label.Tie as tie

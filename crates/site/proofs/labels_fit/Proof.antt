@@ -8,7 +8,7 @@ use borrow.Author.Tests.{not-true, not-false}
 use Rattle.finite.specs.Tests.{all}
 use Rattle.finite.specs.Laws.Loops.{all-none, all-more, all-done, all-not}
 use Rattle.bitset.specs.Set.{setBytes}
-use Rattle.semantics.specs.Form.{labels}
+use Rattle.limits.specs.Limits.{labels}
 use Rattle.site.specs.Layout.{labelAt}
 use Rattle.site.specs.Inside.{inside}
 use Rattle.site.specs.Laws.Fits.{labels-inside}

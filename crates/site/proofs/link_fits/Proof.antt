@@ -1,7 +1,7 @@
 -- A general link by its rows, a functional one by its targets.
 use mathlib.Core.Path.{_∙_}
 use borrow.Author.Needs.{needs}
-use Rattle.semantics.specs.Form.{slots}
+use Rattle.limits.specs.Limits.{slots}
 use Rattle.site.specs.Layout.{targetAt}
 use Rattle.site.specs.Laws.Fits.{link-rows, link-targets}
 use Rattle.site.proofs.link_fits.Statement.{statement}

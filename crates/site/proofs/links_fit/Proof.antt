@@ -7,7 +7,7 @@ use borrow.Author.Needs.{needs}
 use borrow.Author.Tests.{not-true, not-false}
 use Rattle.finite.specs.Tests.{all}
 use Rattle.finite.specs.Laws.Loops.{all-none, all-more, all-done, all-not}
-use Rattle.semantics.specs.Form.{links}
+use Rattle.limits.specs.Limits.{links}
 use Rattle.site.specs.Site.{siteOf}
 use Rattle.site.specs.Refusal.{touches}
 use Rattle.site.specs.Laws.Fits.{links-all}

@@ -6,7 +6,7 @@ use native.Mathlib.Omega.{arith}
 use borrow.Author.Tests.{not-true, not-false}
 use Rattle.finite.specs.Tests.{all}
 use Rattle.finite.specs.Laws.Loops.{all-none, all-more, all-done, all-not}
-use Rattle.semantics.specs.Form.{names}
+use Rattle.limits.specs.Limits.{names}
 use Rattle.site.specs.Site.{siteOf}
 use Rattle.site.proofs.names_present.Statement.{statement}
 use Rattle.site.proofs.names_present.Tie as tie

@@ -1,7 +1,7 @@
 -- The set of the present slots is the first.
 use mathlib.Core.Path.{sym, _∙_}
 use native.Mathlib.Omega.{arith}
-use Rattle.semantics.specs.Form.{slots}
+use Rattle.limits.specs.Limits.{slots}
 use Rattle.site.specs.Laws.Read.{present-is}
 use Rattle.site.proofs.present.Statement.{statement}
 use Rattle.site.proofs.present.Tie as tie

@@ -1,7 +1,7 @@
 -- The byte of slot s's target.
 use mathlib.Core.Path.{refl, sym}
 use native.Mathlib.Omega.{arith}
-use Rattle.semantics.specs.Form.{slots}
+use Rattle.limits.specs.Limits.{slots}
 use Rattle.site.specs.Layout.{targetAt}
 use Rattle.site.specs.Laws.Read.{byte-fits}
 use Rattle.site.specs.Laws.Target.{target-byte}

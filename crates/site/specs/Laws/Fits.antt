@@ -16,9 +16,9 @@ use Rattle.bitset.specs.Set.{setBytes, setSlots, has, Is, removed}
 use Rattle.bitset.specs.Laws.Bytes.{has-empty}
 use Rattle.bitset.specs.Laws.Slot.{has-removed}
 use Rattle.bitset.specs.Laws.Part.{has-part}
-use Rattle.semantics.specs.Form.{slots, labels, names, links}
+use Rattle.limits.specs.Limits.{slots, labels, names, links, generalLinks}
 use Rattle.semantics.specs.Holds.{Model}
-use Rattle.site.specs.Layout.{generalLinks, labelAt, targetAt, rowAt}
+use Rattle.site.specs.Layout.{labelAt, targetAt, rowAt}
 use Rattle.site.specs.Site.{siteOf}
 use Rattle.site.specs.Refusal.{item4, item5, item6, barred, touches}
 use Rattle.site.specs.Inside.{inside, rowInside, targetInside}

@@ -9,10 +9,10 @@ use Rattle.finite.specs.Tests.{same, below}
 use Rattle.finite.specs.Laws.Bools.{either, look, no-true, and-l, and-r, not-out}
 use Rattle.finite.specs.Laws.Below.{below-in, below-out, below-not, not-below}
 use Rattle.bitset.specs.Set.{setSlots, has}
-use Rattle.semantics.specs.Form.{slots, labels, names, links}
+use Rattle.limits.specs.Limits.{slots, labels, names, links, generalLinks}
 use Rattle.semantics.specs.Edit.{functional}
 use Rattle.semantics.specs.Laws.Edits.{functional-small}
-use Rattle.site.specs.Layout.{generalLinks, labelAt, nameAt, targetAt, rowAt}
+use Rattle.site.specs.Layout.{labelAt, nameAt, targetAt, rowAt}
 use Rattle.site.specs.Site.{linked, siteOf}
 
 -- a byte fits a usize

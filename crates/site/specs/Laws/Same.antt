@@ -9,10 +9,10 @@ use lib.Seq.{ext-getD}
 use Rattle.bitset.specs.Set.{setBytes, setSlots, has}
 use Rattle.finite.specs.Laws.Weights.{same-bits}
 use Rattle.bitset.specs.Laws.Bytes.{has-byte}
-use Rattle.semantics.specs.Form.{slots, labels, names, links}
+use Rattle.limits.specs.Limits.{slots, labels, names, links, generalLinks}
 use Rattle.semantics.specs.Holds.{Model}
 use Rattle.semantics.specs.Edit.{target}
-use Rattle.site.specs.Layout.{generalLinks, labelsAt, namesAt, targetsAt, rowsAt, rowsBytes, siteBytes, labelAt, nameAt, targetAt, rowAt}
+use Rattle.site.specs.Layout.{labelsAt, namesAt, targetsAt, rowsAt, rowsBytes, siteBytes, labelAt, nameAt, targetAt, rowAt}
 use Rattle.site.specs.Site.{siteOf}
 use Rattle.site.specs.Laws.Read.{present-is, marked-is, place-is, row-is}
 use Rattle.site.specs.Laws.Target.{target-byte}

@@ -9,9 +9,9 @@ use lib.ListN.{getD}
 use Rattle.finite.specs.Tests.{same}
 use Rattle.finite.specs.Laws.Bools.{either}
 use Rattle.finite.specs.Laws.Below.{equal?, same-refl, eq-same, ne-same}
-use Rattle.semantics.specs.Form.{slots, links}
+use Rattle.limits.specs.Limits.{slots, links, generalLinks}
 use Rattle.semantics.specs.Edit.{find, target}
-use Rattle.site.specs.Layout.{generalLinks, targetAt}
+use Rattle.site.specs.Layout.{targetAt}
 use Rattle.site.specs.Site.{siteOf}
 use Rattle.site.specs.Laws.Read.{target-is}
 

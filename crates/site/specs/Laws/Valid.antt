@@ -11,7 +11,7 @@ use borrow.Author.Tests.{not-false}
 use Rattle.finite.specs.Tests.{same, any}
 use Rattle.finite.specs.Laws.Bools.{clash, no-true, and-l, and-r, or-none}
 use Rattle.finite.specs.Laws.Below.{same-eq, eq-same, ne-same, any-none, none-any}
-use Rattle.semantics.specs.Form.{slots, labels, names, links}
+use Rattle.limits.specs.Limits.{slots, labels, names, links}
 use Rattle.semantics.specs.Holds.{Model}
 use Rattle.semantics.specs.Edit.{functional, Valid}
 use Rattle.verdict.specs.Laws.{refused}

@@ -1,0 +1,37 @@
+-- The limits of the format. Document 01, "The site" and "The condition". The code has the same constants.
+use Prim.Native.Nat.{ℕ, _*_}
+
+-- how many slots there are. Shut, so that nothing counts to it: `unfolding slots` makes it 256
+unfoldable pub slots : ℕ
+slots = 256
+
+-- how many labels, names, links and variables there are
+abbrev pub labels : ℕ
+labels = 16
+
+abbrev pub names : ℕ
+names = 16
+
+abbrev pub links : ℕ
+links = 8
+
+abbrev pub variables : ℕ
+variables = 16
+
+-- links 0 to 3 are general, with any number of targets; the others are functional, with one at most
+abbrev pub generalLinks : ℕ
+generalLinks = 4
+
+-- the number of the way that leads everywhere, E: the ways before it are the links and their reverses
+abbrev pub everyWay : ℕ
+everyWay = 2 * links
+
+-- the most nodes of a table; the bytes of a node, and of a whole table
+abbrev pub tableNodes : ℕ
+tableNodes = 2048
+
+abbrev pub nodeSize : ℕ
+nodeSize = 6
+
+abbrev pub tableBytes : ℕ
+tableBytes = nodeSize * tableNodes
