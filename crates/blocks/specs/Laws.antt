@@ -1,3 +1,2 @@
 -- Laws of blocks, by topic.
 pub mod Write
-pub mod Text
