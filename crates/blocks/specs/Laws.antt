@@ -1,2 +1,4 @@
 -- Laws of blocks, by topic.
 pub mod Write
+pub mod Rows
+pub mod Spelling

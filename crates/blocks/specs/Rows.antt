@@ -2,9 +2,9 @@
 -- way b; e, the way that leads everywhere; and the images T and U of the old node's children.
 use mathlib.Core.List.{List, [], _∷_, _++_, map}
 use Prim.Native.Nat.{ℕ, zero, suc, _+_, _/_, _%_}
-use lib.ListN.{length, getD}
+use lib.ListN.{getD}
 use Rattle.semantics.specs.Table.{kTrue, kHere, kLabel, kName, kVar, kSlot, kNot, kDia, kBox, kMu, kNu, kOr, kAnd, Node}
-use Rattle.semantics.specs.Block.{Block, old, end, on, join, emit}
+use Rattle.semantics.specs.Block.{Block, old, end, on, join, size, emit}
 
 -- short names for the nodes of blocks
 abbrev nm : ℕ → Block
@@ -65,36 +65,32 @@ rowCount = 35
 abbrev pub nodeCount : ℕ
 nodeCount = 141
 
--- the nodes of each row, with letters for its numbers: 1 to 5 for w, a, b, v and e; 16 + j for the block's own node j; 32 and 48 for T and U
-unfoldable pub lettered : List (List Node)
-lettered = map (λ B. emit B 16) (rows 1 2 3 4 5 (old 32) (old 48))
+-- the rows with letters for their numbers: 1 to 5 for w, a, b, v and e; 32 and 48 for T and U. In their nodes 16 + j is the block's own node j
+unfoldable pub lettered : List Block
+lettered = rows 1 2 3 4 5 (old 32) (old 48)
 
--- the letters of a node
+-- the nodes of all rows, one row behind the other, by their letters: kind, parameter, left child, right child
+unfoldable pub nodesOf : List Block → List Node
+nodesOf [] = []
+nodesOf (B ∷ Bs) = emit B 16 ++ nodesOf Bs
+
 unfoldable pub lettersOf : Node → List ℕ
 lettersOf x = x .kind ∷ x .param ∷ x .left ∷ x .right ∷ []
 
--- all rows, one behind the other
-unfoldable pub joined : List (List Node) → List Node
-joined [] = []
-joined (xs ∷ xss) = xs ++ joined xss
-
 unfoldable pub letters : List (List ℕ)
-letters = map lettersOf (joined lettered)
+letters = map lettersOf (nodesOf lettered)
 
--- where row r begins
-unfoldable pub startIn : List (List Node) → ℕ → ℕ
-startIn xss zero = 0
+-- where row r begins among them
+unfoldable pub startIn : List Block → ℕ → ℕ
+startIn Bs zero = 0
 startIn [] (suc r) = 0
-startIn (xs ∷ xss) (suc r) = length xs + startIn xss r
-
-abbrev pub startOf : ℕ → ℕ
-startOf r = startIn lettered r
+startIn (B ∷ Bs) (suc r) = size B + startIn Bs r
 
 -- the child that a letter stands for, where cs has the numbers for 0, 16, 32 and 48
 abbrev pub childOf : List ℕ → ℕ → ℕ
 childOf cs c = getD cs (c / 16 % 4) 0 + c % 16
 
--- the node that letters stand for
+-- the node that letters stand for, where ps has the parameters for 0 to 7
 unfoldable pub decode : List ℕ → List ℕ → List ℕ → Node
 decode ps cs x = record {
   kind = getD x 0 0;

@@ -27,7 +27,7 @@ ghost use Rattle.semantics.specs.Edit.{legal};
 ghost use Rattle.semantics.specs.Table.{wayOf};
 ghost use Rattle.semantics.specs.Block.{emit};
 ghost use Rattle.sheet.specs.Bytes.{editOf};
-ghost use Rattle.blocks.specs.Rows.{rowCount, nodeCount, letters, startOf, childOf, decode};
+ghost use Rattle.blocks.specs.Rows.{rowCount, nodeCount, lettered, letters, startIn, childOf, decode};
 ghost use Rattle.blocks.specs.Spelling.{paramsOf, spelled, Spells, Sized, knownKind, onWay, leafRow, wayRow, asRow, dsRow, rowOf, firstOf, secondOf};
 ghost use Rattle.blocks.specs.Write.{put, puts};
 
@@ -413,10 +413,15 @@ fn second(e: Op) -> u8
     ensures { λ r. ⌜ r ≡ secondOf (editOf e) ⌝ }
 {
     match e {
+        Op::Cn1(_, _) => 0,
         Op::Cn2(_, _, f) => f,
+        Op::Ap(_, _) => 0,
+        Op::Dp(_, _) => 0,
         Op::At(_, _, n2) => n2,
         Op::Dt1(_, _, n2) => n2,
-        _ => 0,
+        Op::Dt2(_, _) => 0,
+        Op::As(_, _) => 0,
+        Op::Ds(_) => 0,
     }
 }
 
@@ -437,7 +442,7 @@ pub fn spell(e: Op, kind: u8, param: u8) -> Spelling
 // Where a row begins among the nodes; the number of rows stands for the end of the last.
 fn start(row: usize) -> usize
     requires { ⌜ row ≤ rowCount ⌝ }
-    ensures { λ r. ⌜ r ≡ startOf row ⌝ }
+    ensures { λ r. ⌜ r ≡ startIn lettered row ⌝ }
 {
     wide(STARTS[row])
 }

@@ -39,5 +39,5 @@ puts-snoc o at j (y ∷ ys) x =
 pub puts-more : (o : List ℕ) (at j : ℕ) (xs : List Node) {out out′ : List ℕ} {x : Node} (d : Node) → j < length xs → x ≡ getD xs j d
     → out′ ≡ put out (at + j) x → out ≡ puts o at 0 (take j xs) → out′ ≡ puts o at 0 (take (j + 1) xs)
 puts-more o at j xs d h ex e eo =
-    let n : 0 + length (take j xs) ≡ j = length-take-le j xs (omega arith) in
+    let n : 0 + length (take j xs) ≡ j = omega (arith, length-take-le j xs (omega arith)) in
     e ∙ rw (eo, ex, add-one j, take-suc xs j d h, puts-snoc, n) refl
