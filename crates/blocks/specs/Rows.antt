@@ -1,8 +1,8 @@
 -- The rows of blocks. A row is a block with places for numbers: the old node's parameter w; the edit's numbers a and b; v, the reverse of the
 -- way b; e, the way that leads everywhere; and the images T and U of the old node's children.
-use mathlib.Core.List.{List, [], _∷_, _++_, map}
-use Prim.Native.Nat.{ℕ, zero, suc, _+_, _/_, _%_}
-use lib.ListN.{getD}
+use mathlib.Core.List.{List, [], _∷_, _++_}
+use Prim.Native.Nat.{ℕ, zero, suc, _+_, _*_, _-_, _/_, _%_, _<_}
+use lib.ListN.{getD, replicate}
 use Rattle.semantics.specs.Table.{kTrue, kHere, kLabel, kName, kVar, kSlot, kNot, kDia, kBox, kMu, kNu, kOr, kAnd, Node}
 use Rattle.semantics.specs.Block.{Block, old, end, on, join, size, emit}
 
@@ -28,13 +28,17 @@ abbrev ⟨_⟩_ : ℕ → Block → Block
 abbrev ⟦_⟧_ : ℕ → Block → Block
 ⟦ w ⟧ x = on kBox w x
 
--- rows 0 to 12 copy a node of each kind; then CN1's and AS's names, CN2's names, AP's and DP's labels, here for AS and DS, DS's names; then for
--- AT, DT1 and DT2 the diamond, the box, and both on the reverse way; and the diamond and the box of DS
-unfoldable pub rows : (w a b v e : ℕ) (T U : Block) → List Block
-rows w a b v e T U =
+-- rows 0 to 12: a node of each kind is copied
+unfoldable pub copies : (w : ℕ) (T U : Block) → List Block
+copies w T U =
     end kTrue w ∷ end kHere w ∷ end kLabel w ∷ nm w ∷ end kVar w ∷ no! T ∷ (T or U) ∷ (T & U)
-    ∷ (⟨ w ⟩ T) ∷ (⟦ w ⟧ T) ∷ on kMu w T ∷ on kNu w T ∷ end kSlot w
-    ∷ nm a
+    ∷ (⟨ w ⟩ T) ∷ (⟦ w ⟧ T) ∷ on kMu w T ∷ on kNu w T ∷ end kSlot w ∷ []
+
+-- the rows after them: names for CN1, AS and CN2; labels for AP and DP; here for AS and DS; names for DS; then for AT, DT1 and DT2 the diamond, the
+-- box, and both on the reverse way; and the diamond and the box for DS
+unfoldable pub rows : (w a b v e : ℕ) (T : Block) → List Block
+rows w a b v e T =
+    nm a
     ∷ end kSlot a
     ∷ ((⟨ v ⟩ nm a) or (nm 0 & no! (⟨ e ⟩ (nm a & (⟨ b ⟩ end kTrue 0)))))
     ∷ (end kLabel w or nm a)
@@ -58,43 +62,47 @@ rows w a b v e T U =
     ∷ (nm a or (⟦ w ⟧ (nm a or T)))
     ∷ []
 
--- how many rows there are, and how many nodes they have together
+-- how many rows copy, and how many rows there are
+abbrev pub copyCount : ℕ
+copyCount = 13
+
 abbrev pub rowCount : ℕ
 rowCount = 35
 
-abbrev pub nodeCount : ℕ
-nodeCount = 141
+-- ---- the rows as texts
 
--- the rows with letters for their numbers: 1 to 5 for w, a, b, v and e; 32 and 48 for T and U. In their nodes 16 + j is the block's own node j
-unfoldable pub lettered : List Block
-lettered = rows 1 2 3 4 5 (old 32) (old 48)
+-- a row with letters for its numbers: w, a, b, c and E as bytes; @ for T. Its nodes are numbered from the digit 0 on
+unfoldable pub lettered : ℕ → Block
+lettered r = getD (rows 119 97 98 99 69 (old 64)) r (old 0)
 
--- the nodes of all rows, one row behind the other, by their letters: kind, parameter, left child, right child
-unfoldable pub nodesOf : List Block → List Node
-nodesOf [] = []
-nodesOf (B ∷ Bs) = emit B 16 ++ nodesOf Bs
+-- a blank for 0
+unfoldable pub blank : ℕ → ℕ
+blank zero = 32
+blank (suc c) = suc c
 
-unfoldable pub lettersOf : Node → List ℕ
-lettersOf x = x .kind ∷ x .param ∷ x .left ∷ x .right ∷ []
+-- four letters a node
+unfoldable pub lettersOf : List Node → List ℕ
+lettersOf [] = []
+lettersOf (x ∷ xs) = (48 + x .kind) ∷ blank (x .param) ∷ blank (x .left) ∷ blank (x .right) ∷ lettersOf xs
 
-unfoldable pub letters : List (List ℕ)
-letters = map lettersOf (nodesOf lettered)
+-- the text of a block: its size, its nodes, and blanks up to 45 letters
+unfoldable pub textOf : Block → List ℕ
+textOf B = (48 + size B) ∷ (lettersOf (emit B 48) ++ replicate (44 - 4 * size B) 32)
 
--- where row r begins among them
-unfoldable pub startIn : List Block → ℕ → ℕ
-startIn Bs zero = 0
-startIn [] (suc r) = 0
-startIn (B ∷ Bs) (suc r) = size B + startIn Bs r
+-- the text of a row that does not copy
+unfoldable pub textAt : ℕ → List ℕ
+textAt row = textOf (lettered (row - copyCount))
 
--- the child that a letter stands for, where cs has the numbers for 0, 16, 32 and 48
+-- ---- texts read
+
+-- the child that a letter stands for, where cs has the numbers for @, P, a blank and 0
 abbrev pub childOf : List ℕ → ℕ → ℕ
 childOf cs c = getD cs (c / 16 % 4) 0 + c % 16
 
--- the node that letters stand for, where ps has the parameters for 0 to 7
-unfoldable pub decode : List ℕ → List ℕ → List ℕ → Node
-decode ps cs x = record {
-  kind = getD x 0 0;
-  param = getD ps (getD x 1 0 % 8) 0;
-  left = childOf cs (getD x 2 0);
-  right = childOf cs (getD x 3 0);
-}
+-- the node that four letters stand for, where ps has the parameters by their last three bits
+unfoldable pub decode : List ℕ → List ℕ → (k p l r : ℕ) → Node
+decode ps cs k p l r = record { kind = k % 16; param = getD ps (p % 8) 0; left = childOf cs l; right = childOf cs r }
+
+-- numbers that leave room for the nodes of a block
+unfoldable pub Small : List ℕ → Type 0
+Small cs = (i : ℕ) → getD cs i 0 < 60000

@@ -1,25 +1,46 @@
 -- The spelling of a block, and which spelling the block of a node has.
 use mathlib.Core.Path.{_≡_}
-use mathlib.Core.List.{List, [], _∷_}
+use mathlib.Core.List.{List, [], _∷_, _++_}
 use mathlib.Core.Bool.{not, _&&_, cond}
-use Prim.Native.Nat.{ℕ, _+_, _%_, _≤_, _<_}
+use Prim.Native.Nat.{ℕ, _+_, _-_, _%_, _≤_, _<_}
 use lib.ListN.{getD}
 use Rattle.finite.specs.Tests.{same, below}
 use Rattle.limits.specs.Limits.{links, everyWay}
 use Rattle.semantics.specs.Form.{Way, along, against, every}
 use Rattle.semantics.specs.Edit.{Edit, CN1, CN2, AP, DP, AT, DT1, DT2, AS, DS}
-use Rattle.semantics.specs.Table.{kindOf, wayOf}
+use Rattle.semantics.specs.Table.{kindOf, wayOf, Node}
 use Rattle.semantics.specs.Block.{Block, old, size, block}
 use Rattle.blocks.specs.declared.Spelling.{Spelling}
-use Rattle.blocks.specs.Rows.{rows, rowCount}
+use Rattle.blocks.specs.Rows.{copyCount, rowCount, copies, rows}
 
--- the numbers by the letters 0 to 5; two more make it a power of two
+-- the reverse of the way b
+abbrev pub reverseOf : Spelling → ℕ
+reverseOf s = (s .b + links) % 256
+
+-- the parameters by the last three bits of their letters
 abbrev pub paramsOf : Spelling → List ℕ
-paramsOf s = 0 ∷ s .w ∷ s .a ∷ s .b ∷ ((s .b + links) % 256) ∷ everyWay ∷ 0 ∷ 0 ∷ []
+paramsOf s = 0 ∷ s .a ∷ s .b ∷ reverseOf s ∷ 0 ∷ everyWay ∷ 0 ∷ s .w ∷ []
 
 -- the block that is spelled, where t and u are the images of the old node's children
 unfoldable pub spelled : Spelling → ℕ → ℕ → Block
-spelled s t u = getD (rows (s .w) (s .a) (s .b) ((s .b + links) % 256) everyWay (old t) (old u)) (s .row) (old 0)
+spelled s t u =
+    getD (copies (s .w) (old t) (old u) ++ rows (s .w) (s .a) (s .b) (reverseOf s) everyWay (old t)) (s .row) (old 0)
+
+-- by a row that does not copy
+unfoldable pub rowSpelled : Spelling → ℕ → Block
+rowSpelled s t = getD (rows (s .w) (s .a) (s .b) (reverseOf s) everyWay (old t)) (s .row - copyCount) (old 0)
+
+-- x for the kinds from lo to below hi, and 0 for others
+unfoldable pub usedBy : (k lo hi x : ℕ) → ℕ
+usedBy k lo hi x = cond (below k lo) 0 (cond (below k hi) x 0)
+
+-- the parameter of a copy, which is 0 for not, or and and
+unfoldable pub keptBy : (k p : ℕ) → ℕ
+keptBy k p = cond (below k 5) p (cond (below k 8) 0 p)
+
+-- the copy of a node
+unfoldable pub copyOf : (k p t u : ℕ) → Node
+copyOf k p t u = record { kind = k; param = keptBy k p; left = usedBy k 5 12 t; right = usedBy k 6 8 u }
 
 -- s spells the block of a node with this kind and parameter
 pub record Spells (e : Edit) (kind param : ℕ) (s : Spelling) : Type 0 where

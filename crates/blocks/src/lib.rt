@@ -1,34 +1,27 @@
 // Blocks as rows: a node's block is spelled first, as a row of a table and the numbers that the row refers to, and then written. Document 01,
 // "Rewriting".
 use buffer::wide;
-use limits::AND;
 use limits::BOX;
 use limits::DIA;
 use limits::EVERY;
 use limits::HERE;
 use limits::LABEL;
 use limits::LINKS;
-use limits::MU;
 use limits::NAME;
 use limits::NODE_BYTES;
 use limits::NOT;
-use limits::NU;
 use limits::OR;
 use limits::SLOT;
-use limits::TRUE;
-use limits::VAR;
 use sheet::Op;
 ghost use mathlib.Core.Path.{_≡_};
-ghost use mathlib.Core.List.{[]};
 ghost use mathlib.Core.Bool.{true};
-ghost use Prim.Native.Nat.{ℕ, _+_, _*_, _/_, _%_, _≤_, _<_};
-ghost use lib.ListN.{length, getD};
+ghost use Prim.Native.Nat.{_/_, _%_, _≤_, _<_};
 ghost use Rattle.semantics.specs.Edit.{legal};
 ghost use Rattle.semantics.specs.Table.{wayOf};
 ghost use Rattle.semantics.specs.Block.{emit};
 ghost use Rattle.sheet.specs.Bytes.{editOf};
-ghost use Rattle.blocks.specs.Rows.{rowCount, nodeCount, lettered, letters, startIn, childOf, decode};
-ghost use Rattle.blocks.specs.Spelling.{paramsOf, spelled, Spells, Sized, knownKind, onWay, leafRow, wayRow, asRow, dsRow, rowOf, firstOf, secondOf};
+ghost use Rattle.blocks.specs.Rows.{copyCount, rowCount, textAt, Small, childOf, decode};
+ghost use Rattle.blocks.specs.Spelling.{paramsOf, rowSpelled, spelled, Spells, Sized, keptBy, usedBy, copyOf, knownKind, onWay, leafRow, wayRow, asRow, dsRow, rowOf, firstOf, secondOf};
 ghost use Rattle.blocks.specs.Write.{put, puts};
 
 // The spelling of a block: a row of the table, the old node's parameter w, and the numbers a and b, which the edit gives.
@@ -39,231 +32,8 @@ pub struct Spelling {
     pub b: u8,
 }
 
-// A node of a row is spelled by four letters: its kind, its parameter, its left child and its right child, 0 for none.
-// Parameters: w, a and b; R, the reverse of the way b; E, the way that leads everywhere.
-const W: u8 = 1;
-
-const A: u8 = 2;
-
-const B: u8 = 3;
-
-const R: u8 = 4;
-
-const E: u8 = 5;
-
-// Children: OWN + j is node j of the block itself; T and U are the images of the old node's children.
-const OWN: u8 = 16;
-
-const T: u8 = 32;
-
-const U: u8 = 48;
-
-const NODES: [[u8; 4]; 141] = [
-    // 0 to 12: a node of each kind, copied
-    [TRUE, W, 0, 0],
-    [HERE, W, 0, 0],
-    [LABEL, W, 0, 0],
-    [NAME, W, 0, 0],
-    [VAR, W, 0, 0],
-    [NOT, 0, T, 0],
-    [OR, 0, T, U],
-    [AND, 0, T, U],
-    [DIA, W, T, 0],
-    [BOX, W, T, 0],
-    [MU, W, T, 0],
-    [NU, W, T, 0],
-    [SLOT, W, 0, 0],
-    // 13. CN1, name n1: a
-    [NAME, A, 0, 0],
-    // 14. AS, name n: a
-    [SLOT, A, 0, 0],
-    // 15. CN2, name n1: a <b-> nil a t <b> & <E> ! & |
-    [NAME, A, 0, 0],
-    [DIA, R, OWN, 0],
-    [NAME, 0, 0, 0],
-    [NAME, A, 0, 0],
-    [TRUE, 0, 0, 0],
-    [DIA, B, OWN + 4, 0],
-    [AND, 0, OWN + 3, OWN + 5],
-    [DIA, E, OWN + 6, 0],
-    [NOT, 0, OWN + 7, 0],
-    [AND, 0, OWN + 2, OWN + 8],
-    [OR, 0, OWN + 1, OWN + 9],
-    // 16. AP, label p: w a |
-    [LABEL, W, 0, 0],
-    [NAME, A, 0, 0],
-    [OR, 0, OWN, OWN + 1],
-    // 17. DP and DS, label: w a ! &
-    [LABEL, W, 0, 0],
-    [NAME, A, 0, 0],
-    [NOT, 0, OWN + 1, 0],
-    [AND, 0, OWN, OWN + 2],
-    // 18. AS, here: h a |
-    [HERE, W, 0, 0],
-    [SLOT, A, 0, 0],
-    [OR, 0, OWN, OWN + 1],
-    // 19. DS, here: h a ! &
-    [HERE, W, 0, 0],
-    [NAME, A, 0, 0],
-    [NOT, 0, OWN + 1, 0],
-    [AND, 0, OWN, OWN + 2],
-    // 20. DS, name: w a ! & nil a w & <E> & |
-    [NAME, W, 0, 0],
-    [NAME, A, 0, 0],
-    [NOT, 0, OWN + 1, 0],
-    [AND, 0, OWN, OWN + 2],
-    [NAME, 0, 0, 0],
-    [NAME, A, 0, 0],
-    [NAME, W, 0, 0],
-    [AND, 0, OWN + 5, OWN + 6],
-    [DIA, E, OWN + 7, 0],
-    [AND, 0, OWN + 4, OWN + 8],
-    [OR, 0, OWN + 3, OWN + 9],
-    // 21. AT <m>: T <w> a b T & <E> & |
-    [DIA, W, T, 0],
-    [NAME, A, 0, 0],
-    [NAME, B, 0, 0],
-    [AND, 0, OWN + 2, T],
-    [DIA, E, OWN + 3, 0],
-    [AND, 0, OWN + 1, OWN + 4],
-    [OR, 0, OWN, OWN + 5],
-    // 22. AT [m]: T [w] a ! b ! T | [E] | &
-    [BOX, W, T, 0],
-    [NAME, A, 0, 0],
-    [NOT, 0, OWN + 1, 0],
-    [NAME, B, 0, 0],
-    [NOT, 0, OWN + 3, 0],
-    [OR, 0, OWN + 4, T],
-    [BOX, E, OWN + 5, 0],
-    [OR, 0, OWN + 2, OWN + 6],
-    [AND, 0, OWN, OWN + 7],
-    // 23. AT <m->: T <w> b a T & <E> & |
-    [DIA, W, T, 0],
-    [NAME, B, 0, 0],
-    [NAME, A, 0, 0],
-    [AND, 0, OWN + 2, T],
-    [DIA, E, OWN + 3, 0],
-    [AND, 0, OWN + 1, OWN + 4],
-    [OR, 0, OWN, OWN + 5],
-    // 24. AT [m-]: T [w] b ! a ! T | [E] | &
-    [BOX, W, T, 0],
-    [NAME, B, 0, 0],
-    [NOT, 0, OWN + 1, 0],
-    [NAME, A, 0, 0],
-    [NOT, 0, OWN + 3, 0],
-    [OR, 0, OWN + 4, T],
-    [BOX, E, OWN + 5, 0],
-    [OR, 0, OWN + 2, OWN + 6],
-    [AND, 0, OWN, OWN + 7],
-    // 25. DT1 <m>: a ! T <w> & b ! T & <w> |
-    [NAME, A, 0, 0],
-    [NOT, 0, OWN, 0],
-    [DIA, W, T, 0],
-    [AND, 0, OWN + 1, OWN + 2],
-    [NAME, B, 0, 0],
-    [NOT, 0, OWN + 4, 0],
-    [AND, 0, OWN + 5, T],
-    [DIA, W, OWN + 6, 0],
-    [OR, 0, OWN + 3, OWN + 7],
-    // 26. DT1 [m]: a T [w] | b T | [w] &
-    [NAME, A, 0, 0],
-    [BOX, W, T, 0],
-    [OR, 0, OWN, OWN + 1],
-    [NAME, B, 0, 0],
-    [OR, 0, OWN + 3, T],
-    [BOX, W, OWN + 4, 0],
-    [AND, 0, OWN + 2, OWN + 5],
-    // 27. DT1 <m->: b ! T <w> & a ! T & <w> |
-    [NAME, B, 0, 0],
-    [NOT, 0, OWN, 0],
-    [DIA, W, T, 0],
-    [AND, 0, OWN + 1, OWN + 2],
-    [NAME, A, 0, 0],
-    [NOT, 0, OWN + 4, 0],
-    [AND, 0, OWN + 5, T],
-    [DIA, W, OWN + 6, 0],
-    [OR, 0, OWN + 3, OWN + 7],
-    // 28. DT1 [m-]: b T [w] | a T | [w] &
-    [NAME, B, 0, 0],
-    [BOX, W, T, 0],
-    [OR, 0, OWN, OWN + 1],
-    [NAME, A, 0, 0],
-    [OR, 0, OWN + 3, T],
-    [BOX, W, OWN + 4, 0],
-    [AND, 0, OWN + 2, OWN + 5],
-    // 29. DT2 <f>: a ! T <w> &
-    [NAME, A, 0, 0],
-    [NOT, 0, OWN, 0],
-    [DIA, W, T, 0],
-    [AND, 0, OWN + 1, OWN + 2],
-    // 30. DT2 [f]: a T [w] |
-    [NAME, A, 0, 0],
-    [BOX, W, T, 0],
-    [OR, 0, OWN, OWN + 1],
-    // 31. DT2 <f->: a ! T & <w>
-    [NAME, A, 0, 0],
-    [NOT, 0, OWN, 0],
-    [AND, 0, OWN + 1, T],
-    [DIA, W, OWN + 2, 0],
-    // 32. DT2 [f-]: a T | [w]
-    [NAME, A, 0, 0],
-    [OR, 0, OWN, T],
-    [BOX, W, OWN + 1, 0],
-    // 33. DS <m>: a ! a ! T & <w> &
-    [NAME, A, 0, 0],
-    [NOT, 0, OWN, 0],
-    [NAME, A, 0, 0],
-    [NOT, 0, OWN + 2, 0],
-    [AND, 0, OWN + 3, T],
-    [DIA, W, OWN + 4, 0],
-    [AND, 0, OWN + 1, OWN + 5],
-    // 34. DS [m]: a a T | [w] |
-    [NAME, A, 0, 0],
-    [NAME, A, 0, 0],
-    [OR, 0, OWN + 1, T],
-    [BOX, W, OWN + 2, 0],
-    [OR, 0, OWN, OWN + 3],
-];
-
-// Where each row begins among those nodes, and where the last one ends.
-const STARTS: [u8; 36] = [
-    0,
-    1,
-    2,
-    3,
-    4,
-    5,
-    6,
-    7,
-    8,
-    9,
-    10,
-    11,
-    12,
-    13,
-    14,
-    15,
-    26,
-    29,
-    33,
-    36,
-    40,
-    51,
-    58,
-    67,
-    74,
-    83,
-    92,
-    99,
-    108,
-    115,
-    119,
-    122,
-    126,
-    129,
-    136,
-    141,
-];
+// How many rows copy a node; such a row has the number of the node's kind.
+const COPIES: u8 = 13;
 
 // The rows that edits choose. Of the rows for ways the first is given; then come the box, and the two for the reverse way.
 const CN1_NAME: u8 = 13;
@@ -439,12 +209,59 @@ pub fn spell(e: Op, kind: u8, param: u8) -> Spelling
     }
 }
 
-// Where a row begins among the nodes; the number of rows stands for the end of the last.
-fn start(row: usize) -> usize
-    requires { ⌜ row ≤ rowCount ⌝ }
-    ensures { λ r. ⌜ r ≡ startIn lettered row ⌝ }
+// The text of a row, from the first that does not copy: how many nodes it has, and four letters for each: kind, parameter, left child, right child.
+// Numbers above 9 go on with `:`, `;` and `<`; a blank is 0, or no child. Parameters: w, a and b; c, the reverse of the way b; E, the way that leads
+// everywhere. Children: a number is that node of the block itself; `@` is T, the image of the old node's child.
+fn text(row: u8) -> [u8; 45]
+    requires { ⌜ (copyCount ≤ row) × (row < rowCount) ⌝ }
+    ensures { λ r. ⌜ r ≡ textAt row ⌝ }
 {
-    wide(STARTS[row])
+    match row {
+        // CN1, name n1: a
+        13 => *b"13a                                          ",
+        // AS, name n: a
+        14 => *b"1<a                                          ",
+        // CN2, name n1: a <b-> nil a t <b> & <E> ! & |
+        15 => *b";3a  8c0 3   3a  0   8b4 7 358E6 5 7 7 286 19",
+        // AP, label p: w a |
+        16 => *b"32w  3a  6 01                                ",
+        // DP and DS, label: w a ! &
+        17 => *b"42w  3a  5 1 7 02                            ",
+        // AS, here: h a |
+        18 => *b"31w  <a  6 01                                ",
+        // DS, here: h a ! &
+        19 => *b"41w  3a  5 1 7 02                            ",
+        // DS, name: w a ! & nil a w & <E> & |
+        20 => *b";3w  3a  5 1 7 023   3a  3w  7 568E7 7 486 39",
+        // AT <m>: T <w> a b T & <E> & |
+        21 => *b"78w@ 3a  3b  7 2@8E3 7 146 05                ",
+        // AT [m]: T [w] a ! b ! T | [E] | &
+        22 => *b"99w@ 3a  5 1 3b  5 3 6 4@9E5 6 267 07        ",
+        // AT <m->: T <w> b a T & <E> & |
+        23 => *b"78w@ 3b  3a  7 2@8E3 7 146 05                ",
+        // AT [m-]: T [w] b ! a ! T | [E] | &
+        24 => *b"99w@ 3b  5 1 3a  5 3 6 4@9E5 6 267 07        ",
+        // DT1 <m>: a ! T <w> & b ! T & <w> |
+        25 => *b"93a  5 0 8w@ 7 123b  5 4 7 5@8w6 6 37        ",
+        // DT1 [m]: a T [w] | b T | [w] &
+        26 => *b"73a  9w@ 6 013b  6 3@9w4 7 25                ",
+        // DT1 <m->: b ! T <w> & a ! T & <w> |
+        27 => *b"93b  5 0 8w@ 7 123a  5 4 7 5@8w6 6 37        ",
+        // DT1 [m-]: b T [w] | a T | [w] &
+        28 => *b"73b  9w@ 6 013a  6 3@9w4 7 25                ",
+        // DT2 <f>: a ! T <w> &
+        29 => *b"43a  5 0 8w@ 7 12                            ",
+        // DT2 [f]: a T [w] |
+        30 => *b"33a  9w@ 6 01                                ",
+        // DT2 <f->: a ! T & <w>
+        31 => *b"43a  5 0 7 1@8w2                             ",
+        // DT2 [f-]: a T | [w]
+        32 => *b"33a  6 0@9w1                                 ",
+        // DS <m>: a ! a ! T & <w> &
+        33 => *b"73a  5 0 3a  5 2 7 3@8w4 7 15                ",
+        // DS [m]: a a T | [w] |
+        _ => *b"53a  3a  6 1@9w2 6 03                        ",
+    }
 }
 
 // How many nodes the block has, whatever the numbers that it refers to.
@@ -452,8 +269,12 @@ pub fn size(s: Spelling) -> usize
     requires { ⌜ s .row < rowCount ⌝ }
     ensures { λ r. ⌜ Sized s r ⌝ }
 {
-    let row = wide(s.row);
-    start(row + 1) - start(row)
+    let row = s.row;
+    if row < COPIES {
+        return 1;
+    }
+    let x = text(row);
+    wide(x[0]) % 16
 }
 
 fn low(x: usize) -> u8
@@ -490,29 +311,85 @@ fn put_node(out: &mut [u8], i: usize, kind: u8, param: u8, left: usize, right: u
     out[o + 5] = r1;
 }
 
-// The parameters by their letters, and the children by their letters' sixteens.
+// The parameter of a copy: 0 for not, or and and.
+fn kept(kind: u8, param: u8) -> u8
+    ensures { λ r. ⌜ r ≡ keptBy kind param ⌝ }
+{
+    if kind < NOT {
+        return param;
+    }
+    if kind < DIA {
+        return 0;
+    }
+    param
+}
+
+// x for the kinds from lo to below hi, and 0 for others.
+fn within(kind: u8, lo: u8, hi: u8, x: usize) -> usize
+    ensures { λ r. ⌜ (r ≡ usedBy kind lo hi x) × (r ≤ x) ⌝ }
+{
+    if kind < lo {
+        return 0;
+    }
+    if kind < hi {
+        return x;
+    }
+    0
+}
+
+// Writes a copy of a node at place i.
+fn write_copy(out: &mut [u8], i: usize, kind: u8, param: u8, t: usize, u: usize)
+    requires { ⌜ (kind < copyCount) × (i < 65536) × (t < 65536) × (u < 65536) ⌝ }
+    ensures { λ _. ⌜ now (out .exit) ≡ put (now (out .entry)) i (copyOf kind param t u) ⌝ }
+{
+    let p = kept(kind, param);
+    let l = within(kind, NOT, SLOT, t);
+    let r = within(kind, OR, DIA, u);
+    put_node(out, i, kind, p, l, r);
+}
+
+// The parameters by their letters, which differ in the last three bits.
 fn params(s: Spelling) -> [u8; 8]
     ensures { λ r. ⌜ r ≡ paramsOf s ⌝ }
 {
     let reverse = low(wide(s.b) + wide(LINKS));
-    [0, s.w, s.a, s.b, reverse, EVERY, 0, 0]
+    [0, s.a, s.b, reverse, 0, EVERY, 0, s.w]
 }
 
+// The child by its letter.
 fn child(letter: u8, cs: [usize; 4]) -> usize
-    ensures { λ r. ⌜ r ≡ childOf cs letter ⌝ }
+    requires { ⌜ Small cs ⌝ }
+    ensures { λ r. ⌜ (r ≡ childOf cs letter) × (r < 65536) ⌝ }
 {
     let c = wide(letter);
     cs[c / 16 % 4] + c % 16
 }
 
-// Writes node k of the table at place i.
-fn put_letters(out: &mut [u8], i: usize, k: usize, ps: [u8; 8], cs: [usize; 4])
-    requires { ⌜ (i < 65536) × (k < nodeCount) ⌝ }
-    ensures { λ _. ⌜ now (out .exit) ≡ put (now (out .entry)) i (decode ps cs (getD letters k [])) ⌝ }
+// Writes the node with these letters at place i.
+fn put_letters(out: &mut [u8], i: usize, k: u8, p: u8, l: u8, r: u8, ps: [u8; 8], cs: [usize; 4])
+    requires { ⌜ (i < 65536) × Small cs ⌝ }
+    ensures { λ _. ⌜ now (out .exit) ≡ put (now (out .entry)) i (decode ps cs k p l r) ⌝ }
 {
-    let x = NODES[k];
-    let p = ps[wide(x[1]) % 8];
-    put_node(out, i, x[0], p, child(x[2], cs), child(x[3], cs));
+    let left = child(l, cs);
+    let right = child(r, cs);
+    put_node(out, i, k % 16, ps[wide(p) % 8], left, right);
+}
+
+// Writes a row from number at on; t is the image of the old node's child.
+fn write_row(out: &mut [u8], at: usize, s: Spelling, t: usize)
+    requires { ⌜ (copyCount ≤ s .row) × (s .row < rowCount) × (at < 60000) × (t < 60000) ⌝ }
+    ensures { λ _. ⌜ now (out .exit) ≡ puts (now (out .entry)) at 0 (emit (rowSpelled s t) at) ⌝ }
+{
+    let ps = params(s);
+    let cs = [t, 0, 0, at];
+    let x = text(s.row);
+    let n = wide(x[0]) % 16;
+    let mut j = 0;
+    while j < n {
+        let o = 4 * j;
+        put_letters(out, at + j, x[o + 1], x[o + 2], x[o + 3], x[o + 4], ps, cs);
+        j += 1;
+    }
 }
 
 // Writes the block from number at on; t and u are the images of the old node's children. Nodes that do not fit are left out.
@@ -520,14 +397,9 @@ pub fn write(out: &mut [u8], at: usize, s: Spelling, t: usize, u: usize)
     requires { ⌜ (s .row < rowCount) × (at < 60000) × (t < 60000) × (u < 60000) ⌝ }
     ensures { λ _. ⌜ now (out .exit) ≡ puts (now (out .entry)) at 0 (emit (spelled s t u) at) ⌝ }
 {
-    let ps = params(s);
-    let cs = [0, at, t, u];
-    let row = wide(s.row);
-    let from = start(row);
-    let n = start(row + 1) - from;
-    let mut j = 0;
-    while j < n {
-        put_letters(out, at + j, from + j, ps, cs);
-        j += 1;
+    if s.row < COPIES {
+        write_copy(out, at, s.row, s.w, t, u);
+        return;
     }
+    write_row(out, at, s, t);
 }

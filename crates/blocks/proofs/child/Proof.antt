@@ -1,29 +1,27 @@
-use borrow.Author.Needs.{needs}
+-- The child by its letter.
+use mathlib.Core.Path.{refl}
+use Prim.Native.Nat.{_/_, _%_}
+use native.Mathlib.Omega.{arith}
+use Rattle.blocks.specs.Rows.{Small}
 use Rattle.blocks.proofs.child.Statement.{statement}
 use Rattle.blocks.proofs.child.Tie as tie
-use Rattle.blocks.proofs.child.Reads as reads
-use Rattle.blocks.proofs.child.Lts as lts
-use Rattle.buffer.proofs.wide.Reads as wide-reads
 
--- src/lib.rt:499:9
 wide-requires : tie.Need-wide-requires
-wide-requires c κs = ?
+wide-requires c κs = tt
 
--- src/lib.rt:500:5
 mul-result : tie.Need-mul-result
-mul-result c = ?
+mul-result c = omega arith
 
--- src/lib.rt:500:5
 array-read-result : tie.Need-array-read-result
-array-read-result c = ?
+array-read-result c = omega arith
 
--- src/lib.rt:500:5
 add-result : tie.Need-add-result
-add-result c = ?
+unfolding Small
+add-result c = omega (arith, c .before .pre (c .wide .result / 16 % 4))
 
--- src/lib.rt:496:1
 returns : tie.Need-returns
-returns c = ?
+unfolding Small
+returns c = (rw (c .wide .ensures .0), omega (arith, c .before .pre (c .wide .result / 16 % 4)))
 
 pub child-spec : {M : Type 1} → statement M
 child-spec = tie.close (tie.spec wide-requires mul-result array-read-result add-result returns)

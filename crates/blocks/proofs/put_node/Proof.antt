@@ -1,90 +1,79 @@
-use borrow.Author.Needs.{needs}
+-- One node written: six bytes, or none where there is no room.
+use Prim.Native.Nat.{_+_, _*_, _<_}
+use native.Mathlib.Omega.{arith}
+use lib.ListN.{length, length-set}
+use Rattle.finite.specs.Laws.Below.{below-in}
+use Rattle.limits.specs.Limits.{nodeSize}
+use Rattle.blocks.specs.Write.{put}
+use Rattle.blocks.specs.Laws.Write.{put-room}
 use Rattle.blocks.proofs.put_node.Statement.{statement}
 use Rattle.blocks.proofs.put_node.Tie as tie
-use Rattle.blocks.proofs.put_node.Reads as reads
-use Rattle.blocks.proofs.put_node.Lts as lts
-use Rattle.blocks.proofs.high.Reads as high-reads
-use Rattle.blocks.proofs.low.Reads as low-reads
 
--- src/lib.rt:472:13
 mul-o : tie.Need-mul-o
-mul-o c = ?
+mul-o c = omega arith
 
--- src/lib.rt:473:20
 add-if1 : tie.Need-add-if1
-add-if1 c = ?
+add-if1 c = omega arith
 
--- src/lib.rt:474:9
 returns : tie.Need-returns
-returns c = ?
+unfolding put
+returns c =
+    let a = c .before .before .args in let h : length (a .out .now) < nodeSize * a .i + nodeSize = omega arith in
+    simp (below-in _ _ h)
 
--- src/lib.rt:476:9
 low-requires : tie.Need-low-requires
-low-requires c κs = ?
+low-requires c κs = tt
 
--- src/lib.rt:477:9
 high-requires : tie.Need-high-requires
-high-requires c κs = ?
+high-requires c κs = omega arith
 
--- src/lib.rt:478:9
 low-requires-2 : tie.Need-low-requires-2
-low-requires-2 c κs = ?
+low-requires-2 c κs = tt
 
--- src/lib.rt:479:9
 high-requires-2 : tie.Need-high-requires-2
-high-requires-2 c κs = ?
+high-requires-2 c κs = omega arith
 
--- src/lib.rt:480:5
 slice-write-out : tie.Need-slice-write-out
-slice-write-out c = ?
+slice-write-out c = omega arith
 
--- src/lib.rt:481:9
 add-out : tie.Need-add-out
-add-out c = ?
+add-out c = omega arith
 
--- src/lib.rt:481:5
 slice-write-out-2 : tie.Need-slice-write-out-2
-slice-write-out-2 c = ?
+slice-write-out-2 c = simp length-set (omega arith)
 
--- src/lib.rt:482:9
 add-out-2 : tie.Need-add-out-2
-add-out-2 c = ?
+add-out-2 c = omega arith
 
--- src/lib.rt:482:5
 slice-write-out-3 : tie.Need-slice-write-out-3
-slice-write-out-3 c = ?
+slice-write-out-3 c = simp length-set (omega arith)
 
--- src/lib.rt:483:9
 add-out-3 : tie.Need-add-out-3
-add-out-3 c = ?
+add-out-3 c = omega arith
 
--- src/lib.rt:483:5
 slice-write-out-4 : tie.Need-slice-write-out-4
-slice-write-out-4 c = ?
+slice-write-out-4 c = simp length-set (omega arith)
 
--- src/lib.rt:484:9
 add-out-4 : tie.Need-add-out-4
-add-out-4 c = ?
+add-out-4 c = omega arith
 
--- src/lib.rt:484:5
 slice-write-out-5 : tie.Need-slice-write-out-5
-slice-write-out-5 c = ?
+slice-write-out-5 c = simp length-set (omega arith)
 
--- src/lib.rt:485:9
 add-out-5 : tie.Need-add-out-5
-add-out-5 c = ?
+add-out-5 c = omega arith
 
--- src/lib.rt:485:5
 slice-write-out-6 : tie.Need-slice-write-out-6
-slice-write-out-6 c = ?
+slice-write-out-6 c = simp length-set (omega arith)
 
--- src/lib.rt:468:1
 same-length : tie.Need-same-length
-same-length c = ?
+same-length c = simp length-set
 
--- src/lib.rt:468:1
 returns-2 : tie.Need-returns-2
-returns-2 c = ?
+returns-2 c =
+    let p = c .before .before .before in let a = p .before .before .before .args in
+    put-room _ (a .i) _ _ (a .left) (a .right) (omega arith) (p .low .ensures) (c .before .before .high .ensures) (c .before .low2 .ensures)
+    (c .high2 .ensures)
 
 pub put-node-spec : {M : Type 1} → statement M
 put-node-spec =

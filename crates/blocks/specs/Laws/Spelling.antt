@@ -1,6 +1,6 @@
 -- The row that is chosen for a node has the block of the node.
 use mathlib.Core.Path.{_≡_, refl, sym, _∙_, ap, subst}
-use mathlib.Core.List.{List}
+use mathlib.Core.List.{List, _++_}
 use mathlib.Core.Bool.{Bool, true, false, _&&_, cond}
 use Prim.Native.Nat.{ℕ, _+_, _-_, _%_, _≤_, _<_}
 use native.Mathlib.Omega.{arith}
@@ -17,7 +17,7 @@ use Rattle.semantics.specs.Laws.Edits.{Legal, legal-out, functional-small}
 use Rattle.semantics.specs.Laws.Ways.{way-along}
 use Rattle.condition.specs.Laws.Limits.{each-kind, kind-past}
 use Rattle.blocks.specs.declared.Spelling.{Spelling}
-use Rattle.blocks.specs.Rows.{rows, rowCount}
+use Rattle.blocks.specs.Rows.{copyCount, rowCount, copies, rows}
 use Rattle.blocks.specs.Spelling.{spelled, Spells, knownKind, onWay, leafRow, wayRow, asRow, dsRow, rowOf, firstOf, secondOf}
 
 -- ---- ways by their numbers, and what an edit does by each
@@ -82,7 +82,7 @@ known-past k h = rw (below-not k 12 h) refl
 module _ (p t u : ℕ) where
   -- row r of an edit with the numbers a and b
   abbrev row : ℕ → ℕ → ℕ → Found
-  row a b r = (below r rowCount, getD (rows p a b ((b + links) % 256) everyWay (old t) (old u)) r (old 0))
+  row a b r = (below r rowCount, getD (copies p (old t) (old u) ++ rows p a b ((b + links) % 256) everyWay (old t)) r (old 0))
 
   abbrev leaf : Block → Found
   leaf B = (true, B)
@@ -97,7 +97,7 @@ module _ (p t u : ℕ) where
   Right e k = row (firstOf e) (secondOf e) (rowOf e (knownKind k) p) ≡ leaf (block e (kindOf k) p (old t) (old u))
 
   right : (e : Edit) → legal e ≡ true → (k : ℕ) → Right e k
-  unfolding rows block blockLeaf blockDia blockBox change kindOf knownKind leafRow wayRow asRow dsRow same below Legal
+  unfolding copies rows block blockLeaf blockDia blockBox change kindOf knownKind leafRow wayRow asRow dsRow same below Legal
   right (CN1 n1 n2) l =
       each-kind _ refl refl refl (choose leaf (row n2 0) (same p n1) refl refl) refl refl refl refl refl refl refl refl
       (λ k h. rw (kind-past k h, known-past k h) refl)

@@ -1,13 +1,14 @@
 -- Laws of writing nodes into a buffer.
-use mathlib.Core.Path.{_≡_, refl, sym, _∙_, ap}
+use mathlib.Core.Path.{_≡_, refl, _∙_, ap}
 use mathlib.Core.List.{List, [], _∷_, _++_}
-use Prim.Native.Nat.{ℕ, suc, _+_, _*_, _<_}
+use Prim.Native.Nat.{ℕ, zero, suc, _+_, _*_, _/_, _%_, _≤_, _<_}
 use native.Mathlib.Omega.{arith}
-use native.Mathlib.Numerals.{add-one}
-use lib.ListN.{length, take, getD}
-use lib.Seq.{length-sets, length-take-le, take-suc}
+use native.Mathlib.Numerals.{add-one, towards-suc}
+use lib.ListN.{length, take, getD, set, length-append}
+use lib.Seq.{length-sets, take-suc, take-length}
 use Rattle.finite.specs.Tests.{below}
 use Rattle.finite.specs.Laws.Bools.{either, look}
+use Rattle.finite.specs.Laws.Below.{below-not}
 use Rattle.limits.specs.Limits.{nodeSize}
 use Rattle.semantics.specs.Table.{Node}
 use Rattle.condition.specs.Bytes.{nodeBytes}
@@ -25,6 +26,15 @@ unfolding puts
 length-puts o at j [] = refl
 length-puts o at j (x ∷ xs) = length-puts (put o (at + j) x) at (suc j) xs ∙ length-put o (at + j) x
 
+-- ---- a node that fits, byte by byte
+
+pub put-room : (o : List ℕ) (i k p l r : ℕ) {l0 l1 r0 r1 : ℕ} → nodeSize * i + nodeSize ≤ length o → l0 ≡ l % 256 → l1 ≡ l / 256
+    → r0 ≡ r % 256 → r1 ≡ r / 256
+    → set (set (set (set (set (set o (6 * i) k) (6 * i + 1) p) (6 * i + 2) l0) (6 * i + 3) l1) (6 * i + 4) r0) (6 * i + 5) r1
+    ≡ put o i (record { kind = k; param = p; left = l; right = r })
+unfolding put nodeBytes
+put-room o i k p l r h e0 e1 e2 e3 = rw (below-not (length o) (nodeSize * i + nodeSize) h) (simp (e0, e1, e2, e3, towards-suc))
+
 -- ---- one node more
 
 pub puts-snoc : (o : List ℕ) (at j : ℕ) (xs : List Node) (x : Node)
@@ -35,9 +45,43 @@ puts-snoc o at j (y ∷ ys) x =
     let e : suc j + length ys ≡ j + suc (length ys) = omega arith in
     puts-snoc (put o (at + j) y) at (suc j) ys x ∙ rw e refl
 
--- a turn of the writer's loop: node j of xs is written behind the first j
-pub puts-more : (o : List ℕ) (at j : ℕ) (xs : List Node) {out out′ : List ℕ} {x : Node} (d : Node) → j < length xs → x ≡ getD xs j d
-    → out′ ≡ put out (at + j) x → out ≡ puts o at 0 (take j xs) → out′ ≡ puts o at 0 (take (j + 1) xs)
-puts-more o at j xs d h ex e eo =
-    let n : 0 + length (take j xs) ≡ j = omega (arith, length-take-le j xs (omega arith)) in
-    e ∙ rw (eo, ex, add-one j, take-suc xs j d h, puts-snoc, n) refl
+-- ---- nodes written one by one
+
+-- the first n of the nodes that f gives
+unfoldable pub firsts : (ℕ → Node) → ℕ → List Node
+firsts f zero = []
+firsts f (suc n) = firsts f n ++ (f n ∷ [])
+
+length-firsts : (f : ℕ → Node) (n : ℕ) → length (firsts f n) ≡ n
+unfolding firsts
+length-firsts f zero = refl
+length-firsts f (suc n) = length-append (firsts f n) (f n ∷ []) ∙ omega (arith, length-firsts f n)
+
+-- out is the buffer o with the first n of them written from number at on
+pub record Put (o : List ℕ) (at : ℕ) (f : ℕ → Node) (n : ℕ) (out : List ℕ) : Type 0 where
+  pub is : out ≡ puts o at 0 (firsts f n)
+
+pub put-none : {o : List ℕ} {at : ℕ} {f : ℕ → Node} → Put o at f 0 o
+unfolding puts firsts
+put-none = record { is = refl }
+
+pub put-more : {o : List ℕ} {at n : ℕ} {f : ℕ → Node} {out out′ : List ℕ} → Put o at f n out → out′ ≡ put out (at + n) (f n)
+    → Put o at f (n + 1) out′
+unfolding firsts
+put-more {o} {at} {n} {f} w e =
+    let l : 0 + length (firsts f n) ≡ n = omega (arith, length-firsts f n) in
+    record { is = e ∙ rw (w .is, add-one n, firsts, puts-snoc, l) refl }
+
+pub put-length : {o : List ℕ} {at n : ℕ} {f : ℕ → Node} {out : List ℕ} → Put o at f n out → length out ≡ length o
+put-length {o} {at} {n} {f} w = ap length (w .is) ∙ length-puts o at 0 (firsts f n)
+
+-- where f gives the nodes of a list, these are the list
+firsts-take : (f : ℕ → Node) (xs : List Node) (d : Node) → ((j : ℕ) → j < length xs → f j ≡ getD xs j d) → (n : ℕ) → n ≤ length xs
+    → firsts f n ≡ take n xs
+unfolding firsts
+firsts-take f xs d e zero h = refl
+firsts-take f xs d e (suc n) h =
+    let k : n < length xs = omega arith in rw (firsts-take f xs d e n (omega arith), e n k, take-suc xs n d k) refl
+
+pub firsts-all : (f : ℕ → Node) (xs : List Node) (d : Node) → ((j : ℕ) → j < length xs → f j ≡ getD xs j d) → firsts f (length xs) ≡ xs
+firsts-all f xs d e = firsts-take f xs d e (length xs) (omega arith) ∙ take-length xs
