@@ -13,6 +13,29 @@ use Rattle.semantics.specs.Block.{Block, old, size, block}
 use Rattle.blocks.specs.declared.Spelling.{Spelling}
 use Rattle.blocks.specs.Rows.{copyCount, rowCount, copies, rows}
 
+-- the numbers a and b of an edit's rows
+abbrev pub firstOf : Edit → ℕ
+firstOf (CN1 n1 n2) = n2
+firstOf (CN2 n1 n2 f) = n2
+firstOf (AP n q) = n
+firstOf (DP n q) = n
+firstOf (AT m n1 n2) = n1
+firstOf (DT1 m n1 n2) = n1
+firstOf (DT2 f n) = n
+firstOf (AS n k) = k
+firstOf (DS n) = n
+
+abbrev pub secondOf : Edit → ℕ
+secondOf (CN1 n1 n2) = 0
+secondOf (CN2 n1 n2 f) = f
+secondOf (AP n q) = 0
+secondOf (DP n q) = 0
+secondOf (AT m n1 n2) = n2
+secondOf (DT1 m n1 n2) = n2
+secondOf (DT2 f n) = 0
+secondOf (AS n k) = 0
+secondOf (DS n) = 0
+
 -- the reverse of the way b
 abbrev pub reverseOf : Spelling → ℕ
 reverseOf s = (s .b + links) % 256
@@ -45,6 +68,9 @@ copyOf k p t u = record { kind = k; param = keptBy k p; left = usedBy k 5 12 t; 
 -- s spells the block of a node with this kind and parameter
 pub record Spells (e : Edit) (kind param : ℕ) (s : Spelling) : Type 0 where
   pub known : s .row < rowCount
+  pub own : s .w ≡ param
+  pub first : s .a ≡ firstOf e
+  pub second : s .b ≡ secondOf e
   pub right : (t u : ℕ) → spelled s t u ≡ block e (kindOf kind) param (old t) (old u)
 
 -- what is spelled has r nodes
@@ -93,26 +119,3 @@ rowOf (DT1 m n1 n2) k p = wayRow k p m 25
 rowOf (DT2 f n) k p = wayRow k p f 29
 rowOf (AS n s) k p = asRow k p n
 rowOf (DS n) k p = dsRow k p
-
--- the numbers a and b of an edit's rows
-abbrev pub firstOf : Edit → ℕ
-firstOf (CN1 n1 n2) = n2
-firstOf (CN2 n1 n2 f) = n2
-firstOf (AP n q) = n
-firstOf (DP n q) = n
-firstOf (AT m n1 n2) = n1
-firstOf (DT1 m n1 n2) = n1
-firstOf (DT2 f n) = n
-firstOf (AS n k) = k
-firstOf (DS n) = n
-
-abbrev pub secondOf : Edit → ℕ
-secondOf (CN1 n1 n2) = 0
-secondOf (CN2 n1 n2 f) = f
-secondOf (AP n q) = 0
-secondOf (DP n q) = 0
-secondOf (AT m n1 n2) = n2
-secondOf (DT1 m n1 n2) = n2
-secondOf (DT2 f n) = 0
-secondOf (AS n k) = 0
-secondOf (DS n) = 0

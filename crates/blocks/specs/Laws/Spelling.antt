@@ -141,5 +141,8 @@ pub spells : (e : Edit) (k p : ℕ) → legal e ≡ true
 unfolding spelled
 spells e k p l = record {
   known = below-out _ rowCount (ap (λ (x : Found). x .0) (right p 0 0 e l k));
+  own = refl;
+  first = refl;
+  second = refl;
   right = λ t u. ap (λ (x : Found). x .1) (right p t u e l k);
 }
