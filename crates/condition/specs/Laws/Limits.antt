@@ -8,7 +8,7 @@ use borrow.Author.Tests.{lt-ltb, le-ltb}
 use Rattle.finite.specs.Tests.{same, below}
 use Rattle.finite.specs.Laws.Bools.{and-l, and-r, both}
 use Rattle.finite.specs.Laws.Below.{same-eq, eq-same, below-in, below-out, below-not}
-use Rattle.limits.specs.Limits.{slots}
+use Rattle.limits.specs.Limits.{slots, labels, names, variables, everyWay}
 use Rattle.semantics.specs.Table.{Leaf, kTrue, kHere, kLabel, kName, kVar, kSlot, Unary, kNot, kDia, kBox, kMu, kNu, Kind, leaf, unary, binary, kindOf, Node, leafFits, unaryFits, kindFits, nodeFits}
 use Rattle.condition.specs.Limits.{paramLimit, childLimit}
 
@@ -88,19 +88,30 @@ kind-past k h =
     let e : suc (suc (suc (suc (suc (suc (suc (suc (suc (suc (suc (suc (k - 12)))))))))))) ≡ k = omega arith in
     subst (λ (j : ℕ). kindOf j ≡ leaf kSlot) e refl
 
+-- the bound by ranges of the kinds' numbers, as the code asks for them
 pub number-limit : (k : ℕ) → paramLimit (kindOf k)
-    ≡ cond (ltb k 2) 1 (cond (ltb k 5) 16 (cond (ltb k 8) 1 (cond (ltb k 10) 17 (cond (ltb k 12) 16 256))))
+    ≡ cond (ltb k 2) 1 (cond (ltb k 3) labels (cond (ltb k 4) names (cond (ltb k 5) variables (cond (ltb k 8) 1 (cond (ltb k 10) (suc everyWay) (cond (ltb k 12) variables 256))))))
 unfolding kindOf paramLimit
 number-limit =
     each-kind _ refl refl refl refl refl refl refl refl refl refl refl refl
-    (λ k h. rw (kind-past k h, le-ltb k 2 (omega arith), le-ltb k 5 (omega arith), le-ltb k 8 (omega arith), le-ltb k 10 (omega arith), le-ltb k 12 h) refl)
+    (λ k h. rw (kind-past k h, le-ltb k 2 (omega arith), le-ltb k 3 (omega arith), le-ltb k 4 (omega arith), le-ltb k 5 (omega arith), le-ltb k 8 (omega arith), le-ltb k 10 (omega arith), le-ltb k 12 h) refl)
 
-pub limit-name : (k : ℕ) → 2 ≤ k → k < 5 → paramLimit (kindOf k) ≡ 16
-limit-name k h l = rw (number-limit k, le-ltb k 2 h, lt-ltb k 5 l) refl
+-- the bounds of the kinds whose parameter is a number of its own: a label, a name, a variable, and the variable of a loop
+pub limit-label : {k : ℕ} → k ≡ 2 → paramLimit (kindOf k) ≡ labels
+unfolding kindOf paramLimit
+limit-label e = rw e refl
 
-pub limit-loop : (k : ℕ) → 10 ≤ k → k < 12 → paramLimit (kindOf k) ≡ 16
+pub limit-name : {k : ℕ} → k ≡ 3 → paramLimit (kindOf k) ≡ names
+unfolding kindOf paramLimit
+limit-name e = rw e refl
+
+pub limit-variable : {k : ℕ} → k ≡ 4 → paramLimit (kindOf k) ≡ variables
+unfolding kindOf paramLimit
+limit-variable e = rw e refl
+
+pub limit-loop : (k : ℕ) → 10 ≤ k → k < 12 → paramLimit (kindOf k) ≡ variables
 limit-loop k h l =
-    rw (number-limit k, le-ltb k 2 (omega arith), le-ltb k 5 (omega arith), le-ltb k 8 (omega arith), le-ltb k 10 h, lt-ltb k 12 l) refl
+    rw (number-limit k, le-ltb k 2 (omega arith), le-ltb k 3 (omega arith), le-ltb k 4 (omega arith), le-ltb k 5 (omega arith), le-ltb k 8 (omega arith), le-ltb k 10 h, lt-ltb k 12 l) refl
 
 pub left-limit : (i k : ℕ) → leftLimit (kindOf k) i ≡ childLimit 5 12 k i
 unfolding kindOf leftLimit
