@@ -31,8 +31,8 @@ use Rattle.apply_entry.specs.Refusal.{applyVerdict}
 use Rattle.rewrite_entry.specs.Refusal.{rewriteVerdict}
 use Rattle.rewriting.specs.Rewriting.{TableAfter}
 use Rattle.rewrite_entry.specs.Laws.Refusal.{rewrite-reason}
-use Rattle.desk.specs.Demands.{Runnable, ApplyCall, RewriteCall, ListCall, rewrittenTable, Demand2}
-use Rattle.desk.specs.Laws.Demands.{demand-2}
+use Rattle.demands.specs.Demands.{Runnable, ApplyCall, RewriteCall, ListCall, rewrittenTable, Demand2}
+use Rattle.demands.specs.Laws.Demands.{demand-2}
 use Rattle.sample_bytes.specs.Said.{siteIn, tableIn, sheetIn, Lists, Answers, Written, Returns, AllReturned}
 use Rattle.sample_bytes.specs.Refused.{NotApplied, NotRewritten, NotListed}
 use Rattle.sample_bytes.specs.Laws.Write.{bytes-lt}

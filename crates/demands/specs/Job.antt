@@ -18,8 +18,8 @@ use Rattle.listing.specs.Listed.{Listed}
 use Rattle.trailer.specs.Refusal.{trailerVerdict}
 use Rattle.trailer.specs.Pieces.{siteIn, conditionIn, sheetIn}
 use Rattle.job_entry.specs.Buffers.{Buffers, Sized}
 use Rattle.desk.specs.Returned.{ReturnedJob}
-use Rattle.desk.specs.Demands.{Runnable, Distinguished}
+use Rattle.demands.specs.Demands.{Runnable, Distinguished}
 
 -- a call of a job: six buffers of the stated lengths, and whatever it returns and leaves in them (′). The two sets are slices of bytes,
 -- each below 256

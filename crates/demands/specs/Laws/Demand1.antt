@@ -16,8 +16,8 @@ use Rattle.classes_entry.specs.Classing.{ClassesAfter}
 use Rattle.trailer.specs.Pieces.{siteIn, conditionIn, sheetIn}
 use Rattle.job_entry.specs.Job.{Left}
 use Rattle.job_entry.specs.Laws.Refusal.{job-numbered}
-use Rattle.desk.specs.Laws.Accepted.{list-numbered, apply-numbered, classes-numbered}
-use Rattle.desk.specs.Demand1.{Answers, Demand1Job, Demand1List, Demand1Apply, Demand1Rewrite, Demand1Classes, Demand1}
+use Rattle.demands.specs.Laws.Accepted.{list-numbered, apply-numbered, classes-numbered}
+use Rattle.demands.specs.Demand1.{Answers, Demand1Job, Demand1List, Demand1Apply, Demand1Rewrite, Demand1Classes, Demand1}
 
 -- what holds after the verdict v is the full answer after Accepted, and zeros after each refusal
 answers : (After : Verdict → Type 0) {Full Zeros : Type 0} → (After Accepted → Full) → ((n k : ℕ) → After (Refused n k) → Zeros)

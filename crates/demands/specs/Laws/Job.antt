@@ -13,10 +13,10 @@ use Rattle.list_entry.specs.Listing.{SetAfter}
 use Rattle.job_entry.specs.Refusal.{jobVerdict}
 use Rattle.job_entry.specs.Job.{Left}
 use Rattle.job_entry.specs.Laws.Refusal.{job-accepts, job-reason}
-use Rattle.desk.specs.Demands.{Runnable, ApplyCall, RewriteCall, ListCall, ClassCall, rewrittenTable, Demand2, Demand3}
-use Rattle.desk.specs.Job.{JobCall, RunnableFile, JobAgrees, DemandJob}
-use Rattle.desk.specs.Laws.Accepted.{list-accepted, apply-accepted, rewrite-accepted, classes-accepted, job-accepted}
-use Rattle.desk.specs.Laws.Demands.{left-accepted, table-accepted, demand-2, demand-3}
+use Rattle.demands.specs.Demands.{Runnable, ApplyCall, RewriteCall, ListCall, ClassCall, rewrittenTable, Demand2, Demand3}
+use Rattle.demands.specs.Job.{JobCall, RunnableFile, JobAgrees, DemandJob}
+use Rattle.demands.specs.Laws.Accepted.{list-accepted, apply-accepted, rewrite-accepted, classes-accepted, job-accepted}
+use Rattle.demands.specs.Laws.Demands.{left-accepted, table-accepted, demand-2, demand-3}
 
 -- ---- refused only where an item is met
 

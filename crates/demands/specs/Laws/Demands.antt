@@ -35,8 +35,8 @@ use Rattle.apply_entry.specs.Refusal.{applyVerdict}
 use Rattle.apply_entry.specs.Applying.{SiteAfter}
 use Rattle.rewrite_entry.specs.Refusal.{rewriteVerdict}
 use Rattle.rewriting.specs.Rewriting.{TableAfter, rewritten}
-use Rattle.desk.specs.Demands.{ApplyCall, RewriteCall, ListCall, rewrittenTable, Runnable, SameLists, Demand2, Going, Demand3, ClassCall, SameClasses}
-use Rattle.desk.specs.Laws.Accepted.{list-accepted, apply-accepted, rewrite-accepted, classes-accepted}
+use Rattle.demands.specs.Demands.{ApplyCall, RewriteCall, ListCall, rewrittenTable, Runnable, SameLists, Demand2, Going, Demand3, ClassCall, SameClasses}
+use Rattle.demands.specs.Laws.Accepted.{list-accepted, apply-accepted, rewrite-accepted, classes-accepted}
 
 -- ---- listing an accepted condition on an accepted site
 
