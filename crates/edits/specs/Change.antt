@@ -1,9 +1,8 @@
 -- Changes of a site at slots, of which the edits are made: each of one part of the model.
-use mathlib.Core.Bool.{Bool, not, _&&_, _||_, cond}
+use mathlib.Core.Bool.{not, _&&_, _||_, cond}
 use Prim.Native.Nat.{ℕ}
 use Rattle.finite.specs.Tests.{same, below}
 use Rattle.semantics.specs.Holds.{Model}
-use Rattle.semantics.specs.Edit.{functional, target}
 
 -- name n is at slot x
 unfoldable pub withName : Model → ℕ → ℕ → Model
@@ -103,11 +102,6 @@ withoutLinks M x = record {
   place = M .place;
   link = λ l s t. M .link l s t && not (same s x || same t x);
 }
-
--- link m can be added from slot x to slot y: neither is nil, and a functional link leads from x nowhere or to y
-unfoldable pub joins : Model → ℕ → ℕ → ℕ → Bool
-joins M m x y =
-    (not (same x 0) && not (same y 0)) && (not (functional m) || (same (target M m x) 0 || same (target M m x) y))
 
 -- ---- steps of the loops that take a slot's labels, names and links away
 

@@ -2,9 +2,10 @@
 use native.Mathlib.Omega.{arith}
 use Rattle.finite.specs.Tests.{same}
 use Rattle.site.specs.Site.{siteOf}
-use Rattle.edits.specs.Laws.Rows.{goes-DS, legal-DS}
-use Rattle.edits.proofs.is_on_site.Statement.{statement}
-use Rattle.edits.proofs.is_on_site.Tie as tie
+use Rattle.going.specs.Laws.Ranges.{legal-DS}
+use Rattle.going.specs.Laws.Goes.{goes-DS}
+use Rattle.going.proofs.is_on_site.Statement.{statement}
+use Rattle.going.proofs.is_on_site.Tie as tie
 
 place-requires : tie.Need-place-requires
 place-requires c κs = let s = c .before in let r = legal-DS (s .args .n) (s .pre .1) in omega arith

@@ -1,9 +1,9 @@
 -- AS goes through where the slot is absent.
 use native.Mathlib.Omega.{arith}
 use Rattle.site.specs.Site.{siteOf}
-use Rattle.edits.specs.Laws.Rows.{goes-AS}
-use Rattle.edits.proofs.slot_is_absent.Statement.{statement}
-use Rattle.edits.proofs.slot_is_absent.Tie as tie
+use Rattle.going.specs.Laws.Goes.{goes-AS}
+use Rattle.going.proofs.slot_is_absent.Statement.{statement}
+use Rattle.going.proofs.slot_is_absent.Tie as tie
 
 present-requires : tie.Need-present-requires
 present-requires c κs = omega arith

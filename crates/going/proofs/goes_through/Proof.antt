@@ -1,8 +1,8 @@
 -- Three of the edits have a test, and the others always go through.
 use borrow.Author.Needs.{needs}
 use Rattle.semantics.specs.Edit.{goes}
-use Rattle.edits.proofs.goes_through.Statement.{statement}
-use Rattle.edits.proofs.goes_through.Tie as tie
+use Rattle.going.proofs.goes_through.Statement.{statement}
+use Rattle.going.proofs.goes_through.Tie as tie
 
 enum-told : tie.Need-enum-told
 enum-told c = search needs

@@ -2,9 +2,9 @@
 use native.Mathlib.Omega.{arith}
 use Rattle.finite.specs.Tests.{same}
 use Rattle.site.specs.Site.{siteOf}
-use Rattle.edits.specs.Laws.Rows.{joins-from-nil, joins-to-nil, joins-general, joins-functional}
-use Rattle.edits.proofs.can_join.Statement.{statement}
-use Rattle.edits.proofs.can_join.Tie as tie
+use Rattle.going.specs.Laws.Goes.{joins-from-nil, joins-to-nil, joins-general, joins-functional}
+use Rattle.going.proofs.can_join.Statement.{statement}
+use Rattle.going.proofs.can_join.Tie as tie
 
 returns : tie.Need-returns
 returns c = let s = c .before .before in joins-from-nil (siteOf (s .args .site .now)) (s .args .m) (s .args .s) (s .args .t) (c .if1 .taken)

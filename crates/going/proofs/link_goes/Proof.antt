@@ -1,9 +1,10 @@
 -- AT goes through where the link can be added.
 use native.Mathlib.Omega.{arith}
 use Rattle.site.specs.Site.{siteOf}
-use Rattle.edits.specs.Laws.Rows.{legal-AT, goes-AT}
-use Rattle.edits.proofs.link_goes.Statement.{statement}
-use Rattle.edits.proofs.link_goes.Tie as tie
+use Rattle.going.specs.Laws.Ranges.{legal-AT}
+use Rattle.going.specs.Laws.Goes.{goes-AT}
+use Rattle.going.proofs.link_goes.Statement.{statement}
+use Rattle.going.proofs.link_goes.Tie as tie
 
 place-requires : tie.Need-place-requires
 place-requires c κs = let s = c .before in let r = legal-AT (s .args .m) (s .args .n1) (s .args .n2) (s .pre .1) in omega arith
