@@ -10,6 +10,9 @@ import sys
 
 import lists
 import pieces
+from layout import *
+
+SEED = 34352
 
 
 # ---- applying
@@ -17,27 +20,27 @@ import pieces
 class Site:
     def __init__(self, d):
         self.present = set(pieces.members(d, 0))
-        self.labels = {(p, s) for p in range(16) for s in pieces.members(d, pieces.LABELS_AT + 32 * p)}
-        self.names = list(d[pieces.NAMES_AT:pieces.NAMES_AT + 16])
-        self.links = {(f + 4, s, d[pieces.TARGETS_AT + 256 * f + s]) for f in range(4) for s in range(256)}
+        self.labels = {(p, s) for p in range(LABELS) for s in pieces.members(d, label_at(p))}
+        self.names = list(d[NAMES_AT:NAMES_AT + NAMES])
+        self.links = {(f, s, d[target_at(f, s)]) for f in range(GENERAL, LINKS) for s in range(SLOTS)}
         self.links = {(m, s, t) for m, s, t in self.links if t}
-        self.links |= {(m, s, t) for m in range(4) for s in range(256) for t in pieces.members(d, pieces.ROWS_AT + 8192 * m + 32 * s)}
+        self.links |= {(m, s, t) for m in range(GENERAL) for s in range(SLOTS) for t in pieces.members(d, row_at(m, s))}
 
     def target(self, f, s):
         return next((t for m, u, t in self.links if (m, u) == (f, s)), 0)
 
     def bytes(self):
-        d = bytearray(pieces.SITE_BYTES)
+        d = bytearray(SITE_BYTES)
         for s in self.present:
             pieces.put(d, 0, s)
         for p, s in self.labels:
-            pieces.put(d, pieces.LABELS_AT + 32 * p, s)
-        d[pieces.NAMES_AT:pieces.NAMES_AT + 16] = bytes(self.names)
+            pieces.put(d, label_at(p), s)
+        d[NAMES_AT:NAMES_AT + NAMES] = bytes(self.names)
         for m, s, t in self.links:
-            if m < 4:
-                pieces.put(d, pieces.ROWS_AT + 8192 * m + 32 * s, t)
+            if m < GENERAL:
+                pieces.put(d, row_at(m, s), t)
             else:
-                d[pieces.TARGETS_AT + 256 * (m - 4) + s] = t
+                d[target_at(m, s)] = t
         return d
 
 
@@ -45,7 +48,7 @@ def goes_through(site, edit):
     op, x, y, z = edit
     if op == 4:
         here, there = site.names[y], site.names[z]
-        return here != 0 and there != 0 and (x < 4 or site.target(x, here) in (0, there))
+        return here != 0 and there != 0 and (x < GENERAL or site.target(x, here) in (0, there))
     if op == 7:
         return y not in site.present
     if op == 8:
@@ -84,7 +87,7 @@ def change(site, edit):
 
 
 def edits_of(d):
-    return [tuple(d[i:i + 4]) for i in range(0, len(d), 4)]
+    return [tuple(d[i:i + EDIT_BYTES]) for i in range(0, len(d), EDIT_BYTES)]
 
 
 def apply(d, sheet):
@@ -104,14 +107,14 @@ def text(edit, kind, param):
     names = {}
     if kind in (8, 9):
         way = param
-        if way == 16:
+        if way == EVERYWHERE:
             return None
-        link, back = way % 8, way >= 8
+        link, back = way % LINKS, way >= LINKS
         names = {"m": way, "f": way, "f-": way}
     if op == 0 and kind == 3 and param == x:
         return "n2", {"n2": y}
     if op == 1 and kind == 3 and param == x:
-        return "n2 <f-> nil n2 t <f> & <E> ! & |", {"n2": y, "f": z, "f-": z + 8}
+        return "n2 <f-> nil n2 t <f> & <E> ! & |", {"n2": y, "f": z, "f-": z + LINKS}
     if op == 2 and kind == 2 and param == y:
         return "p n |", {"p": y, "n": x}
     if op == 3 and kind == 2 and param == y:
@@ -162,7 +165,7 @@ def put_text(out, words, names, image):
             right, left = stack.pop(), stack.pop()
             node(7 if word == "&" else 6, 0, left, right)
         elif word[0] in "<[":
-            way = 16 if word[1:-1] == "E" else names[word[1:-1]]
+            way = EVERYWHERE if word[1:-1] == "E" else names[word[1:-1]]
             node(8 if word[0] == "<" else 9, way, stack.pop(), 0)
         elif word == "t":
             node(0, 0, 0, 0)
@@ -194,10 +197,10 @@ def rewrite_edit(edit, nodes):
 
 
 def rewrite(condition, sheet):
-    nodes = lists.nodes_of(condition)
+    nodes = pieces.nodes_of(condition)
     for edit in reversed(edits_of(sheet)):
         nodes = rewrite_edit(edit, nodes)
-        if len(nodes) > 2048:
+        if len(nodes) > NODES:
             return None, (14, 0)
     return pieces.table(*nodes), None
 
@@ -218,7 +221,7 @@ def answer(site, condition, sheet):
         lambda d: "applied" + "".join(" %d:%d" % (k, b) for k, b in enumerate(d) if b != site[k]))
     table, nodes = outcome(
         pieces.judge_condition(condition) or pieces.judge_sheet(sheet), lambda: rewrite(condition, sheet),
-        lambda d: "%d nodes %s" % (len(d) // 6, d.hex()))
+        lambda d: "%d nodes %s" % (len(d) // NODE_BYTES, d.hex()))
     lines = [applied, nodes]
     if after is not None and table is not None:
         one, two = lists.answer(after, condition), lists.answer(site, table)
@@ -230,11 +233,17 @@ def answer(site, condition, sheet):
 # ---- cases
 
 def random_edit(rng, site):
-    op = rng.randrange(9)
-    new = rng.choice([s for s in range(1, 256) if s not in site.present] or [255])
-    operands = {pieces.name: lambda: rng.choice((rng.randrange(16), rng.randrange(1, 4))), pieces.moved: lambda: rng.choice((rng.randrange(1, 16), rng.randrange(1, 4))),
-                pieces.link: lambda: rng.choice((rng.randrange(8), rng.choice((0, 4)))), pieces.functional: lambda: rng.choice((rng.randrange(4, 8), 4)),
-                pieces.unused: lambda: 0, pieces.slot: lambda: new}
+    op = rng.randrange(OPERATIONS)
+    new = rng.choice([s for s in range(1, SLOTS) if s not in site.present] or [255])
+    operands = {
+        pieces.name: lambda: rng.choice((rng.randrange(NAMES), rng.randrange(1, 4))),
+        pieces.moved: lambda: rng.choice((rng.randrange(1, NAMES), rng.randrange(1, 4))),
+        pieces.label: lambda: rng.choice((rng.randrange(LABELS), rng.randrange(1, 4))),
+        pieces.link: lambda: rng.choice((rng.randrange(LINKS), rng.choice((0, GENERAL)))),
+        pieces.functional: lambda: rng.choice((rng.randrange(GENERAL, LINKS), GENERAL)),
+        pieces.unused: lambda: 0,
+        pieces.slot: lambda: new,
+    }
     return (op, *(operands[o]() for o in pieces.OPERANDS[op]))
 
 
@@ -257,8 +266,8 @@ def random_sheet(rng, d, length):
 def every_kind():
     """A condition with every kind of node, each way under a diamond and under a box, names and labels of every number."""
     nodes = [(0, 0, 0, 0), (1, 0, 0, 0), (4, 0, 0, 0), (12, 7, 0, 0), (4, 1, 0, 0), (11, 1, 4, 0)]
-    nodes += [(2, p, 0, 0) for p in range(16)] + [(3, n, 0, 0) for n in range(16)]
-    for way in range(17):
+    nodes += [(2, p, 0, 0) for p in range(LABELS)] + [(3, n, 0, 0) for n in range(NAMES)]
+    for way in range(WAYS):
         nodes += [(8, way, (0, 1, 2, 3, 6, 7, 22, 23, 24, 25)[way % 10], 0), (9, way, len(nodes) - 3, 0)]
     nodes += [(5, 0, 1, 0), (7, 0, len(nodes), len(nodes) - 1), (6, 0, 2, len(nodes) + 1), (10, 0, len(nodes) + 2, 0)]
     return pieces.table(*nodes)
@@ -273,7 +282,7 @@ def damaged(rng, d):
 
 def cases(rng):
     a, r = pieces.site_a(), pieces.R
-    sheet = lambda *edits: bytearray(b for edit in edits for b in (list(edit) + [0, 0, 0])[:4])
+    sheet = lambda *edits: bytearray(b for edit in edits for b in (list(edit) + [0, 0, 0])[:EDIT_BYTES])
     name = lambda n: pieces.table((3, n, 0, 0))
     yield a, r, sheet((6, 4, 1))
     yield a, r, sheet()
@@ -293,23 +302,23 @@ def cases(rng):
     # every operation on every kind and way, on a dense little site
     site = bytearray(a)
     for s in (1, 2, 3):
-        for m in range(4):
+        for m in range(GENERAL):
             for t in (1, 2, 3):
                 if (s + t + m) % 3:
-                    pieces.put(site, pieces.ROWS_AT + 8192 * m + 32 * s, t)
-        for f in range(4):
-            site[pieces.TARGETS_AT + 256 * f + s] = (s + f) % 4
-        for p in range(16):
+                    pieces.put(site, row_at(m, s), t)
+        for f in range(GENERAL, LINKS):
+            site[target_at(f, s)] = (s + f) % 4
+        for p in range(LABELS):
             if (s + p) % 3:
-                pieces.put(site, pieces.LABELS_AT + 32 * p, s)
-    pieces.put(site, pieces.LABELS_AT, 0)
-    site[pieces.NAMES_AT + 3] = 2
+                pieces.put(site, label_at(p), s)
+    pieces.put(site, LABELS_AT, 0)
+    site[NAMES_AT + 3] = 2
     condition = every_kind()
-    one = [sheet((0, x, y)) for x, y in ((1, 2), (2, 1), (3, 3), (1, 0), (15, 1))]
+    one = [sheet((0, x, y)) for x, y in ((1, 2), (2, 1), (3, 3), (1, 0), (NAMES - 1, 1))]
     one += [sheet((1, x, y, f)) for x, y, f in ((1, 2, 4), (1, 1, 4), (2, 1, 5), (3, 0, 6), (1, 3, 7))]
-    one += [sheet((op, n, p)) for op in (2, 3) for n, p in ((1, 0), (2, 3), (0, 0), (3, 15))]
-    one += [sheet((op, m, x, y)) for op in (4, 5) for m in range(8) for x, y in ((1, 2), (2, 1), (1, 1), (0, 1), (3, 1), (0, 0))]
-    one += [sheet((6, f, n)) for f in range(4, 8) for n in (0, 1, 2)]
+    one += [sheet((op, n, p)) for op in (2, 3) for n, p in ((1, 0), (2, 3), (0, 0), (3, LABELS - 1))]
+    one += [sheet((op, m, x, y)) for op in (4, 5) for m in range(LINKS) for x, y in ((1, 2), (2, 1), (1, 1), (0, 1), (3, 1), (0, 0))]
+    one += [sheet((6, f, n)) for f in range(GENERAL, LINKS) for n in (0, 1, 2)]
     one += [sheet((7, n, k)) for n, k in ((1, 4), (1, 255), (3, 7), (2, 0), (2, 3))]
     one += [sheet((8, n)) for n in (0, 1, 2, 3)]
     for s in one:
@@ -319,7 +328,7 @@ def cases(rng):
     yield a, r[:-1], sheet((9,))
     absent, labelled = bytearray(a), bytearray(a)
     absent[0] = 14
-    pieces.put(labelled, pieces.LABELS_AT + 32, 9)
+    pieces.put(labelled, label_at(1), 9)
     yield absent, r, sheet((6, 4, 1))
     yield labelled, r, sheet((9,))
     yield a, r, sheet((8, 0), (9,))
@@ -328,13 +337,13 @@ def cases(rng):
     yield a, r, sheet(*[(5, 4, 1, 2)] * 9)
     yield a, pieces.table((4, 0, 0, 0), (5, 0, 0, 0), (10, 0, 1, 0)), sheet((8, 0))
     yield a, pieces.table((4, 0, 0, 0)), sheet((6, 4, 1))
-    yield a, r, sheet(*[(0, 1, 2)] * 64)
-    yield a, r, sheet(*[(0, 1, 2)] * 65)
-    yield a, r, sheet(*[(0, 1, 2)] * 63, (8, 0))
-    full = pieces.table((2, 0, 0, 0), *((6, 0, i, i) for i in range(2047)))
+    yield a, r, sheet(*[(0, 1, 2)] * EDITS)
+    yield a, r, sheet(*[(0, 1, 2)] * (EDITS + 1))
+    yield a, r, sheet(*[(0, 1, 2)] * (EDITS - 1), (8, 0))
+    full = pieces.full_table(2)
     yield a, full, sheet((6, 4, 1))
     yield a, full, sheet((2, 1, 0))
-    yield a, full + pieces.table((6, 0, 2047, 2047)), sheet()
+    yield a, full + pieces.table((6, 0, NODES - 1, NODES - 1)), sheet()
     for _ in range(150):
         site = lists.random_site(rng, rng.choice((0, 5, 30, 120)))
         condition = lists.random_condition(rng)
@@ -345,7 +354,7 @@ def cases(rng):
 
 def main():
     sys.setrecursionlimit(20000)
-    rng = random.Random(34352)
+    rng = random.Random(SEED)
     stdin, stdout, count = bytearray(), [], {}
     for site, condition, sheet in cases(rng):
         for kind, d in ((pieces.SITE, site), (pieces.CONDITION, condition), (pieces.SHEET, sheet)):
