@@ -11,6 +11,7 @@ import sys
 import lists
 import pieces
 from layout import *
+from pieces import named, sheet
 
 SEED = 34352
 
@@ -101,52 +102,55 @@ def apply(d, sheet):
 
 # ---- rewriting: the paper's texts
 
-def text(edit, kind, param):
-    """The block of a node of this kind and parameter, in the words of document 01; None where it is copied."""
+def leaf_text(edit, kind, param):
     op, x, y, z = edit
-    names = {}
-    if kind in (8, 9):
-        way = param
-        if way == EVERYWHERE:
-            return None
-        link, back = way % LINKS, way >= LINKS
-        names = {"m": way, "f": way, "f-": way}
     if op == 0 and kind == 3 and param == x:
         return "n2", {"n2": y}
     if op == 1 and kind == 3 and param == x:
         return "n2 <f-> nil n2 t <f> & <E> ! & |", {"n2": y, "f": z, "f-": z + LINKS}
-    if op == 2 and kind == 2 and param == y:
-        return "p n |", {"p": y, "n": x}
-    if op == 3 and kind == 2 and param == y:
-        return "p n ! &", {"p": y, "n": x}
-    if op in (4, 5) and kind in (8, 9) and link == x:
-        names["n1"], names["n2"] = (z, y) if back else (y, z)
-        texts = {
-            (4, 8): "T <m> n1 n2 T & <E> & |", (4, 9): "T [m] n1 ! n2 ! T | [E] | &",
-            (5, 8): "n1 ! T <m> & n2 ! T & <m> |", (5, 9): "n1 T [m] | n2 T | [m] &",
-        }
-        return texts[op, kind], names
-    if op == 6 and kind in (8, 9) and link == x:
-        names["n"] = y
-        texts = {
-            (8, False): "n ! T <f> &", (9, False): "n T [f] |", (8, True): "n ! T & <f->", (9, True): "n T | [f-]",
-        }
-        return texts[kind, back], names
+    if op in (2, 3) and kind == 2 and param == y:
+        return "p n |" if op == 2 else "p n ! &", {"p": y, "n": x}
     if op == 7 and kind == 3 and param == x:
         return "k", {"k": y}
     if op == 7 and kind == 1:
         return "h k |", {"k": y}
-    if op == 8:
-        if kind == 1:
-            return "h n ! &", {"n": x}
-        if kind == 2:
-            return "p n ! &", {"p": param, "n": x}
-        if kind == 3 and param != 0:
-            return "y n ! & nil n y & <E> & |", {"y": param, "n": x}
-        if kind in (8, 9):
-            names["n"] = x
-            return ("n ! n ! T & <m> &" if kind == 8 else "n n T | [m] |"), names
+    if op == 8 and kind == 1:
+        return "h n ! &", {"n": x}
+    if op == 8 and kind == 2:
+        return "p n ! &", {"p": param, "n": x}
+    if op == 8 and kind == 3 and param != 0:
+        return "y n ! & nil n y & <E> & |", {"y": param, "n": x}
     return None
+
+
+# by operation and kind; for 6 also by whether the way goes against the link
+WAY_TEXTS = {
+    (4, 8): "T <m> n1 n2 T & <E> & |", (4, 9): "T [m] n1 ! n2 ! T | [E] | &",
+    (5, 8): "n1 ! T <m> & n2 ! T & <m> |", (5, 9): "n1 T [m] | n2 T | [m] &",
+    (6, 8, False): "n ! T <f> &", (6, 9, False): "n T [f] |", (6, 8, True): "n ! T & <f->", (6, 9, True): "n T | [f-]",
+    (8, 8): "n ! n ! T & <m> &", (8, 9): "n n T | [m] |",
+}
+
+
+def way_text(edit, kind, way):
+    op, x, y, z = edit
+    link, back = way % LINKS, way >= LINKS
+    names = {"m": way, "f": way, "f-": way}
+    if op in (4, 5) and link == x:
+        names["n1"], names["n2"] = (z, y) if back else (y, z)
+        return WAY_TEXTS[op, kind], names
+    if op == 6 and link == x:
+        return WAY_TEXTS[op, kind, back], {**names, "n": y}
+    if op == 8:
+        return WAY_TEXTS[op, kind], {**names, "n": x}
+    return None
+
+
+def text(edit, kind, param):
+    """The block of a node of this kind and parameter, in the words of document 01; None where it is copied."""
+    if kind not in (8, 9):
+        return leaf_text(edit, kind, param)
+    return way_text(edit, kind, param) if param != EVERYWHERE else None
 
 
 def put_text(out, words, names, image):
@@ -280,27 +284,30 @@ def damaged(rng, d):
     return d
 
 
-def cases(rng):
-    a, r = pieces.site_a(), pieces.R
-    sheet = lambda *edits: bytearray(b for edit in edits for b in (list(edit) + [0, 0, 0])[:EDIT_BYTES])
-    name = lambda n: pieces.table((3, n, 0, 0))
-    yield a, r, sheet((6, 4, 1))
-    yield a, r, sheet()
-    yield a, r, sheet((8, 1))
-    yield a, name(1), sheet((8, 1))
-    yield a, r, sheet((0, 1, 2), (6, 4, 1))
-    yield a, r, sheet((6, 4, 1), (0, 1, 2))
-    yield a, name(3), sheet((7, 3, 4))
-    yield a, name(3), sheet((7, 3, 3))
-    yield a, r, sheet((4, 4, 1, 2))
-    yield a, r, sheet((4, 4, 1, 1))
-    yield a, name(1), sheet((1, 1, 1, 4))
-    yield a, name(1), sheet((1, 1, 3, 4))
-    # R through k edits: 5 + 8(2^k - 1) nodes
+A, R = pieces.site_a(), pieces.R
+DT2, DOUBLE = (6, 4, 1), (5, 4, 1, 2)
+
+
+def by_hand():
+    """Document 01's small sites, and R through k edits: 5 + 8(2^k - 1) nodes."""
+    yield A, R, sheet(DT2)
+    yield A, R, sheet()
+    yield A, R, sheet((8, 1))
+    yield A, named(1), sheet((8, 1))
+    yield A, R, sheet((0, 1, 2), DT2)
+    yield A, R, sheet(DT2, (0, 1, 2))
+    yield A, named(3), sheet((7, 3, 4))
+    yield A, named(3), sheet((7, 3, 3))
+    yield A, R, sheet((4, 4, 1, 2))
+    yield A, R, sheet((4, 4, 1, 1))
+    yield A, named(1), sheet((1, 1, 1, 4))
+    yield A, named(1), sheet((1, 1, 3, 4))
     for k in range(10):
-        yield a, r, sheet(*[(5, 4, 1, 2)] * k)
-    # every operation on every kind and way, on a dense little site
-    site = bytearray(a)
+        yield A, R, sheet(*[DOUBLE] * k)
+
+
+def dense_site():
+    site = bytearray(A)
     for s in (1, 2, 3):
         for m in range(GENERAL):
             for t in (1, 2, 3):
@@ -313,37 +320,49 @@ def cases(rng):
                 pieces.put(site, label_at(p), s)
     pieces.put(site, LABELS_AT, 0)
     site[NAMES_AT + 3] = 2
-    condition = every_kind()
-    one = [sheet((0, x, y)) for x, y in ((1, 2), (2, 1), (3, 3), (1, 0), (NAMES - 1, 1))]
-    one += [sheet((1, x, y, f)) for x, y, f in ((1, 2, 4), (1, 1, 4), (2, 1, 5), (3, 0, 6), (1, 3, 7))]
-    one += [sheet((op, n, p)) for op in (2, 3) for n, p in ((1, 0), (2, 3), (0, 0), (3, LABELS - 1))]
-    one += [sheet((op, m, x, y)) for op in (4, 5) for m in range(LINKS) for x, y in ((1, 2), (2, 1), (1, 1), (0, 1), (3, 1), (0, 0))]
-    one += [sheet((6, f, n)) for f in range(GENERAL, LINKS) for n in (0, 1, 2)]
-    one += [sheet((7, n, k)) for n, k in ((1, 4), (1, 255), (3, 7), (2, 0), (2, 3))]
-    one += [sheet((8, n)) for n in (0, 1, 2, 3)]
-    for s in one:
-        yield site, condition, s
-    # the order of the items: the site before the sheet, the condition before the sheet, 12 before 13 before 14
-    yield a[:-1], r[:-1], sheet((9,))
-    yield a, r[:-1], sheet((9,))
-    absent, labelled = bytearray(a), bytearray(a)
+    return site
+
+
+def every_edit():
+    """Every operation, with operands at their bounds."""
+    yield from ((0, x, y) for x, y in ((1, 2), (2, 1), (3, 3), (1, 0), (NAMES - 1, 1)))
+    yield from ((1, x, y, f) for x, y, f in ((1, 2, 4), (1, 1, 4), (2, 1, 5), (3, 0, 6), (1, 3, 7)))
+    yield from ((op, n, p) for op in (2, 3) for n, p in ((1, 0), (2, 3), (0, 0), (3, LABELS - 1)))
+    yield from ((op, m, x, y) for op in (4, 5) for m in range(LINKS) for x, y in ((1, 2), (2, 1), (1, 1), (0, 1), (3, 1), (0, 0)))
+    yield from ((6, f, n) for f in range(GENERAL, LINKS) for n in (0, 1, 2))
+    yield from ((7, n, k) for n, k in ((1, 4), (1, 255), (3, 7), (2, 0), (2, 3)))
+    yield from ((8, n) for n in (0, 1, 2, 3))
+
+
+def order():
+    """The order of the items: the site before the sheet, the condition before the sheet, 12 before 13 before 14; and the longest pieces."""
+    absent, labelled, full = bytearray(A), bytearray(A), pieces.full_table(2)
     absent[0] = 14
     pieces.put(labelled, label_at(1), 9)
-    yield absent, r, sheet((6, 4, 1))
-    yield labelled, r, sheet((9,))
-    yield a, r, sheet((8, 0), (9,))
-    yield a, r, sheet((8, 0))[:-1]
-    yield a, r, sheet((8, 0), *[(5, 4, 1, 2)] * 9)
-    yield a, r, sheet(*[(5, 4, 1, 2)] * 9)
-    yield a, pieces.table((4, 0, 0, 0), (5, 0, 0, 0), (10, 0, 1, 0)), sheet((8, 0))
-    yield a, pieces.table((4, 0, 0, 0)), sheet((6, 4, 1))
-    yield a, r, sheet(*[(0, 1, 2)] * EDITS)
-    yield a, r, sheet(*[(0, 1, 2)] * (EDITS + 1))
-    yield a, r, sheet(*[(0, 1, 2)] * (EDITS - 1), (8, 0))
-    full = pieces.full_table(2)
-    yield a, full, sheet((6, 4, 1))
-    yield a, full, sheet((2, 1, 0))
-    yield a, full + pieces.table((6, 0, NODES - 1, NODES - 1)), sheet()
+    yield A[:-1], R[:-1], sheet((9,))
+    yield A, R[:-1], sheet((9,))
+    yield absent, R, sheet(DT2)
+    yield labelled, R, sheet((9,))
+    yield A, R, sheet((8, 0), (9,))
+    yield A, R, sheet((8, 0))[:-1]
+    yield A, R, sheet((8, 0), *[DOUBLE] * 9)
+    yield A, R, sheet(*[DOUBLE] * 9)
+    yield A, pieces.table((4, 0, 0, 0), (5, 0, 0, 0), (10, 0, 1, 0)), sheet((8, 0))
+    yield A, pieces.table((4, 0, 0, 0)), sheet(DT2)
+    yield A, R, sheet(*[(0, 1, 2)] * EDITS)
+    yield A, R, sheet(*[(0, 1, 2)] * (EDITS + 1))
+    yield A, R, sheet(*[(0, 1, 2)] * (EDITS - 1), (8, 0))
+    yield A, full, sheet(DT2)
+    yield A, full, sheet((2, 1, 0))
+    yield A, full + pieces.table((6, 0, NODES - 1, NODES - 1)), sheet()
+
+
+def cases(rng):
+    yield from by_hand()
+    site, condition = dense_site(), every_kind()
+    for edit in every_edit():
+        yield site, condition, sheet(edit)
+    yield from order()
     for _ in range(150):
         site = lists.random_site(rng, rng.choice((0, 5, 30, 120)))
         condition = lists.random_condition(rng)

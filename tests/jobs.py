@@ -15,6 +15,7 @@ import changes
 import lists
 import pieces
 from layout import *
+from pieces import named, sheet
 
 SEED = 65536
 
@@ -95,14 +96,6 @@ def answer(file):
 
 # ---- cases
 
-def sheet(*edits):
-    return bytearray(b for edit in edits for b in (list(edit) + [0, 0, 0])[:EDIT_BYTES])
-
-
-def name(n):
-    return pieces.table((3, n, 0, 0))
-
-
 def with_bytes(d, *changed):
     d = bytearray(d)
     for at, value in changed:
@@ -129,12 +122,12 @@ def by_hand():
     yield A, R, sheet((8, 1))
     yield A, R, sheet((0, 1, 2), (6, 4, 1))
     yield A, R, sheet((6, 4, 1), (0, 1, 2))
-    yield A, name(3), sheet((7, 3, 4))
-    yield A, name(3), sheet((7, 3, 3))
+    yield A, named(3), sheet((7, 3, 4))
+    yield A, named(3), sheet((7, 3, 3))
     yield A, R, sheet((4, 4, 1, 2))
     yield A, R, sheet((4, 4, 1, 1))
-    yield A, name(1), sheet((1, 1, 1, 4))
-    yield A, name(1), sheet((1, 1, 3, 4))
+    yield A, named(1), sheet((1, 1, 1, 4))
+    yield A, named(1), sheet((1, 1, 3, 4))
     yield A, pieces.table((0, 0, 0, 0), (5, 0, 0, 0), (9, 4, 1, 0)), sheet()
     ring = with_bytes(A, (target_at(4, 1), 3))
     for kind in (11, 10):

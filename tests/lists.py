@@ -38,7 +38,7 @@ class Site:
         return ALL if way == EVERYWHERE else self.next[way].get(s, set())
 
 
-def list_slots(site, nodes):
+def free_variables(nodes):
     free = []
     for kind, param, left, right in nodes:
         if kind == 4:
@@ -52,48 +52,58 @@ def list_slots(site, nodes):
         else:
             f = frozenset()
         free.append(frozenset(f))
-    memo = {}
+    return free
 
-    def value(i, env):
-        key = (i, tuple((v, env[v]) for v in sorted(free[i])))
-        if key not in memo:
-            memo[key] = compute(i, env)
-        return memo[key]
 
-    def compute(i, env):
-        kind, param, left, right = nodes[i]
+class Lister:
+    """The sets of the nodes of a table on a site, each for the values of its free variables."""
+
+    def __init__(self, site, nodes):
+        self.site, self.nodes, self.free, self.memo = site, nodes, free_variables(nodes), {}
+
+    def value(self, i, env):
+        key = (i, tuple((v, env[v]) for v in sorted(self.free[i])))
+        if key not in self.memo:
+            self.memo[key] = self.leaf(i, env) if self.nodes[i][0] in (0, 1, 2, 3, 4, 12) else self.inner(i, env)
+        return self.memo[key]
+
+    def leaf(self, i, env):
+        kind, param, _, _ = self.nodes[i]
         if kind == 0:
             return ALL
         if kind == 1:
-            return site.present
+            return self.site.present
         if kind == 2:
-            return site.labels[param]
+            return self.site.labels[param]
         if kind == 3:
-            return frozenset({site.names[param]})
-        if kind == 4:
-            return env[param]
-        if kind == 12:
-            return frozenset({param})
+            return frozenset({self.site.names[param]})
+        return env[param] if kind == 4 else frozenset({param})
+
+    def inner(self, i, env):
+        kind, param, left, right = self.nodes[i]
+        if kind in (10, 11):
+            return self.loop(left, param, frozenset() if kind == 10 else ALL, env)
+        body = self.value(left, env)
         if kind == 5:
-            return ALL - value(left, env)
+            return ALL - body
         if kind == 6:
-            return value(left, env) | value(right, env)
+            return body | self.value(right, env)
         if kind == 7:
-            return value(left, env) & value(right, env)
+            return body & self.value(right, env)
         if kind == 8:
-            body = value(left, env)
-            return frozenset(s for s in ALL if not body.isdisjoint(site.neighbours(param, s)))
-        if kind == 9:
-            body = value(left, env)
-            return frozenset(s for s in ALL if site.neighbours(param, s) <= body)
-        now = frozenset() if kind == 10 else ALL
+            return frozenset(s for s in ALL if not body.isdisjoint(self.site.neighbours(param, s)))
+        return frozenset(s for s in ALL if self.site.neighbours(param, s) <= body)
+
+    def loop(self, body, variable, now, env):
         while True:
-            then = value(left, {**env, param: now})
+            then = self.value(body, {**env, variable: now})
             if then == now:
                 return now
             now = then
 
-    return value(len(nodes) - 1, {})
+
+def list_slots(site, nodes):
+    return Lister(site, nodes).value(len(nodes) - 1, {})
 
 
 def answer(site, condition):
@@ -138,7 +148,7 @@ def random_condition(rng):
             return d
 
 
-def cases(rng):
+def by_hand():
     a = pieces.site_a()
     t = pieces.table
     yield a, pieces.R
@@ -169,6 +179,11 @@ def cases(rng):
     yield a[:-1], pieces.R[:-1]
     yield a, t((4, 0, 0, 0), (5, 0, 0, 0), (10, 0, 1, 0))
     yield a, t((4, 0, 0, 0))
+
+
+def cases(rng):
+    t = pieces.table
+    yield from by_hand()
     # every way, both modalities
     site = random_site(rng, 60)
     for way in range(WAYS):

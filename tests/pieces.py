@@ -162,6 +162,15 @@ def table(*nodes):
     return d
 
 
+def named(n):
+    """The condition "name n"."""
+    return table((3, n, 0, 0))
+
+
+def sheet(*edits):
+    return bytearray(b for edit in edits for b in (list(edit) + [0, 0, 0])[:EDIT_BYTES])
+
+
 def full_table(kind):
     """A leaf, and ors as far as a table goes."""
     return table((kind, 0, 0, 0), *((6, 0, i, i) for i in range(NODES - 1)))
