@@ -13,23 +13,25 @@ use Rattle.finite.specs.Laws.Bools.{either}
 use Rattle.finite.specs.Laws.Below.{equal?}
 use Rattle.finite.specs.Laws.Bits.{bit-or, bit-and, bit-not}
 use Rattle.finite.specs.Laws.Weights.{bit-zero, bit-weight}
+use Rattle.limits.specs.Limits.{variables}
 use Rattle.semantics.specs.Form.{Form, occ, even}
 use Rattle.semantics.specs.Table.{kindOf, build, atom, one, two, treeAt}
 use Rattle.condition.specs.Bytes.{nodeAt, tableOf}
-use Rattle.condition.specs.Laws.Limits.{each-kind, kind-past}
+use Rattle.condition.specs.Limits.{paramLimit}
+use Rattle.condition.specs.Laws.Limits.{each-kind, kind-past, limit-loop}
 use Rattle.condition.specs.Laws.Fits.{node-tree}
-use Rattle.even_rule.specs.Masks.{Shows, Row, Children, Fit}
+use Rattle.even_rule.specs.Masks.{maskBits, fullMask, Shows, Row, Children, Fit}
 
 -- ---- masks
 
 -- the mask of one variable, as the code computes it
-pub weight : (v : ℕ) → v < 16 → (1 * 2 ^ v) % 65536 ≡ 2 ^ v
+pub weight : (v : ℕ) → v < variables → (1 * 2 ^ v) % 2 ^ maskBits ≡ 2 ^ v
 weight v h = rw one-mul (mod-eq-of-lt (pow-lt h))
 
-pub bit-without : (m u v : ℕ) → u < 16 → v < 16 → bit (bitAnd m (65535 - 2 ^ u)) v ≡ (not (same u v) && bit m v)
+pub bit-without : (m u v : ℕ) → u < variables → v < variables → bit (bitAnd m (fullMask - 2 ^ u)) v ≡ (not (same u v) && bit m v)
 bit-without m u v hu hv =
-    bit-and m (65535 - 2 ^ u) v
-    ∙ ap (λ (b : Bool). bit m v && b) (bit-not 16 (2 ^ u) v (pow-lt hu) hv ∙ ap not (bit-weight u v))
+    bit-and m (fullMask - 2 ^ u) v
+    ∙ ap (λ (b : Bool). bit m v && b) (bit-not maskBits (2 ^ u) v (pow-lt hu) hv ∙ ap not (bit-weight u v))
     ∙ and-comm (bit m v) (not (same u v))
 
 -- ---- the mask of a tree, from those of the trees below it
@@ -69,7 +71,7 @@ module _ (b : Bool) (p : ℕ) (φ ψ : Form) where
   unfolding Shows kindOf build one occ
   shows-step k m h g s v l = either (equal? k 8) (λ q. rw q (s v l)) (λ q. rw (let r : k ≡ 9 = omega arith in r) (s v l))
 
-  pub shows-loop : (k m : ℕ) → 10 ≤ k → k ≤ 11 → p < 16 → Shows b φ m → Shows b (build (kindOf k) p φ ψ) (bitAnd m (65535 - 2 ^ p))
+  pub shows-loop : (k m : ℕ) → 10 ≤ k → k ≤ 11 → p < variables → Shows b φ m → Shows b (build (kindOf k) p φ ψ) (bitAnd m (fullMask - 2 ^ p))
   unfolding Shows kindOf build one occ
   shows-loop k m h g small s v l =
       let e = bit-without m p v small l ∙ ap (λ (a : Bool). not (same p v) && a) (s v l) in
@@ -130,8 +132,9 @@ module _ (S own other : List ℕ) (i k : ℕ) (b : Bool) (f : Fit S) (h : 6 * i 
     unfolding Row
     mask-step l g = shown _ (rw (← ej) (shows-step b _ _ _ k _ l (omega arith) (below-left (omega arith) (omega arith) .0)))
 
-    pub mask-loop : 10 ≤ k → k < 12 → (p m : ℕ) → p ≡ nodeAt S i .param → p < 16 → m ≡ bitAnd (getD own j 0) (65535 - 2 ^ p)
+    pub mask-loop : 10 ≤ k → k < 12 → (p m : ℕ) → p ≡ nodeAt S i .param → p < paramLimit (kindOf (nodeAt S i .kind)) → m ≡ bitAnd (getD own j 0) (fullMask - 2 ^ p)
         → Shows b (treeAt (tableOf S) i) m
     unfolding Row
-    mask-loop l g p m ep small em =
+    mask-loop l g p m ep few em =
+        let small : p < variables = rw (limit-loop (nodeAt S i .kind) (omega arith) (omega arith)) at few in
         rw em (shown _ (rw (← ej, ← ep) (shows-loop b p _ _ k _ l (omega arith) small (below-left (omega arith) (omega arith) .0))))
