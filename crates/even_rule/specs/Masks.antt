@@ -6,7 +6,7 @@ use Prim.Native.Nat.{ℕ, _+_, _*_, _≤_, _<_}
 use lib.ListN.{length, getD}
 use lib.Bits.{bitOr}
 use Rattle.finite.specs.Tests.{bit}
-use Rattle.limits.specs.Limits.{variables, tableNodes, tableBytes}
+use Rattle.limits.specs.Limits.{variables, tableNodes, tableBytes, notNo, orNo, andNo, nuNo}
 use Rattle.semantics.specs.Form.{Form, occ}
 use Rattle.semantics.specs.Table.{treeAt, nodesFit}
 use Rattle.condition.specs.Bytes.{nodeAt, tableOf}
@@ -29,8 +29,8 @@ Row b S own other j = Shows b (treeAt (tableOf S) j) (getD own j 0) × Shows (no
 
 -- those of the children of node i are
 pub record Children (b : Bool) (S own other : List ℕ) (i : ℕ) : Type 0 where
-  pub left : 5 ≤ nodeAt S i .kind → nodeAt S i .kind ≤ 11 → Row b S own other (nodeAt S i .left)
-  pub right : 6 ≤ nodeAt S i .kind → nodeAt S i .kind ≤ 7 → Row b S own other (nodeAt S i .right)
+  pub left : notNo ≤ nodeAt S i .kind → nodeAt S i .kind ≤ nuNo → Row b S own other (nodeAt S i .left)
+  pub right : orNo ≤ nodeAt S i .kind → nodeAt S i .kind ≤ andNo → Row b S own other (nodeAt S i .right)
 
 -- those of every node that is done are
 unfoldable pub Good : List ℕ → List ℕ → List ℕ → List ℕ → Type 0

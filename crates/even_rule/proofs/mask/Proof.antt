@@ -1,5 +1,6 @@
 -- `even_rule::mask` meets its contract: each return has the law of its kind.
 use Rattle.even_rule.specs.Laws.Shows.{mask-none, mask-slot, mask-var, mask-not, mask-two, mask-step, mask-loop}
+use Rattle.limits.specs.Limits.{varNo}
 use Rattle.condition.specs.Laws.Limits.{limit-variable, limit-loop}
 use Rattle.condition.specs.Bytes.{nodeAt}
 use native.Mathlib.Omega.{arith}
@@ -23,7 +24,7 @@ number-requires c κs = let p = c .before .before .before .before .before .befor
 variable-requires : tie.Need-variable-requires
 variable-requires c κs =
     let a = c .before .before .before .before .before .before .before .args in
-    let e : nodeAt (a .table .now) (a .i) .kind ≡ 4 = omega arith in
+    let e : nodeAt (a .table .now) (a .i) .kind ≡ varNo = omega arith in
     rw (limit-variable e) at (c .number .ensures .1)
 
 returns-2 : tie.Need-returns-2

@@ -15,7 +15,7 @@ use Rattle.finite.specs.Laws.Bools.{either, both}
 use Rattle.finite.specs.Laws.Below.{equal?, all-in, all-out, all-cong}
 use Rattle.finite.specs.Laws.Bits.{bit-or}
 use Rattle.finite.specs.Laws.Weights.{bit-zero, no-bits}
-use Rattle.limits.specs.Limits.{variables, tableNodes}
+use Rattle.limits.specs.Limits.{variables, tableNodes, muNo, nuNo, slotNo}
 use Rattle.semantics.specs.Form.{occ, free, closed, even}
 use Rattle.semantics.specs.Table.{kindOf, treeAt, formOf}
 use Rattle.condition.specs.Bytes.{nodeAt, tableOf}
@@ -30,13 +30,13 @@ use Rattle.even_rule.specs.Laws.Shows.{even-other, even-slot, even-loop}
 -- ---- item 9 at a node
 
 module _ (S : List ℕ) (i k : ℕ) (f : Fit S) (h : 6 * i + 6 ≤ length S) (e : k ≡ nodeAt S i .kind) where
-  pub keeps-low : k < 10 → false ≡ not (even (treeAt (tableOf S) i))
+  pub keeps-low : k < muNo → false ≡ not (even (treeAt (tableOf S) i))
   keeps-low l = rw (node-tree S (f .fits) i h, ← e) (sym (ap not (even-other true _ _ _ k l)))
 
-  pub keeps-high : 12 ≤ k → false ≡ not (even (treeAt (tableOf S) i))
+  pub keeps-high : slotNo ≤ k → false ≡ not (even (treeAt (tableOf S) i))
   keeps-high l = rw (node-tree S (f .fits) i h, ← e) (sym (ap not (even-slot true _ _ _ k l)))
 
-  pub breaks : 10 ≤ k → k ≤ 11 → (odds : List ℕ) → Odds S odds → (j p : ℕ) (r : Bool) → j ≡ nodeAt S i .left → j < i
+  pub breaks : muNo ≤ k → k ≤ nuNo → (odds : List ℕ) → Odds S odds → (j p : ℕ) (r : Bool) → j ≡ nodeAt S i .left → j < i
       → p ≡ nodeAt S i .param → p < paramLimit (kindOf (nodeAt S i .kind)) → r ≡ bit (getD odds j 0) p → r ≡ not (even (treeAt (tableOf S) i))
   unfolding Odds Shows
   breaks l g odds o j p r ej hj ep few er =
