@@ -14,6 +14,7 @@ ghost use mathlib.Core.Path.{_≡_};
 ghost use mathlib.Core.Bool.{true};
 ghost use Prim.Native.Nat.{_+_, _*_, _≤_, _<_};
 ghost use lib.ListN.{length};
+ghost use Rattle.limits.specs.Limits.{notNo, orNo, andNo, nuNo};
 ghost use Rattle.semantics.specs.Table.{kindOf, nodeFits, nodesFit};
 ghost use Rattle.condition.specs.Bytes.{wordAt, nodeAt, tableOf};
 ghost use Rattle.condition.specs.Limits.{paramLimit, childLimit};
@@ -92,7 +93,7 @@ pub fn number(table: &[u8], i: usize) -> usize
 pub fn left_child(table: &[u8], i: usize) -> usize
     requires { ⌜ nodesFit 0 (tableOf (now table)) ≡ true ⌝ }
     requires { ⌜ 6 * i + 6 ≤ length (now table) ⌝ }
-    requires { ⌜ (5 ≤ nodeAt (now table) i .kind) × (nodeAt (now table) i .kind ≤ 11) ⌝ }
+    requires { ⌜ (notNo ≤ nodeAt (now table) i .kind) × (nodeAt (now table) i .kind ≤ nuNo) ⌝ }
     ensures { λ r. ⌜ (r ≡ nodeAt (now (table .entry)) i .left) × (r < i) ⌝ }
 {
     left(table, i)
@@ -101,7 +102,7 @@ pub fn left_child(table: &[u8], i: usize) -> usize
 pub fn right_child(table: &[u8], i: usize) -> usize
     requires { ⌜ nodesFit 0 (tableOf (now table)) ≡ true ⌝ }
     requires { ⌜ 6 * i + 6 ≤ length (now table) ⌝ }
-    requires { ⌜ (6 ≤ nodeAt (now table) i .kind) × (nodeAt (now table) i .kind ≤ 7) ⌝ }
+    requires { ⌜ (orNo ≤ nodeAt (now table) i .kind) × (nodeAt (now table) i .kind ≤ andNo) ⌝ }
     ensures { λ r. ⌜ (r ≡ nodeAt (now (table .entry)) i .right) × (r < i) ⌝ }
 {
     right(table, i)
