@@ -136,7 +136,8 @@ def random_condition(rng):
     """A closed table with loops, mostly under the even rule: loops close their variables at the end."""
     while True:
         kind = rng.choice((2, 3))
-        nodes = [(4, v, 0, 0) for v in range(3)] + [(kind, rng.randrange(pieces.PARAMS[kind]), 0, 0), (12, rng.randrange(SLOTS), 0, 0), (1, 0, 0, 0)]
+        nodes = [(4, 0, 0, 0), (4, 1, 0, 0), (4, 2, 0, 0), (kind, rng.randrange(pieces.PARAMS[kind]), 0, 0)]
+        nodes += [(12, rng.randrange(SLOTS), 0, 0), (1, 0, 0, 0)]
         for i in range(len(nodes), len(nodes) + rng.randrange(3, 25)):
             kind = rng.choice((5, 6, 6, 7, 8, 8, 8, 9, 9, 10, 11, 10, 11))
             child = lambda: rng.choice((i - 1, rng.randrange(i)))

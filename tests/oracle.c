@@ -108,8 +108,8 @@ static void table_write(const struct node *table, size_t count, uint8_t *bytes)
 {
     memset(bytes, 0, DESK_TABLE_BYTES);
     for (size_t i = 0; i < count; i++, bytes += DESK_NODE_BYTES) {
-        const int fields[DESK_NODE_BYTES] = {table[i].kind, table[i].param, table[i].left % 256, table[i].left / 256,
-                               table[i].right % 256, table[i].right / 256};
+        const int fields[DESK_NODE_BYTES] = {table[i].kind,       table[i].param,       table[i].left % 256,
+                                             table[i].left / 256, table[i].right % 256, table[i].right / 256};
         for (int k = 0; k < DESK_NODE_BYTES; k++)
             bytes[k] = (uint8_t)fields[k];
     }
