@@ -19,12 +19,12 @@
 extern "C" {
 #endif
 
-/* The lengths that buffers have. */
-#define DESK_SET_BYTES 32        /* slot s is byte s / 8, weight 2 to the power s mod 8 */
-#define DESK_CLASSES_BYTES 256   /* the class number of each slot */
-#define DESK_SITE_BYTES 34352    /* present, labels, names, links 4 to 7, links 0 to 3 */
-#define DESK_TABLE_BYTES 12288   /* a rewritten condition, then zeros */
-#define DESK_WORK_BYTES 65536    /* all zeros at return */
+/* How many slots, labels, names and links there are. */
+#define DESK_SLOT_COUNT 256
+#define DESK_LABEL_COUNT 16
+#define DESK_NAME_COUNT 16
+#define DESK_GENERAL_COUNT 4     /* links 0 to 3 */
+#define DESK_FUNCTIONAL_COUNT 4  /* links 4 to 7 */
 
 /* The limits of inputs. */
 #define DESK_FILE_MAX_BYTES 65536
@@ -33,6 +33,18 @@ extern "C" {
 #define DESK_EDIT_BYTES 4        /* operation and three operands */
 #define DESK_EDITS_MAX 64
 #define DESK_TRAILER_BYTES 12    /* distances back to the sheet, the condition and the site */
+
+/* The lengths that buffers have. A site is the present slots and then, at these places, the labels, the names, links 4 to 7, links 0 to 3. */
+#define DESK_SET_BYTES 32        /* slot s is byte s / 8, weight 2 to the power s mod 8 */
+#define DESK_CLASSES_BYTES DESK_SLOT_COUNT /* the class number of each slot */
+#define DESK_LABELS_AT DESK_SET_BYTES
+#define DESK_NAMES_AT (DESK_LABELS_AT + DESK_SET_BYTES * DESK_LABEL_COUNT)
+#define DESK_TARGETS_AT (DESK_NAMES_AT + DESK_NAME_COUNT)
+#define DESK_ROWS_AT (DESK_TARGETS_AT + DESK_SLOT_COUNT * DESK_FUNCTIONAL_COUNT)
+#define DESK_ROWS_BYTES (DESK_SET_BYTES * DESK_SLOT_COUNT)
+#define DESK_SITE_BYTES (DESK_ROWS_AT + DESK_ROWS_BYTES * DESK_GENERAL_COUNT)
+#define DESK_TABLE_BYTES (DESK_NODE_BYTES * DESK_NODES_MAX) /* a rewritten condition, then zeros */
+#define DESK_WORK_BYTES (DESK_SET_BYTES * DESK_NODES_MAX)   /* all zeros at return */
 
 #define DESK_STACK_BYTES 4194304
 
