@@ -5,15 +5,29 @@
 
 use std::ops::{BitAnd, BitOr, Not};
 
-pub const SITE: usize = 34_352;
-pub const TABLE: usize = 12_288;
-pub const WORK: usize = 65_536;
-const NODES: usize = 2_048;
-const LABELS: usize = 32;
-const NAMES: usize = 544;
-const TARGETS: usize = 560;
-const ROWS: usize = 1_584;
-const E: u8 = 16;
+// How many slots, labels, names, links and variables there are, and nodes at most. Links below GENERAL are general.
+pub const SLOTS: usize = 256;
+pub const LABELS: usize = 16;
+pub const NAMES: usize = 16;
+pub const LINKS: usize = 8;
+pub const GENERAL: usize = 4;
+pub const VARIABLES: usize = 16;
+pub const NODES: usize = 2_048;
+
+// The way that leads everywhere, behind the links and their reverses.
+pub const E: usize = 2 * LINKS;
+
+// The bytes of a set and of a node; where the parts of a site start; the bytes of a general link, and of the buffers.
+pub const SET: usize = SLOTS / 8;
+pub const NODE: usize = 6;
+pub const LABELS_AT: usize = SET;
+pub const NAMES_AT: usize = LABELS_AT + SET * LABELS;
+pub const TARGETS_AT: usize = NAMES_AT + NAMES;
+pub const ROWS_AT: usize = TARGETS_AT + SLOTS * (LINKS - GENERAL);
+pub const ROWS: usize = SET * SLOTS;
+pub const SITE: usize = ROWS_AT + ROWS * GENERAL;
+pub const TABLE: usize = NODE * NODES;
+pub const WORK: usize = SET * NODES;
 
 #[derive(Debug, PartialEq)]
 #[repr(C)]
@@ -156,25 +170,25 @@ struct Site<'a>(&'a [u8; SITE]);
 
 impl<'a> Site<'a> {
     fn present(self) -> Set {
-        Set::read(&self.0[..LABELS])
+        Set::read(&self.0[..SET])
     }
 
     fn label(self, p: usize) -> Set {
-        Set::read(&self.0[LABELS + 32 * p..])
+        Set::read(&self.0[LABELS_AT + SET * p..])
     }
 
     fn name(self, n: usize) -> usize {
-        self.0[NAMES + n] as usize
+        self.0[NAMES_AT + n] as usize
     }
 
-    /// The targets of link f, which is 4 to 7.
-    fn targets(self, f: usize) -> &'a [u8; 256] {
-        let at = TARGETS + 256 * (f - 4);
-        self.0[at..at + 256].try_into().unwrap()
+    /// The targets of the functional link f.
+    fn targets(self, f: usize) -> &'a [u8; SLOTS] {
+        let at = TARGETS_AT + SLOTS * (f - GENERAL);
+        self.0[at..at + SLOTS].try_into().unwrap()
     }
 
     fn row(self, m: usize, s: usize) -> Set {
-        Set::read(&self.0[ROWS + 8192 * m + 32 * s..])
+        Set::read(&self.0[ROWS_AT + ROWS * m + SET * s..])
     }
 
     /// Items 3 to 6.
@@ -182,17 +196,17 @@ impl<'a> Site<'a> {
         let Ok(bytes) = bytes.try_into() else { return Err((3, 0)) };
         let site = Site(bytes);
         let present = site.present();
-        if !present.has(0) || site.name(0) != 0 || !(0..16).all(|n| present.has(site.name(n))) {
+        if !present.has(0) || site.name(0) != 0 || !(0..NAMES).all(|n| present.has(site.name(n))) {
             item(4)?;
         }
-        if !(0..16).all(|p| site.label(p).inside(present)) {
+        if !(0..LABELS).all(|p| site.label(p).inside(present)) {
             item(5)?;
         }
         let ends = present & !Set::only(0);
         let row_fits = |m, s| site.row(m, s).inside(if ends.has(s) { ends } else { Set::NONE });
         let target_fits = |s, t: usize| t == 0 || ends.has(s) && ends.has(t);
-        let general = (0..4).all(|m| (0..256).all(|s| row_fits(m, s)));
-        let functional = (4..8).all(|f| site.targets(f).iter().enumerate().all(|(s, &t)| target_fits(s, t as usize)));
+        let general = (0..GENERAL).all(|m| (0..SLOTS).all(|s| row_fits(m, s)));
+        let functional = (GENERAL..LINKS).all(|f| site.targets(f).iter().enumerate().all(|(s, &t)| target_fits(s, t as usize)));
         if !general || !functional {
             item(6)?;
         }
@@ -223,12 +237,14 @@ impl Node {
     fn fits(self, number: usize) -> bool {
         let (params, left, right) = match self.kind {
             0 | 1 => (1, false, false),
-            2 | 3 | 4 => (16, false, false),
+            2 => (LABELS, false, false),
+            3 => (NAMES, false, false),
+            4 => (VARIABLES, false, false),
             5 => (1, true, false),
             6 | 7 => (1, true, true),
-            8 | 9 => (17, true, false),
-            10 | 11 => (16, true, false),
-            12 => (256, false, false),
+            8 | 9 => (E + 1, true, false),
+            10 | 11 => (VARIABLES, true, false),
+            12 => (SLOTS, false, false),
             _ => return false,
         };
         let child = |used: bool, c: u16| if used { (c as usize) < number } else { c == 0 };
@@ -245,10 +261,10 @@ struct Condition {
 impl Condition {
     /// Items 7 to 10.
     fn check(bytes: &[u8]) -> Result<Condition, Refusal> {
-        if bytes.is_empty() || bytes.len() % 6 != 0 || bytes.len() > TABLE {
+        if bytes.is_empty() || bytes.len() % NODE != 0 || bytes.len() > TABLE {
             return Err((7, 0));
         }
-        let nodes: Vec<Node> = bytes.chunks_exact(6).map(Node::read).collect();
+        let nodes: Vec<Node> = bytes.chunks_exact(NODE).map(Node::read).collect();
         if let Some(w) = nodes.iter().enumerate().position(|(i, n)| !n.fits(i)) {
             return Err((8, w as u32));
         }
@@ -286,14 +302,14 @@ struct Lister<'a> {
     condition: &'a Condition,
     sets: Vec<Set>,
     known: Vec<bool>,
-    variables: [Set; 16],
+    variables: [Set; VARIABLES],
 }
 
 impl Lister<'_> {
     fn list(site: Site, condition: &Condition) -> Set {
         let n = condition.nodes.len();
         let (sets, known) = (vec![Set::NONE; n], vec![false; n]);
-        Lister { site, condition, sets, known, variables: [Set::NONE; 16] }.set(n - 1)
+        Lister { site, condition, sets, known, variables: [Set::NONE; VARIABLES] }.set(n - 1)
     }
 
     fn set(&mut self, i: usize) -> Set {
@@ -354,19 +370,19 @@ impl Lister<'_> {
     }
 
     fn diamond(&self, way: usize, set: Set) -> Set {
-        let (site, link) = (self.site, way % 8);
+        let (site, link) = (self.site, way % LINKS);
         let mut found = Set::NONE;
         match way {
-            0..=3 => site.present().slots().filter(|&s| site.row(link, s).meets(set)).for_each(|s| found.insert(s)),
-            4..=7 => {
+            0..GENERAL => site.present().slots().filter(|&s| site.row(link, s).meets(set)).for_each(|s| found.insert(s)),
+            GENERAL..LINKS => {
                 for (s, &t) in site.targets(link).iter().enumerate() {
                     if t != 0 && set.has(t as usize) {
                         found.insert(s);
                     }
                 }
             }
-            8..=11 => set.slots().for_each(|s| found = found | site.row(link, s)),
-            12..=15 => {
+            _ if way < LINKS + GENERAL => set.slots().for_each(|s| found = found | site.row(link, s)),
+            _ if way < E => {
                 let targets = site.targets(link);
                 for t in set.slots().map(|s| targets[s] as usize) {
                     if t != 0 {
@@ -399,12 +415,14 @@ enum Edit {
 impl Edit {
     fn read(b: &[u8]) -> Option<Edit> {
         let (x, y, z) = (b[1], b[2], b[3]);
-        let (name, moved, link, functional) = (|n| n < 16, |n| (1..16).contains(&n), |m| m < 8, |f| (4..8).contains(&f));
+        let below = |x: u8, limit: usize| (x as usize) < limit;
+        let (name, label, link) = (|n| below(n, NAMES), |p| below(p, LABELS), |m| below(m, LINKS));
+        let (moved, functional) = (|n| n > 0 && name(n), |f| link(f) && !below(f, GENERAL));
         Some(match b[0] {
             0 if moved(x) && name(y) && z == 0 => Edit::Cn1(x, y),
             1 if moved(x) && name(y) && functional(z) => Edit::Cn2(x, y, z),
-            2 if name(x) && y < 16 && z == 0 => Edit::Ap(x, y),
-            3 if name(x) && y < 16 && z == 0 => Edit::Dp(x, y),
+            2 if name(x) && label(y) && z == 0 => Edit::Ap(x, y),
+            3 if name(x) && label(y) && z == 0 => Edit::Dp(x, y),
             4 if link(x) && name(y) && name(z) => Edit::At(x, y, z),
             5 if link(x) && name(y) && name(z) => Edit::Dt1(x, y, z),
             6 if functional(x) && name(y) && z == 0 => Edit::Dt2(x, y),
@@ -425,11 +443,11 @@ fn read_sheet(bytes: &[u8]) -> Result<Vec<Edit>, Refusal> {
 
 /// Does the edit to the site's bytes, or says that it does not go through.
 fn apply_edit(site: &mut [u8], edit: Edit) -> bool {
-    let name = |n: u8| NAMES + n as usize;
+    let name = |n: u8| NAMES_AT + n as usize;
     let at = |site: &[u8], n: u8| site[name(n)] as usize;
-    let label = |p: u8, s: usize| LABELS + 32 * p as usize + s / 8;
-    let row = |m: u8, s: usize| ROWS + 8192 * m as usize + 32 * s;
-    let target = |f: u8, s: usize| TARGETS + 256 * (f as usize - 4) + s;
+    let label = |p: u8, s: usize| LABELS_AT + SET * p as usize + s / 8;
+    let row = |m: u8, s: usize| ROWS_AT + ROWS * m as usize + SET * s;
+    let target = |f: u8, s: usize| TARGETS_AT + SLOTS * (f as usize - GENERAL) + s;
     let bit = |s: usize| 1u8 << (s % 8);
     match edit {
         Edit::Cn1(n1, n2) => site[name(n1)] = site[name(n2)],
@@ -447,7 +465,7 @@ fn apply_edit(site: &mut [u8], edit: Edit) -> bool {
             if s == 0 || t == 0 {
                 return false;
             }
-            if m < 4 {
+            if (m as usize) < GENERAL {
                 site[row(m, s) + t / 8] |= bit(t);
             } else {
                 let old = &mut site[target(m, s)];
@@ -459,7 +477,7 @@ fn apply_edit(site: &mut [u8], edit: Edit) -> bool {
         }
         Edit::Dt1(m, n1, n2) => {
             let (s, t) = (at(site, n1), at(site, n2));
-            if m < 4 {
+            if (m as usize) < GENERAL {
                 site[row(m, s) + t / 8] &= !bit(t);
             } else if site[target(m, s)] as usize == t {
                 site[target(m, s)] = 0;
@@ -488,20 +506,20 @@ fn apply_edit(site: &mut [u8], edit: Edit) -> bool {
 fn delete_slot(site: &mut [u8], s: usize) {
     let keep = !(1u8 << (s % 8));
     site[s / 8] &= keep;
-    for p in 0..16 {
-        site[LABELS + 32 * p + s / 8] &= keep;
+    for p in 0..LABELS {
+        site[LABELS_AT + SET * p + s / 8] &= keep;
     }
-    for place in &mut site[NAMES..ROWS] {
+    for place in &mut site[NAMES_AT..ROWS_AT] {
         if *place as usize == s {
             *place = 0;
         }
     }
-    for f in 0..4 {
-        site[TARGETS + 256 * f + s] = 0;
+    for f in GENERAL..LINKS {
+        site[TARGETS_AT + SLOTS * (f - GENERAL) + s] = 0;
     }
-    for rows in site[ROWS..].chunks_exact_mut(8192) {
-        rows[32 * s..32 * s + 32].fill(0);
-        for row in rows.chunks_exact_mut(32) {
+    for rows in site[ROWS_AT..].chunks_exact_mut(ROWS) {
+        rows[SET * s..SET * (s + 1)].fill(0);
+        for row in rows.chunks_exact_mut(SET) {
             row[s / 8] &= keep;
         }
     }
@@ -528,20 +546,16 @@ enum Change {
 }
 
 fn change(edit: Edit, way: u8) -> Change {
-    let reverse = way >= 8;
+    let (link, reverse) = (way % LINKS as u8, way >= LINKS as u8);
     match edit {
-        Edit::Ds(n) if way < E => Change::NoneAt(n),
-        Edit::At(m, a, b) if way == m => Change::Added(a, b),
-        Edit::At(m, a, b) if way == m + 8 => Change::Added(b, a),
-        Edit::Dt1(m, a, b) if way == m => Change::Removed(a, b),
-        Edit::Dt1(m, a, b) if way == m + 8 => Change::Removed(b, a),
-        Edit::Dt2(f, n) if way % 8 == f && way < E => {
-            if reverse {
-                Change::NoneTo(n)
-            } else {
-                Change::NoneFrom(n)
-            }
-        }
+        _ if way as usize == E => Change::Keep,
+        Edit::Ds(n) => Change::NoneAt(n),
+        Edit::At(m, a, b) if link == m && reverse => Change::Added(b, a),
+        Edit::At(m, a, b) if link == m => Change::Added(a, b),
+        Edit::Dt1(m, a, b) if link == m && reverse => Change::Removed(b, a),
+        Edit::Dt1(m, a, b) if link == m => Change::Removed(a, b),
+        Edit::Dt2(f, n) if link == f && reverse => Change::NoneTo(n),
+        Edit::Dt2(f, n) if link == f => Change::NoneFrom(n),
         _ => Change::Keep,
     }
 }
@@ -587,13 +601,13 @@ impl Table {
 
     fn moved_name(&mut self, n2: u8, f: u8) -> u16 {
         let from = self.name(n2);
-        let reached = self.diamond(f + 8, from);
+        let reached = self.diamond(f + LINKS as u8, from);
         let nil = self.name(0);
         let from = self.name(n2);
         let all = self.push(0, 0, 0, 0);
         let leads = self.diamond(f, all);
         let both = self.and(from, leads);
-        let some = self.diamond(E, both);
+        let some = self.diamond(E as u8, both);
         let no = self.not(some);
         let there = self.and(nil, no);
         self.or(reached, there)
@@ -606,7 +620,7 @@ impl Table {
         let n = self.name(n);
         let y = self.name(y);
         let both = self.and(n, y);
-        let some = self.diamond(E, both);
+        let some = self.diamond(E as u8, both);
         let there = self.and(nil, some);
         self.or(kept, there)
     }
@@ -652,7 +666,7 @@ impl Table {
                 let a = self.name(a);
                 let b = self.name(b);
                 let hit = self.and(b, t);
-                let some = self.diamond(E, hit);
+                let some = self.diamond(E as u8, hit);
                 let new = self.and(a, some);
                 self.or(old, new)
             }
@@ -701,7 +715,7 @@ impl Table {
                 let b = self.name(b);
                 let not_b = self.not(b);
                 let hit = self.or(not_b, t);
-                let all = self.boxed(E, hit);
+                let all = self.boxed(E as u8, hit);
                 let new = self.or(other, all);
                 self.and(old, new)
             }
@@ -768,21 +782,21 @@ fn rewrite_sheet(nodes: &[Node], sheet: &[Edit]) -> Result<Vec<Node>, Refusal> {
 }
 
 fn write_table(nodes: &[Node], out: &mut [u8]) {
-    for (chunk, node) in out.chunks_exact_mut(6).zip(nodes) {
+    for (chunk, node) in out.chunks_exact_mut(NODE).zip(nodes) {
         node.write(chunk);
     }
-    out[6 * nodes.len()..].fill(0);
+    out[NODE * nodes.len()..].fill(0);
 }
 
 // ---- classes
 
-type Classes = [u8; 256];
+type Classes = [u8; SLOTS];
 
 /// Each class, split by the keys of its slots. A class has its lowest slot as its number; `next` leads to those split off it, and
 /// slot 0 is never one of these.
-fn split<K: PartialEq>(classes: &Classes, keys: &[K; 256]) -> Classes {
-    let (mut new, mut next) = (*classes, [0u8; 256]);
-    for s in 0..256 {
+fn split<K: PartialEq>(classes: &Classes, keys: &[K; SLOTS]) -> Classes {
+    let (mut new, mut next) = (*classes, [0u8; SLOTS]);
+    for s in 0..SLOTS {
         let mut class = classes[s] as usize;
         while keys[class] != keys[s] {
             if next[class] == 0 {
@@ -796,12 +810,12 @@ fn split<K: PartialEq>(classes: &Classes, keys: &[K; 256]) -> Classes {
 }
 
 /// The neighbours of each slot, for the ways of links that are there.
-fn neighbours(site: Site) -> Vec<[Set; 256]> {
-    let mut ways = Vec::with_capacity(16);
-    for m in 0..8 {
-        let (mut there, mut back) = ([Set::NONE; 256], [Set::NONE; 256]);
+fn neighbours(site: Site) -> Vec<[Set; SLOTS]> {
+    let mut ways = Vec::with_capacity(E);
+    for m in 0..LINKS {
+        let (mut there, mut back) = ([Set::NONE; SLOTS], [Set::NONE; SLOTS]);
         for s in site.present().slots() {
-            if m < 4 {
+            if m < GENERAL {
                 there[s] = site.row(m, s);
             } else if site.targets(m)[s] != 0 {
                 there[s].insert(site.targets(m)[s] as usize);
@@ -829,7 +843,7 @@ fn seen(row: Set, classes: &Classes, lowest: Set, members: &[(usize, Set)]) -> S
 
 /// The classes of more than one slot, and the lowest slots of all.
 fn members(classes: &Classes) -> (Vec<(usize, Set)>, Set) {
-    let (mut sets, mut lowest) = ([Set::NONE; 256], Set::NONE);
+    let (mut sets, mut lowest) = ([Set::NONE; SLOTS], Set::NONE);
     for (s, &class) in classes.iter().enumerate() {
         sets[class as usize].insert(s);
         lowest.insert(class as usize);
@@ -839,18 +853,18 @@ fn members(classes: &Classes) -> (Vec<(usize, Set)>, Set) {
 
 /// Rounds of refinement, until one changes nothing.
 fn refine(site: Site) -> Classes {
-    let marks: [u64; 256] = std::array::from_fn(|s| {
-        let labels = (0..16).fold(0, |bits, p| bits | (site.label(p).has(s) as u64) << p);
-        let names = (0..16).fold(0, |bits, n| bits | ((site.name(n) == s) as u64) << n);
-        labels | names << 16 | (site.present().has(s) as u64) << 32
+    let marks: [[u64; 3]; SLOTS] = std::array::from_fn(|s| {
+        let labels = (0..LABELS).fold(0, |bits, p| bits | (site.label(p).has(s) as u64) << p);
+        let names = (0..NAMES).fold(0, |bits, n| bits | ((site.name(n) == s) as u64) << n);
+        [site.present().has(s) as u64, labels, names]
     });
     let ways = neighbours(site);
-    let mut classes = split(&[0; 256], &marks);
+    let mut classes = split(&[0; SLOTS], &marks);
     loop {
         let (members, lowest) = members(&classes);
         let mut new = classes;
         for rows in &ways {
-            let keys: [Set; 256] = std::array::from_fn(|s| seen(rows[s], &classes, lowest, &members));
+            let keys: [Set; SLOTS] = std::array::from_fn(|s| seen(rows[s], &classes, lowest, &members));
             new = split(&new, &keys);
         }
         if new == classes {
@@ -878,7 +892,7 @@ fn lengths(buffers: &[(&[u8], usize)]) -> Result<(), Refusal> {
 
 pub fn list(site: &[u8], cond: &[u8], set: &mut [u8], work: &mut [u8]) -> Listed {
     let found = (|| {
-        lengths(&[(set, 32), (work, WORK)])?;
+        lengths(&[(set, SET), (work, WORK)])?;
         let site = Site::check(site)?;
         let condition = Condition::check(cond)?;
         Ok(Lister::list(site, &condition))
@@ -932,7 +946,7 @@ pub fn rewrite(cond: &[u8], sheet: &[u8], result: &mut [u8]) -> Rewritten {
 
 pub fn classes(site: &[u8], classes: &mut [u8]) -> Classed {
     let found = (|| {
-        lengths(&[(classes, 256)])?;
+        lengths(&[(classes, SLOTS)])?;
         Ok(refine(Site::check(site)?))
     })();
     match found {
@@ -973,7 +987,7 @@ pub struct Results<'a> {
 }
 
 fn run_job(file: &[u8], out: &mut Results) -> Result<Done, Refusal> {
-    lengths(&[(out.site, SITE), (out.table, TABLE), (out.after, 32), (out.today, 32), (out.classes, 256), (out.work, WORK)])?;
+    lengths(&[(out.site, SITE), (out.table, TABLE), (out.after, SET), (out.today, SET), (out.classes, SLOTS), (out.work, WORK)])?;
     let [site, cond, sheet] = pieces(file)?;
     let today = Site::check(site)?;
     let condition = Condition::check(cond)?;

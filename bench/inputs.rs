@@ -1,10 +1,6 @@
 //! Sites, conditions, sheets and job files to measure on.
 
-use crate::desk::SITE;
-
-const NAMES: usize = 544;
-const TARGETS: usize = 560;
-const ROWS: usize = 1_584;
+use crate::desk::{E, GENERAL, LABELS_AT, NAMES, NAMES_AT, NODE, ROWS, ROWS_AT, SET, SITE, SLOTS, TARGETS_AT, VARIABLES};
 
 /// The same numbers in every run.
 struct Random(u64);
@@ -28,9 +24,9 @@ fn put(set: &mut [u8], slot: usize) {
 fn bare(n: usize) -> Vec<u8> {
     let mut site = vec![0; SITE];
     (0..n).for_each(|s| put(&mut site, s));
-    put(&mut site[32..], 1);
-    for k in 1..16.min(n) {
-        site[NAMES + k] = k as u8;
+    put(&mut site[LABELS_AT..], 1);
+    for k in 1..NAMES.min(n) {
+        site[NAMES_AT + k] = k as u8;
     }
     site
 }
@@ -39,8 +35,8 @@ fn bare(n: usize) -> Vec<u8> {
 pub fn chain(n: usize) -> Vec<u8> {
     let mut site = bare(n);
     for s in 2..n {
-        site[TARGETS + s] = (s - 1) as u8;
-        site[TARGETS + 256 + s] = (s / 2) as u8;
+        site[TARGETS_AT + s] = (s - 1) as u8;
+        site[TARGETS_AT + SLOTS + s] = (s / 2) as u8;
     }
     site
 }
@@ -49,7 +45,7 @@ pub fn chain(n: usize) -> Vec<u8> {
 pub fn random(n: usize, arcs: usize) -> Vec<u8> {
     let mut site = chain(n);
     let mut random = Random(0x9e37_79b9_7f4a_7c15);
-    for row in (0..4).flat_map(|m| (1..n).map(move |s| ROWS + 8192 * m + 32 * s)) {
+    for row in (0..GENERAL).flat_map(|m| (1..n).map(move |s| ROWS_AT + ROWS * m + SET * s)) {
         (0..arcs).for_each(|_| put(&mut site[row..], 1 + random.below(n - 1)));
     }
     site
@@ -58,7 +54,7 @@ pub fn random(n: usize, arcs: usize) -> Vec<u8> {
 /// A chain, with every arc by every general link.
 pub fn full(n: usize) -> Vec<u8> {
     let mut site = chain(n);
-    for row in (0..4).flat_map(|m| (1..n).map(move |s| ROWS + 8192 * m + 32 * s)) {
+    for row in (0..GENERAL).flat_map(|m| (1..n).map(move |s| ROWS_AT + ROWS * m + SET * s)) {
         (1..n).for_each(|t| put(&mut site[row..], t));
     }
     site
@@ -66,26 +62,26 @@ pub fn full(n: usize) -> Vec<u8> {
 
 /// The same without labels, names and functional links: two classes.
 pub fn uniform() -> Vec<u8> {
-    let mut site = full(256);
-    site[32..ROWS].fill(0);
+    let mut site = full(SLOTS);
+    site[LABELS_AT..ROWS_AT].fill(0);
     site
 }
 
 /// The same with link 4 from each slot to the one below it: refinement comes in from both ends, in 128 rounds.
 pub fn rounds(general: bool) -> Vec<u8> {
-    let mut site = if general { uniform() } else { bare(256) };
-    site[32..TARGETS].fill(0);
-    (2..256).for_each(|s| site[TARGETS + s] = (s - 1) as u8);
+    let mut site = if general { uniform() } else { bare(SLOTS) };
+    site[LABELS_AT..TARGETS_AT].fill(0);
+    (2..SLOTS).for_each(|s| site[TARGETS_AT + s] = (s - 1) as u8);
     site
 }
 
 pub fn slots(site: &[u8]) -> u32 {
-    site[..32].iter().map(|b| b.count_ones()).sum()
+    site[..SET].iter().map(|b| b.count_ones()).sum()
 }
 
 pub fn arcs(site: &[u8]) -> u32 {
-    let general: u32 = site[ROWS..].iter().map(|b| b.count_ones()).sum();
-    general + site[TARGETS..ROWS].iter().filter(|&&t| t != 0).count() as u32
+    let general: u32 = site[ROWS_AT..].iter().map(|b| b.count_ones()).sum();
+    general + site[TARGETS_AT..ROWS_AT].iter().filter(|&&t| t != 0).count() as u32
 }
 
 // ---- conditions
@@ -95,7 +91,7 @@ struct Table(Vec<u8>);
 
 impl Table {
     fn len(&self) -> usize {
-        self.0.len() / 6
+        self.0.len() / NODE
     }
 
     fn push(&mut self, kind: u8, param: usize, left: usize, right: usize) -> usize {
@@ -153,8 +149,8 @@ pub fn line(n: usize) -> Vec<u8> {
         let k = t.len();
         last = match k % 3 {
             0 => t.push(5, 0, last, 0),
-            1 => t.diamond(k / 3 % 17, last),
-            _ => t.push(9, k / 3 % 17, last, 0),
+            1 => t.diamond(k / 3 % (E + 1), last),
+            _ => t.push(9, k / 3 % (E + 1), last, 0),
         };
     }
     t.0
@@ -209,7 +205,7 @@ pub fn loops(n: usize) -> Vec<u8> {
     let mut t = Table::default();
     let mut last = t.label(0);
     while t.len() < n {
-        last = t.push(10 + (t.len() % 2) as u8, t.len() % 16, last, 0);
+        last = t.push(10 + (t.len() % 2) as u8, t.len() % VARIABLES, last, 0);
     }
     t.0
 }
@@ -223,12 +219,12 @@ pub fn labels(n: usize) -> Vec<u8> {
 
 /// DT1: link 0 from name 1 to names 1, 2, ..
 pub fn cuts(n: usize) -> Vec<u8> {
-    (0..n).flat_map(|k| [5, 0, 1, 1 + (k % 15) as u8]).collect()
+    (0..n).flat_map(|k| [5, 0, 1, 1 + (k % (NAMES - 1)) as u8]).collect()
 }
 
 /// DS and then AS of the same slot, by turns.
 pub fn slots_gone(n: usize) -> Vec<u8> {
-    let slot = |k: usize| 2 + (k / 2 % 14) as u8;
+    let slot = |k: usize| 2 + (k / 2 % (NAMES - 2)) as u8;
     (0..n).flat_map(|k| if k % 2 == 0 { [8, slot(k), 0, 0] } else { [7, slot(k), slot(k), 0] }).collect()
 }
 

@@ -8,7 +8,7 @@ mod inputs;
 mod library;
 mod stack;
 
-use desk::{SITE, TABLE, WORK};
+use desk::{E, NODES, SET, SITE, SLOTS, TABLE, WORK};
 use std::time::Duration;
 
 /// Results and work buffers, for one side.
@@ -25,7 +25,7 @@ struct Buffers {
 impl Buffers {
     fn new() -> Buffers {
         let of = |length| vec![0xAA; length];
-        Buffers { site: of(SITE), table: of(TABLE), after: of(32), today: of(32), classes: of(256), work: of(WORK) }
+        Buffers { site: of(SITE), table: of(TABLE), after: of(SET), today: of(SET), classes: of(SLOTS), work: of(WORK) }
     }
 
     fn results(&mut self) -> desk::Results<'_> {
@@ -183,13 +183,13 @@ fn measure(what: &str, call: Call) {
 }
 
 fn listing() {
-    let (sparse, dense) = (inputs::random(256, 2), inputs::full(256));
+    let (sparse, dense) = (inputs::random(SLOTS, 2), inputs::full(SLOTS));
     title("Listing: nodes, on a sparse and on a dense site");
-    for n in [64, 128, 256, 512, 1024, 2048] {
+    for n in [64, 128, 256, 512, 1024, NODES] {
         measure("one path: nots, diamonds, boxes; sparse", Call::List(sparse.clone(), inputs::line(n)));
         measure("one path: nots, diamonds, boxes; dense", Call::List(dense.clone(), inputs::line(n)));
-        measure("shared: ors, ands, diamonds, boxes; sparse", Call::List(sparse.clone(), inputs::mixed(n, 17)));
-        measure("shared: ors, ands, diamonds, boxes; dense", Call::List(dense.clone(), inputs::mixed(n, 17)));
+        measure("shared: ors, ands, diamonds, boxes; sparse", Call::List(sparse.clone(), inputs::mixed(n, E + 1)));
+        measure("shared: ors, ands, diamonds, boxes; dense", Call::List(dense.clone(), inputs::mixed(n, E + 1)));
     }
     title("Listing: paths, each node the or of the one before with itself");
     for k in [1, 10, 100, 1000, 2000] {
@@ -209,7 +209,7 @@ fn listing() {
 }
 
 fn applying() {
-    let (sparse, dense) = (inputs::random(256, 2), inputs::full(256));
+    let (sparse, dense) = (inputs::random(SLOTS, 2), inputs::full(SLOTS));
     title("Applying: edits, on a sparse and on a dense site");
     for n in [1, 2, 4, 8, 16, 32, 64] {
         measure("all but DS and AS; sparse", Call::Apply(sparse.clone(), inputs::small_edits(n)));
@@ -221,23 +221,23 @@ fn applying() {
 
 fn rewriting() {
     title("Rewriting: nodes");
-    for n in [64, 128, 256, 512, 1024, 2047] {
-        measure("no edit", Call::Rewrite(inputs::mixed(n, 17), Vec::new()));
+    for n in [64, 128, 256, 512, 1024, NODES - 1] {
+        measure("no edit", Call::Rewrite(inputs::mixed(n, E + 1), Vec::new()));
         if n < 1500 {
-            measure("AP, one label", Call::Rewrite(inputs::mixed(n, 17), inputs::labels(1)));
-            measure("AP 64 times, one label", Call::Rewrite(inputs::mixed(n, 17), inputs::labels(64)));
-            measure("DT1 of link 0, one way in 17", Call::Rewrite(inputs::mixed(n, 17), inputs::cuts(1)));
+            measure("AP, one label", Call::Rewrite(inputs::mixed(n, E + 1), inputs::labels(1)));
+            measure("AP 64 times, one label", Call::Rewrite(inputs::mixed(n, E + 1), inputs::labels(64)));
+            measure("DT1 of link 0, one way in 17", Call::Rewrite(inputs::mixed(n, E + 1), inputs::cuts(1)));
         }
         if n < 600 {
-            measure("DS, ways 0 to 15", Call::Rewrite(inputs::mixed(n, 16), inputs::slots_gone(1)));
+            measure("DS, ways 0 to 15", Call::Rewrite(inputs::mixed(n, E), inputs::slots_gone(1)));
         }
     }
     title("Rewriting: edits, 64 nodes");
     for k in [1, 4, 16, 64] {
-        measure("AP, one label", Call::Rewrite(inputs::mixed(64, 17), inputs::labels(k)));
+        measure("AP, one label", Call::Rewrite(inputs::mixed(64, E + 1), inputs::labels(k)));
     }
     for k in [1, 2, 3, 4] {
-        measure("DT1 of link 0, one way in 17", Call::Rewrite(inputs::mixed(64, 17), inputs::cuts(k)));
+        measure("DT1 of link 0, one way in 17", Call::Rewrite(inputs::mixed(64, E + 1), inputs::cuts(k)));
     }
 }
 
@@ -257,13 +257,13 @@ fn classing() {
 
 fn jobs() {
     title("Jobs");
-    let sites = [("16 slots", inputs::random(16, 2)), ("sparse", inputs::random(256, 2)), ("dense", inputs::full(256))];
+    let sites = [("16 slots", inputs::random(16, 2)), ("sparse", inputs::random(SLOTS, 2)), ("dense", inputs::full(SLOTS))];
     for (what, site) in sites {
         let job = |cond, sheet| Call::job(site.clone(), cond, sheet);
         measure(&format!("R, DT1; {what}"), job(inputs::reach(4), inputs::cuts(1)));
         measure(&format!("R, 16 edits; {what}"), job(inputs::reach(4), inputs::small_edits(16)));
-        measure(&format!("512 nodes, DS; {what}"), job(inputs::mixed(512, 16), inputs::slots_gone(1)));
-        measure(&format!("1,024 nodes, 64 AP; {what}"), job(inputs::mixed(1024, 17), inputs::labels(64)));
+        measure(&format!("512 nodes, DS; {what}"), job(inputs::mixed(512, E), inputs::slots_gone(1)));
+        measure(&format!("1,024 nodes, 64 AP; {what}"), job(inputs::mixed(1024, E + 1), inputs::labels(64)));
     }
 }
 

@@ -1,5 +1,6 @@
 //! How much stack each function takes: it is called in a thread whose stack is painted before and looked at after.
 
+use crate::desk::{E, NODES, SLOTS};
 use crate::{inputs, Buffers, Call};
 use std::ffi::c_void;
 
@@ -54,17 +55,17 @@ fn used(call: Option<&Call>) -> usize {
 }
 
 pub fn show() {
-    let (dense, loops, mixed) = (inputs::full(256), inputs::loops(2048), inputs::mixed(512, 16));
+    let (dense, loops, mixed) = (inputs::full(SLOTS), inputs::loops(NODES), inputs::mixed(512, E));
     let sheet = inputs::slots_gone(1);
     let base = used(None);
     println!("\nStack of the library, bytes");
     for (what, call) in [
         ("listing, 2,047 loops in each other", Call::List(dense.clone(), loops.clone())),
-        ("listing, a line of 2,048 nodes", Call::List(dense.clone(), inputs::line(2048))),
+        ("listing, a line of 2,048 nodes", Call::List(dense.clone(), inputs::line(NODES))),
         ("listing, one node", Call::List(dense.clone(), inputs::shared(1))),
         ("applying, 64 edits", Call::Apply(dense.clone(), inputs::slots_gone(64))),
         ("rewriting, to 1,792 nodes", Call::Rewrite(mixed.clone(), sheet.clone())),
-        ("rewriting, a line of 2,048 nodes", Call::Rewrite(inputs::line(2048), inputs::labels(0))),
+        ("rewriting, a line of 2,048 nodes", Call::Rewrite(inputs::line(NODES), inputs::labels(0))),
         ("classes", Call::Classes(dense.clone())),
         ("the job, 2,047 loops in each other", Call::job(dense, loops, inputs::labels(0))),
     ] {

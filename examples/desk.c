@@ -5,8 +5,6 @@
 #include <stdio.h>
 #include <string.h>
 
-enum { LABELS = 32, NAMES = LABELS + 16 * 32, TARGETS = NAMES + 16 };
-
 static int differences;
 
 static void check(const char *what, int holds)
@@ -28,11 +26,11 @@ static void build_a(uint8_t *site)
     memset(site, 0, DESK_SITE_BYTES);
     for (int slot = 0; slot <= 3; slot++)
         put_slot(site, slot);
-    put_slot(site + LABELS, 1);
-    site[NAMES + 1] = 2;
-    site[NAMES + 2] = 3;
-    site[TARGETS + 2] = 1;
-    site[TARGETS + 3] = 2;
+    put_slot(site + DESK_LABELS_AT, 1);
+    site[DESK_NAMES_AT + 1] = 2;
+    site[DESK_NAMES_AT + 2] = 3;
+    site[DESK_TARGETS_AT + 2] = 1;
+    site[DESK_TARGETS_AT + 3] = 2;
 }
 
 /* mu 0 (label 0 or diamond 4 variable 0): kind, parameter, left, right */
@@ -105,7 +103,7 @@ static void check_lists(void)
     check("with two nots: empty", lists(site_a, even, sizeof even, 0));
     uint8_t ring[DESK_SITE_BYTES];
     memcpy(ring, site_a, sizeof ring);
-    ring[TARGETS + 1] = 3;
+    ring[DESK_TARGETS_AT + 1] = 3;
     check("with link 4 also 1 to 3: nu 0 (diamond 4 variable 0) {1, 2, 3}", lists(ring, nu_diamond, sizeof nu_diamond, S1 | S2 | S3));
     check("with link 4 also 1 to 3: mu, none", lists(ring, mu_diamond, sizeof mu_diamond, 0));
 }
@@ -120,15 +118,15 @@ static void check_sheets(void)
     check("DT2 4 1: R has 8 nodes", nodes(dt2, sizeof dt2) == 8);
     check("DS 1: R {1}", both_list(condition_r, sizeof condition_r, ds, sizeof ds, S1));
     check("DS 1: R has 14 nodes", nodes(ds, sizeof ds) == 14);
-    check("DS 1: name 1 goes to 0", both_list(name_1, sizeof name_1, ds, sizeof ds, 1) && result[NAMES + 1] == 0);
+    check("DS 1: name 1 goes to 0", both_list(name_1, sizeof name_1, ds, sizeof ds, 1) && result[DESK_NAMES_AT + 1] == 0);
     check("CN1 1 2 then DT2 4 1: R {1, 2}", both_list(condition_r, sizeof condition_r, cn1_dt2, sizeof cn1_dt2, S1 | S2));
     check("the other order {1}", both_list(condition_r, sizeof condition_r, dt2_cn1, sizeof dt2_cn1, S1));
     check("AS 3 4: condition \"name 3\" lists {4}", both_list(name_3, sizeof name_3, as_4, sizeof as_4, S4));
     check("AS 3 3: refused, 13", does_not_go_through(as_3, sizeof as_3));
     check("AT 4 1 2: refused, 13", does_not_go_through(at_12, sizeof at_12));
     check("AT 4 1 1: refused, 13", does_not_go_through(at_11, sizeof at_11));
-    check("CN2 1 1 4: name 1 at 1", both_list(name_1, sizeof name_1, cn2_1, sizeof cn2_1, S1) && result[NAMES + 1] == 1);
-    check("CN2 1 3 4: at 0", both_list(name_1, sizeof name_1, cn2_3, sizeof cn2_3, 1) && result[NAMES + 1] == 0);
+    check("CN2 1 1 4: name 1 at 1", both_list(name_1, sizeof name_1, cn2_1, sizeof cn2_1, S1) && result[DESK_NAMES_AT + 1] == 1);
+    check("CN2 1 3 4: at 0", both_list(name_1, sizeof name_1, cn2_3, sizeof cn2_3, 1) && result[DESK_NAMES_AT + 1] == 0);
 }
 
 static void check_classes(void)
@@ -140,7 +138,7 @@ static void check_classes(void)
     memcpy(site, site_a, sizeof site);
     for (int slot = 4; slot <= 5; slot++) {
         put_slot(site, slot);
-        site[TARGETS + slot] = 1;
+        site[DESK_TARGETS_AT + slot] = 1;
     }
     r = desk_classes(site, sizeof site, classes, sizeof classes);
     check("A with 4 and 5 present, link 4 to 1 from both: both class 4", r.reason == DESK_OK && classes[4] == 4 && classes[5] == 4);
@@ -163,9 +161,9 @@ static void check_job(void)
     memcpy(file, site_a, sizeof site_a);
     memcpy(cond, condition_r, sizeof condition_r);
     memcpy(edits, sheet, sizeof sheet);
-    put_number(trailer, 4);
-    put_number(trailer + 4, 34);
-    put_number(trailer + 8, 34386);
+    put_number(trailer, (uint32_t)(trailer - edits));
+    put_number(trailer + 4, (uint32_t)(trailer - cond));
+    put_number(trailer + 8, (uint32_t)(trailer - file));
     struct desk_done r = desk_job(file, sizeof file, result, sizeof result, table, sizeof table, set, sizeof set, today, sizeof today,
                                   classes, sizeof classes, work, sizeof work);
     check("J: accepted", r.reason == DESK_OK && r.where == 0);
@@ -173,7 +171,7 @@ static void check_job(void)
     check("J: rewritten {1}", r.today == 1 && memcmp(today, only_1, sizeof today) == 0);
     check("J: 8 nodes", r.nodes == 8);
     check("J: 5 classes", r.classes == 5);
-    check("J: the link from 2 is gone, the one from 3 stays", result[TARGETS + 2] == 0 && result[TARGETS + 3] == 2);
+    check("J: the link from 2 is gone, the one from 3 stays", result[DESK_TARGETS_AT + 2] == 0 && result[DESK_TARGETS_AT + 3] == 2);
 }
 
 int main(void)

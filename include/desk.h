@@ -1,13 +1,30 @@
-/* The desk for C: five functions over bytes, in libdesk.a (`rt staticlib desk`).
+/* The desk for C: five functions over bytes, in libdesk.a (`rt staticlib desk`), for x86-64 Linux.
+ *
+ * docs/SPEC.md says what the bytes mean. This file has their numbers, so that no caller has to write one: where each part of a site
+ * stands, the kinds of node, the ways, the operations, the lengths of buffers and the reasons for a refusal. examples/plan.c shows them
+ * in use.
  *
  * Every input has its answer. Either the reason is DESK_OK and the result is whole, or the reason is the lowest item that the input
  * meets; then `where` is the node or edit at fault, counted from 0 (0 where the item has none), every result and work buffer is all
  * zeros at whatever length it has, and the counts are 0. Items are tested in their order, each over all the inputs of the function.
  *
  * Each pointer is valid for its length and is not NULL, even for a length of 0. No result or work buffer overlaps another buffer or an
- * input. Nothing is kept between calls, so threads may call at the same time.
+ * input. Inputs are only read. Nothing is kept between calls, so threads may call at the same time.
  *
- * Stack: listing and the check of a condition recurse as deep as the condition. Give a thread that calls these functions DESK_STACK_BYTES.
+ * Stack. No contract speaks of it; these figures are measured and rounded up. A thread with DESK_STACK_BYTES can make every call. With less:
+ *
+ *   desk_apply     under 1 KB for any input
+ *   desk_classes   264 KB for any site
+ *   desk_list      20 KB, and 430 bytes for each node on the condition's longest path, 810 where the node is a mu or nu:
+ *                  0.9 MB for a line of 2,048 nodes, 1.7 MB for 2,047 loops inside each other
+ *   desk_rewrite   under 100 KB, and 370 bytes for each node on the longest path of the tables that it goes through: under 1 MB in all
+ *   desk_job       what the largest of the four needs, and 5 KB. It lists two tables, the condition and the REWRITTEN one, and the
+ *                  second has longer paths: DS, for instance, puts three nodes on the path for each diamond
+ *
+ * Time. There is no limit on rounds: a mu or nu is evaluated round by round, up to DESK_SLOT_COUNT times, and one that reads the variable
+ * of a loop around it starts again in every round of that loop, so nested loops multiply. On a chain of 256 slots one loop took 0.2 ms,
+ * two took 36 ms and three took 7.5 s. Everything else takes some milliseconds at most. Where conditions come from strangers, call
+ * desk_list and desk_job in a process that you can end.
  */
 #ifndef DESK_H
 #define DESK_H
@@ -19,43 +36,137 @@
 extern "C" {
 #endif
 
-/* The lengths that buffers have. */
-#define DESK_SET_BYTES 32        /* slot s is byte s / 8, weight 2 to the power s mod 8 */
-#define DESK_CLASSES_BYTES 256   /* the class number of each slot */
-#define DESK_SITE_BYTES 34352    /* present, labels, names, links 4 to 7, links 0 to 3 */
-#define DESK_TABLE_BYTES 12288   /* a rewritten condition, then zeros */
-#define DESK_WORK_BYTES 65536    /* all zeros at return */
+/* ---- how many there are: slots, labels, names, links and variables, each numbered from 0 */
 
-/* The limits of inputs. */
-#define DESK_FILE_MAX_BYTES 65536
-#define DESK_NODE_BYTES 6        /* kind, parameter, left (2 bytes), right (2 bytes) */
+#define DESK_SLOT_COUNT 256
+#define DESK_LABEL_COUNT 16
+#define DESK_NAME_COUNT 16
+#define DESK_LINK_COUNT 8
+#define DESK_VARIABLE_COUNT 16
+
+/* Links below this number are general (any number of targets), the others functional (one target at most). */
+#define DESK_GENERAL_LINKS 4
+#define DESK_FUNCTIONAL_LINKS (DESK_LINK_COUNT - DESK_GENERAL_LINKS)
+
+/* Slot 0 is "off-site". Name 0 is always there, and a functional link without a target has it as target. */
+#define DESK_NIL 0
+
+/* ---- sets of slots: slot s is the bit DESK_SET_WEIGHT(s) of byte DESK_SET_BYTE(s) */
+
+#define DESK_SET_BYTES (DESK_SLOT_COUNT / 8)
+#define DESK_SET_BYTE(s) ((s) / 8)
+#define DESK_SET_WEIGHT(s) (1 << (s) % 8)
+
+/* ---- the site: where each part begins, counted in bytes from the site's first */
+
+#define DESK_PRESENT_AT 0                                                              /* the present slots, a set */
+#define DESK_LABELS_AT (DESK_PRESENT_AT + DESK_SET_BYTES)                              /* a set for each label */
+#define DESK_NAMES_AT (DESK_LABELS_AT + DESK_LABEL_COUNT * DESK_SET_BYTES)             /* a slot for each name */
+#define DESK_TARGETS_AT (DESK_NAMES_AT + DESK_NAME_COUNT)                              /* links 4 to 7: a slot for each slot */
+#define DESK_ROWS_AT (DESK_TARGETS_AT + DESK_FUNCTIONAL_LINKS * DESK_SLOT_COUNT)       /* links 0 to 3: a set for each slot */
+#define DESK_SITE_BYTES (DESK_ROWS_AT + DESK_GENERAL_LINKS * DESK_SLOT_COUNT * DESK_SET_BYTES)
+
+#define DESK_LABEL_AT(p) (DESK_LABELS_AT + (p) * DESK_SET_BYTES)                       /* the set of label p */
+#define DESK_NAME_AT(n) (DESK_NAMES_AT + (n))                                          /* the slot of name n */
+#define DESK_TARGET_AT(f, s) (DESK_TARGETS_AT + ((f) - DESK_GENERAL_LINKS) * DESK_SLOT_COUNT + (s)) /* f 4 to 7: the target of slot s */
+#define DESK_ROW_AT(m, s) (DESK_ROWS_AT + ((m) * DESK_SLOT_COUNT + (s)) * DESK_SET_BYTES) /* m 0 to 3: the set of slot s's targets */
+
+/* ---- the condition: 1 to DESK_NODES_MAX nodes, each child before its node; the last node is the condition */
+
+#define DESK_NODE_BYTES 6        /* kind, parameter, left (2 bytes, low byte first), right (2 bytes) */
 #define DESK_NODES_MAX 2048
+#define DESK_CONDITION_BYTES_MAX (DESK_NODES_MAX * DESK_NODE_BYTES)
+
+/* Parameter and children are those named; fields not named are 0. */
+enum desk_kind {
+    DESK_KIND_TRUE = 0,         /* every slot */
+    DESK_KIND_HERE = 1,         /* the present slots */
+    DESK_KIND_LABEL = 2,        /* parameter: a label. The slots that have it */
+    DESK_KIND_NAME = 3,         /* parameter: a name. Its slot */
+    DESK_KIND_VARIABLE = 4,     /* parameter: a variable, bound by a mu or nu above */
+    DESK_KIND_NOT = 5,          /* left */
+    DESK_KIND_OR = 6,           /* left, right */
+    DESK_KIND_AND = 7,          /* left, right */
+    DESK_KIND_DIAMOND = 8,      /* parameter: a way; left. Some neighbour by the way is in left */
+    DESK_KIND_BOX = 9,          /* parameter: a way; left. Every neighbour by the way is in left (so it holds where there is none) */
+    DESK_KIND_MU = 10,          /* parameter: a variable; left. The least fixed point of left */
+    DESK_KIND_NU = 11,          /* parameter: a variable; left. The greatest fixed point of left */
+    DESK_KIND_SLOT = 12         /* parameter: a slot, present or not. That slot */
+};
+
+/* The ways of diamonds and boxes: way m below DESK_LINK_COUNT follows link m, DESK_REVERSE(m) goes against it, and DESK_EVERYWHERE, E,
+ * reaches all DESK_SLOT_COUNT slots from each, absent ones too. */
+#define DESK_REVERSE(m) ((m) + DESK_LINK_COUNT)
+#define DESK_EVERYWHERE (2 * DESK_LINK_COUNT)
+
+/* The bytes of a node and of an edit, for an array's initializer: { DESK_NODE_INIT(..), DESK_NODE_INIT(..), .. } */
+#define DESK_NODE_INIT(kind, parameter, left, right) (kind), (parameter), (left) % 256, (left) / 256, (right) % 256, (right) / 256
+#define DESK_EDIT_INIT(operation, first, second, third) (operation), (first), (second), (third)
+
+/* ---- the sheet: 0 to DESK_EDITS_MAX edits */
+
 #define DESK_EDIT_BYTES 4        /* operation and three operands */
 #define DESK_EDITS_MAX 64
-#define DESK_TRAILER_BYTES 12    /* distances back to the sheet, the condition and the site */
+#define DESK_SHEET_BYTES_MAX (DESK_EDITS_MAX * DESK_EDIT_BYTES)
+
+/* Operands in their order; those not named are 0. n, n1, n2 are names, @n is the slot of name n, p is a label, m any link, f one of 4 to 7,
+ * k a slot. */
+enum desk_operation {
+    DESK_OP_CN1 = 0,            /* n1 n2     n1, not 0, moves to @n2 */
+    DESK_OP_CN2 = 1,            /* n1 n2 f   n1, not 0, moves to the f-target of @n2, or to nil */
+    DESK_OP_AP = 2,             /* n p       @n gains label p */
+    DESK_OP_DP = 3,             /* n p       @n loses label p */
+    DESK_OP_AT = 4,             /* m n1 n2   link m from @n1 to @n2 is added; neither is nil; for m 4 to 7 @n1 has no target or has @n2 */
+    DESK_OP_DT1 = 5,            /* m n1 n2   that link is removed, if it is there */
+    DESK_OP_DT2 = 6,            /* f n       the f-target of @n is removed, if there is one */
+    DESK_OP_AS = 7,             /* n k       slot k, absent before, is present; n, not 0, moves to it */
+    DESK_OP_DS = 8              /* n         @n, not nil, is absent; its labels and links go; names there move to nil */
+};
+
+/* ---- the job file: site, condition, sheet and trailer, with nothing between them */
+
+#define DESK_FILE_BYTES_MAX 65536
+#define DESK_FILE_MAX_BYTES DESK_FILE_BYTES_MAX
+#define DESK_DISTANCE_BYTES 4    /* an unsigned number, low byte first */
+
+/* Three distances, from the trailer's first byte back to the first byte of the sheet, of the condition and of the site. */
+#define DESK_TRAILER_BYTES (3 * DESK_DISTANCE_BYTES)
+#define DESK_TO_SHEET_AT 0
+#define DESK_TO_CONDITION_AT DESK_DISTANCE_BYTES
+#define DESK_TO_SITE_AT (2 * DESK_DISTANCE_BYTES)
+
+/* ---- the lengths of the other buffers */
+
+#define DESK_CLASSES_BYTES DESK_SLOT_COUNT           /* the class number of each slot */
+#define DESK_TABLE_BYTES DESK_CONDITION_BYTES_MAX    /* a rewritten condition, then zeros */
+#define DESK_WORK_BYTES (DESK_NODES_MAX * DESK_SET_BYTES) /* all zeros at return */
 
 #define DESK_STACK_BYTES 4194304
 
-/* Why an input is sent back. */
+/* ---- why an input is sent back. The texts are those of docs/SPEC.md, "Reasons"; `where` is 0 unless it is named */
 enum desk_reason {
     DESK_OK = 0,
     DESK_BUFFER_LENGTH = 1,     /* a result or work buffer has another length than stated */
-    DESK_FILE = 2,              /* the file's length or a distance of its trailer is wrong */
-    DESK_SITE_LENGTH = 3,
+    DESK_FILE = 2,              /* the file is under 12 or over 65,536 bytes, a distance is below the one before it, or the last is not
+                                 * the length less 12 */
+    DESK_SITE_LENGTH = 3,       /* the site does not have DESK_SITE_BYTES bytes */
     DESK_NAMES = 4,             /* slot 0 is absent, name 0 is elsewhere, or a name is at an absent slot */
     DESK_LABELS = 5,            /* a label is on an absent slot */
     DESK_LINKS = 6,             /* a link touches slot 0 or an absent slot */
-    DESK_CONDITION_LENGTH = 7,
-    DESK_NODE = 8,              /* a node is malformed; where: the lowest one */
-    DESK_EVEN_RULE = 9,         /* a mu or nu has its variable under an odd number of nots; where: the lowest one */
+    DESK_CONDITION_LENGTH = 7,  /* the condition is not a multiple of 6 from 6 to 12,288 bytes */
+    DESK_NODE = 8,              /* a node has an unknown kind, a field out of range, a child not lower than itself, or an unused field
+                                 * that is not 0; where: the lowest such node */
+    DESK_EVEN_RULE = 9,         /* a mu or nu has its variable under an odd number of nots; where: the lowest such mu or nu */
     DESK_FREE_VARIABLE = 10,    /* the last node has a free variable; where: the last node */
-    DESK_SHEET_LENGTH = 11,
-    DESK_EDIT = 12,             /* an edit is malformed; where: the lowest one */
-    DESK_NOT_THROUGH = 13,      /* an edit does not go through on the site it meets; where: the lowest one */
+    DESK_SHEET_LENGTH = 11,     /* the sheet is not a multiple of 4 from 0 to 256 bytes */
+    DESK_EDIT = 12,             /* an edit has an unknown operation, an operand out of range or forbidden, or an unused one that is not
+                                 * 0; where: the lowest such edit */
+    DESK_NOT_THROUGH = 13,      /* an edit does not go through on the site it meets; where: the first such edit */
     DESK_TABLE_FULL = 14        /* after some edit the rewritten table has over 2,048 nodes */
 };
 
-/* The answers. `reason` is a number of enum desk_reason. */
+/* ---- the answers. `reason` is a number of enum desk_reason */
+
 struct desk_listed {
     uint32_t reason, where;
     uint32_t count;             /* the slots in the set */
@@ -91,11 +202,13 @@ struct desk_applied desk_apply(const uint8_t *site, size_t site_len, const uint8
                                uint8_t *result, size_t result_len);
 
 /* Puts the condition rewritten through the sheet into `result` (DESK_TABLE_BYTES): on each site on which the sheet goes through it lists
- * what the condition lists on the site that the sheet leaves. Items 1, 7 to 12, 14. */
+ * what the condition lists on the site that the sheet leaves. The table is the first DESK_NODE_BYTES times `nodes` bytes, and can be
+ * handed to desk_list as it stands. Items 1, 7 to 12, 14. */
 struct desk_rewritten desk_rewrite(const uint8_t *cond, size_t cond_len, const uint8_t *sheet, size_t sheet_len,
                                    uint8_t *result, size_t result_len);
 
-/* Puts for each slot the lowest slot that some likeness (bisimulation) relates to it into `classes` (DESK_CLASSES_BYTES). Items 1, 3 to 6. */
+/* Puts for each slot the lowest slot that some likeness (bisimulation) relates to it into `classes` (DESK_CLASSES_BYTES).
+ * Items 1, 3 to 6. */
 struct desk_classed desk_classes(const uint8_t *site, size_t site_len, uint8_t *classes, size_t classes_len);
 
 /* Runs a job file: the site after, the rewritten table, the condition's set on the site after, the table's set on the site of the file,

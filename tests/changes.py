@@ -10,6 +10,10 @@ import sys
 
 import lists
 import pieces
+from layout import *
+from pieces import named, sheet
+
+SEED = 34352
 
 
 # ---- applying
@@ -17,27 +21,27 @@ import pieces
 class Site:
     def __init__(self, d):
         self.present = set(pieces.members(d, 0))
-        self.labels = {(p, s) for p in range(16) for s in pieces.members(d, pieces.LABELS_AT + 32 * p)}
-        self.names = list(d[pieces.NAMES_AT:pieces.NAMES_AT + 16])
-        self.links = {(f + 4, s, d[pieces.TARGETS_AT + 256 * f + s]) for f in range(4) for s in range(256)}
+        self.labels = {(p, s) for p in range(LABELS) for s in pieces.members(d, label_at(p))}
+        self.names = list(d[NAMES_AT:NAMES_AT + NAMES])
+        self.links = {(f, s, d[target_at(f, s)]) for f in range(GENERAL, LINKS) for s in range(SLOTS)}
         self.links = {(m, s, t) for m, s, t in self.links if t}
-        self.links |= {(m, s, t) for m in range(4) for s in range(256) for t in pieces.members(d, pieces.ROWS_AT + 8192 * m + 32 * s)}
+        self.links |= {(m, s, t) for m in range(GENERAL) for s in range(SLOTS) for t in pieces.members(d, row_at(m, s))}
 
     def target(self, f, s):
         return next((t for m, u, t in self.links if (m, u) == (f, s)), 0)
 
     def bytes(self):
-        d = bytearray(pieces.SITE_BYTES)
+        d = bytearray(SITE_BYTES)
         for s in self.present:
             pieces.put(d, 0, s)
         for p, s in self.labels:
-            pieces.put(d, pieces.LABELS_AT + 32 * p, s)
-        d[pieces.NAMES_AT:pieces.NAMES_AT + 16] = bytes(self.names)
+            pieces.put(d, label_at(p), s)
+        d[NAMES_AT:NAMES_AT + NAMES] = bytes(self.names)
         for m, s, t in self.links:
-            if m < 4:
-                pieces.put(d, pieces.ROWS_AT + 8192 * m + 32 * s, t)
+            if m < GENERAL:
+                pieces.put(d, row_at(m, s), t)
             else:
-                d[pieces.TARGETS_AT + 256 * (m - 4) + s] = t
+                d[target_at(m, s)] = t
         return d
 
 
@@ -45,7 +49,7 @@ def goes_through(site, edit):
     op, x, y, z = edit
     if op == 4:
         here, there = site.names[y], site.names[z]
-        return here != 0 and there != 0 and (x < 4 or site.target(x, here) in (0, there))
+        return here != 0 and there != 0 and (x < GENERAL or site.target(x, here) in (0, there))
     if op == 7:
         return y not in site.present
     if op == 8:
@@ -84,7 +88,7 @@ def change(site, edit):
 
 
 def edits_of(d):
-    return [tuple(d[i:i + 4]) for i in range(0, len(d), 4)]
+    return [tuple(d[i:i + EDIT_BYTES]) for i in range(0, len(d), EDIT_BYTES)]
 
 
 def apply(d, sheet):
@@ -98,52 +102,55 @@ def apply(d, sheet):
 
 # ---- rewriting: the paper's texts
 
-def text(edit, kind, param):
-    """The block of a node of this kind and parameter, in the words of document 01; None where it is copied."""
+def leaf_text(edit, kind, param):
     op, x, y, z = edit
-    names = {}
-    if kind in (8, 9):
-        way = param
-        if way == 16:
-            return None
-        link, back = way % 8, way >= 8
-        names = {"m": way, "f": way, "f-": way}
     if op == 0 and kind == 3 and param == x:
         return "n2", {"n2": y}
     if op == 1 and kind == 3 and param == x:
-        return "n2 <f-> nil n2 t <f> & <E> ! & |", {"n2": y, "f": z, "f-": z + 8}
-    if op == 2 and kind == 2 and param == y:
-        return "p n |", {"p": y, "n": x}
-    if op == 3 and kind == 2 and param == y:
-        return "p n ! &", {"p": y, "n": x}
-    if op in (4, 5) and kind in (8, 9) and link == x:
-        names["n1"], names["n2"] = (z, y) if back else (y, z)
-        texts = {
-            (4, 8): "T <m> n1 n2 T & <E> & |", (4, 9): "T [m] n1 ! n2 ! T | [E] | &",
-            (5, 8): "n1 ! T <m> & n2 ! T & <m> |", (5, 9): "n1 T [m] | n2 T | [m] &",
-        }
-        return texts[op, kind], names
-    if op == 6 and kind in (8, 9) and link == x:
-        names["n"] = y
-        texts = {
-            (8, False): "n ! T <f> &", (9, False): "n T [f] |", (8, True): "n ! T & <f->", (9, True): "n T | [f-]",
-        }
-        return texts[kind, back], names
+        return "n2 <f-> nil n2 t <f> & <E> ! & |", {"n2": y, "f": z, "f-": z + LINKS}
+    if op in (2, 3) and kind == 2 and param == y:
+        return "p n |" if op == 2 else "p n ! &", {"p": y, "n": x}
     if op == 7 and kind == 3 and param == x:
         return "k", {"k": y}
     if op == 7 and kind == 1:
         return "h k |", {"k": y}
-    if op == 8:
-        if kind == 1:
-            return "h n ! &", {"n": x}
-        if kind == 2:
-            return "p n ! &", {"p": param, "n": x}
-        if kind == 3 and param != 0:
-            return "y n ! & nil n y & <E> & |", {"y": param, "n": x}
-        if kind in (8, 9):
-            names["n"] = x
-            return ("n ! n ! T & <m> &" if kind == 8 else "n n T | [m] |"), names
+    if op == 8 and kind == 1:
+        return "h n ! &", {"n": x}
+    if op == 8 and kind == 2:
+        return "p n ! &", {"p": param, "n": x}
+    if op == 8 and kind == 3 and param != 0:
+        return "y n ! & nil n y & <E> & |", {"y": param, "n": x}
     return None
+
+
+# by operation and kind; for 6 also by whether the way goes against the link
+WAY_TEXTS = {
+    (4, 8): "T <m> n1 n2 T & <E> & |", (4, 9): "T [m] n1 ! n2 ! T | [E] | &",
+    (5, 8): "n1 ! T <m> & n2 ! T & <m> |", (5, 9): "n1 T [m] | n2 T | [m] &",
+    (6, 8, False): "n ! T <f> &", (6, 9, False): "n T [f] |", (6, 8, True): "n ! T & <f->", (6, 9, True): "n T | [f-]",
+    (8, 8): "n ! n ! T & <m> &", (8, 9): "n n T | [m] |",
+}
+
+
+def way_text(edit, kind, way):
+    op, x, y, z = edit
+    link, back = way % LINKS, way >= LINKS
+    names = {"m": way, "f": way, "f-": way}
+    if op in (4, 5) and link == x:
+        names["n1"], names["n2"] = (z, y) if back else (y, z)
+        return WAY_TEXTS[op, kind], names
+    if op == 6 and link == x:
+        return WAY_TEXTS[op, kind, back], {**names, "n": y}
+    if op == 8:
+        return WAY_TEXTS[op, kind], {**names, "n": x}
+    return None
+
+
+def text(edit, kind, param):
+    """The block of a node of this kind and parameter, in the words of document 01; None where it is copied."""
+    if kind not in (8, 9):
+        return leaf_text(edit, kind, param)
+    return way_text(edit, kind, param) if param != EVERYWHERE else None
 
 
 def put_text(out, words, names, image):
@@ -162,7 +169,7 @@ def put_text(out, words, names, image):
             right, left = stack.pop(), stack.pop()
             node(7 if word == "&" else 6, 0, left, right)
         elif word[0] in "<[":
-            way = 16 if word[1:-1] == "E" else names[word[1:-1]]
+            way = EVERYWHERE if word[1:-1] == "E" else names[word[1:-1]]
             node(8 if word[0] == "<" else 9, way, stack.pop(), 0)
         elif word == "t":
             node(0, 0, 0, 0)
@@ -194,10 +201,10 @@ def rewrite_edit(edit, nodes):
 
 
 def rewrite(condition, sheet):
-    nodes = lists.nodes_of(condition)
+    nodes = pieces.nodes_of(condition)
     for edit in reversed(edits_of(sheet)):
         nodes = rewrite_edit(edit, nodes)
-        if len(nodes) > 2048:
+        if len(nodes) > NODES:
             return None, (14, 0)
     return pieces.table(*nodes), None
 
@@ -218,7 +225,7 @@ def answer(site, condition, sheet):
         lambda d: "applied" + "".join(" %d:%d" % (k, b) for k, b in enumerate(d) if b != site[k]))
     table, nodes = outcome(
         pieces.judge_condition(condition) or pieces.judge_sheet(sheet), lambda: rewrite(condition, sheet),
-        lambda d: "%d nodes %s" % (len(d) // 6, d.hex()))
+        lambda d: "%d nodes %s" % (len(d) // NODE_BYTES, d.hex()))
     lines = [applied, nodes]
     if after is not None and table is not None:
         one, two = lists.answer(after, condition), lists.answer(site, table)
@@ -230,11 +237,17 @@ def answer(site, condition, sheet):
 # ---- cases
 
 def random_edit(rng, site):
-    op = rng.randrange(9)
-    new = rng.choice([s for s in range(1, 256) if s not in site.present] or [255])
-    operands = {pieces.name: lambda: rng.choice((rng.randrange(16), rng.randrange(1, 4))), pieces.moved: lambda: rng.choice((rng.randrange(1, 16), rng.randrange(1, 4))),
-                pieces.link: lambda: rng.choice((rng.randrange(8), rng.choice((0, 4)))), pieces.functional: lambda: rng.choice((rng.randrange(4, 8), 4)),
-                pieces.unused: lambda: 0, pieces.slot: lambda: new}
+    op = rng.randrange(OPERATIONS)
+    new = rng.choice([s for s in range(1, SLOTS) if s not in site.present] or [255])
+    operands = {
+        pieces.name: lambda: rng.choice((rng.randrange(NAMES), rng.randrange(1, 4))),
+        pieces.moved: lambda: rng.choice((rng.randrange(1, NAMES), rng.randrange(1, 4))),
+        pieces.label: lambda: rng.choice((rng.randrange(LABELS), rng.randrange(1, 4))),
+        pieces.link: lambda: rng.choice((rng.randrange(LINKS), rng.choice((0, GENERAL)))),
+        pieces.functional: lambda: rng.choice((rng.randrange(GENERAL, LINKS), GENERAL)),
+        pieces.unused: lambda: 0,
+        pieces.slot: lambda: new,
+    }
     return (op, *(operands[o]() for o in pieces.OPERANDS[op]))
 
 
@@ -257,8 +270,8 @@ def random_sheet(rng, d, length):
 def every_kind():
     """A condition with every kind of node, each way under a diamond and under a box, names and labels of every number."""
     nodes = [(0, 0, 0, 0), (1, 0, 0, 0), (4, 0, 0, 0), (12, 7, 0, 0), (4, 1, 0, 0), (11, 1, 4, 0)]
-    nodes += [(2, p, 0, 0) for p in range(16)] + [(3, n, 0, 0) for n in range(16)]
-    for way in range(17):
+    nodes += [(2, p, 0, 0) for p in range(LABELS)] + [(3, n, 0, 0) for n in range(NAMES)]
+    for way in range(WAYS):
         nodes += [(8, way, (0, 1, 2, 3, 6, 7, 22, 23, 24, 25)[way % 10], 0), (9, way, len(nodes) - 3, 0)]
     nodes += [(5, 0, 1, 0), (7, 0, len(nodes), len(nodes) - 1), (6, 0, 2, len(nodes) + 1), (10, 0, len(nodes) + 2, 0)]
     return pieces.table(*nodes)
@@ -271,70 +284,85 @@ def damaged(rng, d):
     return d
 
 
-def cases(rng):
-    a, r = pieces.site_a(), pieces.R
-    sheet = lambda *edits: bytearray(b for edit in edits for b in (list(edit) + [0, 0, 0])[:4])
-    name = lambda n: pieces.table((3, n, 0, 0))
-    yield a, r, sheet((6, 4, 1))
-    yield a, r, sheet()
-    yield a, r, sheet((8, 1))
-    yield a, name(1), sheet((8, 1))
-    yield a, r, sheet((0, 1, 2), (6, 4, 1))
-    yield a, r, sheet((6, 4, 1), (0, 1, 2))
-    yield a, name(3), sheet((7, 3, 4))
-    yield a, name(3), sheet((7, 3, 3))
-    yield a, r, sheet((4, 4, 1, 2))
-    yield a, r, sheet((4, 4, 1, 1))
-    yield a, name(1), sheet((1, 1, 1, 4))
-    yield a, name(1), sheet((1, 1, 3, 4))
-    # R through k edits: 5 + 8(2^k - 1) nodes
+A, R = pieces.site_a(), pieces.R
+DT2, DOUBLE = (6, 4, 1), (5, 4, 1, 2)
+
+
+def by_hand():
+    """Document 01's small sites, and R through k edits: 5 + 8(2^k - 1) nodes."""
+    yield A, R, sheet(DT2)
+    yield A, R, sheet()
+    yield A, R, sheet((8, 1))
+    yield A, named(1), sheet((8, 1))
+    yield A, R, sheet((0, 1, 2), DT2)
+    yield A, R, sheet(DT2, (0, 1, 2))
+    yield A, named(3), sheet((7, 3, 4))
+    yield A, named(3), sheet((7, 3, 3))
+    yield A, R, sheet((4, 4, 1, 2))
+    yield A, R, sheet((4, 4, 1, 1))
+    yield A, named(1), sheet((1, 1, 1, 4))
+    yield A, named(1), sheet((1, 1, 3, 4))
     for k in range(10):
-        yield a, r, sheet(*[(5, 4, 1, 2)] * k)
-    # every operation on every kind and way, on a dense little site
-    site = bytearray(a)
+        yield A, R, sheet(*[DOUBLE] * k)
+
+
+def dense_site():
+    site = bytearray(A)
     for s in (1, 2, 3):
-        for m in range(4):
+        for m in range(GENERAL):
             for t in (1, 2, 3):
                 if (s + t + m) % 3:
-                    pieces.put(site, pieces.ROWS_AT + 8192 * m + 32 * s, t)
-        for f in range(4):
-            site[pieces.TARGETS_AT + 256 * f + s] = (s + f) % 4
-        for p in range(16):
+                    pieces.put(site, row_at(m, s), t)
+        for f in range(GENERAL, LINKS):
+            site[target_at(f, s)] = (s + f) % 4
+        for p in range(LABELS):
             if (s + p) % 3:
-                pieces.put(site, pieces.LABELS_AT + 32 * p, s)
-    pieces.put(site, pieces.LABELS_AT, 0)
-    site[pieces.NAMES_AT + 3] = 2
-    condition = every_kind()
-    one = [sheet((0, x, y)) for x, y in ((1, 2), (2, 1), (3, 3), (1, 0), (15, 1))]
-    one += [sheet((1, x, y, f)) for x, y, f in ((1, 2, 4), (1, 1, 4), (2, 1, 5), (3, 0, 6), (1, 3, 7))]
-    one += [sheet((op, n, p)) for op in (2, 3) for n, p in ((1, 0), (2, 3), (0, 0), (3, 15))]
-    one += [sheet((op, m, x, y)) for op in (4, 5) for m in range(8) for x, y in ((1, 2), (2, 1), (1, 1), (0, 1), (3, 1), (0, 0))]
-    one += [sheet((6, f, n)) for f in range(4, 8) for n in (0, 1, 2)]
-    one += [sheet((7, n, k)) for n, k in ((1, 4), (1, 255), (3, 7), (2, 0), (2, 3))]
-    one += [sheet((8, n)) for n in (0, 1, 2, 3)]
-    for s in one:
-        yield site, condition, s
-    # the order of the items: the site before the sheet, the condition before the sheet, 12 before 13 before 14
-    yield a[:-1], r[:-1], sheet((9,))
-    yield a, r[:-1], sheet((9,))
-    absent, labelled = bytearray(a), bytearray(a)
+                pieces.put(site, label_at(p), s)
+    pieces.put(site, LABELS_AT, 0)
+    site[NAMES_AT + 3] = 2
+    return site
+
+
+def every_edit():
+    """Every operation, with operands at their bounds."""
+    yield from ((0, x, y) for x, y in ((1, 2), (2, 1), (3, 3), (1, 0), (NAMES - 1, 1)))
+    yield from ((1, x, y, f) for x, y, f in ((1, 2, 4), (1, 1, 4), (2, 1, 5), (3, 0, 6), (1, 3, 7)))
+    yield from ((op, n, p) for op in (2, 3) for n, p in ((1, 0), (2, 3), (0, 0), (3, LABELS - 1)))
+    yield from ((op, m, x, y) for op in (4, 5) for m in range(LINKS) for x, y in ((1, 2), (2, 1), (1, 1), (0, 1), (3, 1), (0, 0)))
+    yield from ((6, f, n) for f in range(GENERAL, LINKS) for n in (0, 1, 2))
+    yield from ((7, n, k) for n, k in ((1, 4), (1, 255), (3, 7), (2, 0), (2, 3)))
+    yield from ((8, n) for n in (0, 1, 2, 3))
+
+
+def order():
+    """The order of the items: the site before the sheet, the condition before the sheet, 12 before 13 before 14; and the longest pieces."""
+    absent, labelled, full = bytearray(A), bytearray(A), pieces.full_table(2)
     absent[0] = 14
-    pieces.put(labelled, pieces.LABELS_AT + 32, 9)
-    yield absent, r, sheet((6, 4, 1))
-    yield labelled, r, sheet((9,))
-    yield a, r, sheet((8, 0), (9,))
-    yield a, r, sheet((8, 0))[:-1]
-    yield a, r, sheet((8, 0), *[(5, 4, 1, 2)] * 9)
-    yield a, r, sheet(*[(5, 4, 1, 2)] * 9)
-    yield a, pieces.table((4, 0, 0, 0), (5, 0, 0, 0), (10, 0, 1, 0)), sheet((8, 0))
-    yield a, pieces.table((4, 0, 0, 0)), sheet((6, 4, 1))
-    yield a, r, sheet(*[(0, 1, 2)] * 64)
-    yield a, r, sheet(*[(0, 1, 2)] * 65)
-    yield a, r, sheet(*[(0, 1, 2)] * 63, (8, 0))
-    full = pieces.table((2, 0, 0, 0), *((6, 0, i, i) for i in range(2047)))
-    yield a, full, sheet((6, 4, 1))
-    yield a, full, sheet((2, 1, 0))
-    yield a, full + pieces.table((6, 0, 2047, 2047)), sheet()
+    pieces.put(labelled, label_at(1), 9)
+    yield A[:-1], R[:-1], sheet((9,))
+    yield A, R[:-1], sheet((9,))
+    yield absent, R, sheet(DT2)
+    yield labelled, R, sheet((9,))
+    yield A, R, sheet((8, 0), (9,))
+    yield A, R, sheet((8, 0))[:-1]
+    yield A, R, sheet((8, 0), *[DOUBLE] * 9)
+    yield A, R, sheet(*[DOUBLE] * 9)
+    yield A, pieces.table((4, 0, 0, 0), (5, 0, 0, 0), (10, 0, 1, 0)), sheet((8, 0))
+    yield A, pieces.table((4, 0, 0, 0)), sheet(DT2)
+    yield A, R, sheet(*[(0, 1, 2)] * EDITS)
+    yield A, R, sheet(*[(0, 1, 2)] * (EDITS + 1))
+    yield A, R, sheet(*[(0, 1, 2)] * (EDITS - 1), (8, 0))
+    yield A, full, sheet(DT2)
+    yield A, full, sheet((2, 1, 0))
+    yield A, full + pieces.table((6, 0, NODES - 1, NODES - 1)), sheet()
+
+
+def cases(rng):
+    yield from by_hand()
+    site, condition = dense_site(), every_kind()
+    for edit in every_edit():
+        yield site, condition, sheet(edit)
+    yield from order()
     for _ in range(150):
         site = lists.random_site(rng, rng.choice((0, 5, 30, 120)))
         condition = lists.random_condition(rng)
@@ -345,7 +373,7 @@ def cases(rng):
 
 def main():
     sys.setrecursionlimit(20000)
-    rng = random.Random(34352)
+    rng = random.Random(SEED)
     stdin, stdout, count = bytearray(), [], {}
     for site, condition, sheet in cases(rng):
         for kind, d in ((pieces.SITE, site), (pieces.CONDITION, condition), (pieces.SHEET, sheet)):

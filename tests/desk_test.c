@@ -1,10 +1,11 @@
 /* Compares the library with the oracle on random and damaged jobs: `desk_test [JOBS [SEED]]`.
  *
- * Each job goes through desk_job, its pieces through the other four functions, and once more through one of the five with buffers of
- * wrong lengths. Results, counts, reasons and W are compared, and every byte of every buffer; buffers are filled with 0xAA before, inputs
- * must stay as they are, and the memory after each input and buffer may not be touched. The first difference ends the run with 1. */
+ * Each job goes through desk_job, its pieces through the other four functions, and once more through one of the five with each buffer in
+ * turn a byte short or a byte long, and with buffers of other wrong lengths. Results, counts, reasons and W are compared, and every byte
+ * of every buffer; buffers are filled with 0xAA before, inputs must stay as they are, and the memory after each input and buffer may not
+ * be touched. The first difference ends the run with 1, and so does something that so many jobs should have met and have not. */
 #define _DEFAULT_SOURCE
-#include "oracle.h"
+#include "random_jobs.h"
 
 #include <pthread.h>
 #include <stdio.h>
@@ -12,46 +13,8 @@
 #include <string.h>
 #include <sys/mman.h>
 
-/* ---- random numbers */
-
-static uint64_t state;
-
-static uint64_t random_64(void)
-{
-    uint64_t x = state += 0x9e3779b97f4a7c15u;
-    x = (x ^ x >> 30) * 0xbf58476d1ce4e5b9u;
-    x = (x ^ x >> 27) * 0x94d049bb133111ebu;
-    return x ^ x >> 31;
-}
-
-static int below(int limit)
-{
-    return (int)(random_64() % (uint64_t)limit);
-}
-
-static bool one_in(int n)
-{
-    return below(n) == 0;
-}
-
-static int between(int low, int high)
-{
-    return low + below(high - low + 1);
-}
-
-/* ---- the job at hand */
-
-enum { PIECE_MAX = 70000, LABELS = 32, NAMES = LABELS + 16 * 32, TARGETS = NAMES + 16, ROWS = TARGETS + 4 * 256 };
-
-struct bytes {
-    size_t length;
-    uint8_t at[PIECE_MAX];
-};
-
-static struct bytes site, cond, sheet, file;
-static struct model model;
 static uint64_t seed;
-static int job;
+static int job = -1; /* below 0: a case with a known answer */
 
 static void fail(const char *function, const char *what)
 {
@@ -59,479 +22,15 @@ static void fail(const char *function, const char *what)
     exit(1);
 }
 
-static void append(struct bytes *to, const uint8_t *from, size_t length)
-{
-    memcpy(to->at + to->length, from, length);
-    to->length += length;
-}
-
-static void put_slot(uint8_t *set, int slot)
-{
-    set[slot / 8] |= (uint8_t)(1 << slot % 8);
-}
-
-/* ---- random sites */
-
-struct shape {
-    int count, slots[256]; /* the present slots but 0 */
-    int links, labels;     /* how many of each are used */
-    int arcs;              /* arcs of each link in use */
-};
-
-static struct shape random_shape(void)
-{
-    struct shape shape = {.links = between(1, 8), .labels = between(0, 4)};
-    int most = one_in(40) ? 255 : one_in(4) ? 40 : 6, taken[256], count = between(0, most);
-    bool low = !one_in(3);
-    for (int s = 1; s < 256; s++)
-        taken[s - 1] = s;
-    for (int k = 0; k < count; k++) {
-        int other = low ? k : between(k, 254), s = taken[other];
-        taken[other] = taken[k];
-        shape.slots[k] = s;
-    }
-    shape.count = count;
-    shape.arcs = one_in(3) ? count * count / 2 : between(0, 2 * count);
-    if (count > 60 && shape.arcs > 600 && !one_in(8))
-        shape.arcs = 600;
-    return shape;
-}
-
-static int random_slot(const struct shape *shape)
-{
-    return shape->count == 0 ? 0 : shape->slots[below(shape->count)];
-}
-
-static void random_site(void)
-{
-    struct shape shape = random_shape();
-    site.length = DESK_SITE_BYTES;
-    memset(site.at, 0, site.length);
-    put_slot(site.at, 0);
-    for (int k = 0; k < shape.count; k++)
-        put_slot(site.at, shape.slots[k]);
-    for (int l = 0; l < shape.labels; l++) {
-        uint8_t *label = site.at + LABELS + 32 * (one_in(4) ? below(16) : l);
-        for (int k = between(0, shape.count); k > 0; k--)
-            put_slot(label, one_in(12) ? 0 : random_slot(&shape));
-    }
-    for (int n = 1; n < 16; n++)
-        if (n < 5 || one_in(4))
-            site.at[NAMES + n] = (uint8_t)(one_in(8) ? 0 : random_slot(&shape));
-    for (int l = 0; l < shape.links && shape.count > 0; l++) {
-        int m = below(8);
-        for (int k = 0; k < shape.arcs; k++) {
-            int from = random_slot(&shape), to = random_slot(&shape);
-            if (m < 4)
-                put_slot(site.at + ROWS + 8192 * m + 32 * from, to);
-            else
-                site.at[TARGETS + 256 * (m - 4) + from] = (uint8_t)to;
-        }
-    }
-}
-
-/* ---- random conditions */
-
-enum { NODES_MOST = 60 };
-
-/* The free variables of each node, under an even and under an odd number of nots. */
-struct variables {
-    unsigned even, odd;
-};
-
-static struct variables variables[NODES_MOST + 40];
-
-static void add_node(int kind, int param, int left, int right)
-{
-    const uint8_t node[6] = {(uint8_t)kind, (uint8_t)param, (uint8_t)left, (uint8_t)(left >> 8), (uint8_t)right, (uint8_t)(right >> 8)};
-    struct variables v = {0, 0}, l = variables[left], r = variables[right];
-    if (kind == 4)
-        v.even = 1u << param;
-    else if (kind == 5)
-        v = (struct variables){l.odd, l.even};
-    else if (kind == 6 || kind == 7)
-        v = (struct variables){l.even | r.even, l.odd | r.odd};
-    else if (kind == 8 || kind == 9)
-        v = l;
-    else if (kind == 10 || kind == 11)
-        v = (struct variables){l.even & ~(1u << param), l.odd & ~(1u << param)};
-    variables[cond.length / 6] = v;
-    append(&cond, node, 6);
-}
-
-static int recent(int count)
-{
-    return one_in(3) ? below(count) : count - 1 - below(count < 3 ? count : 3);
-}
-
-static void add_leaf(void)
-{
-    switch (below(8)) {
-    case 0:
-        add_node(one_in(2), 0, 0, 0);
-        break;
-    case 1:
-    case 2:
-        add_node(2, one_in(4) ? below(16) : below(3), 0, 0);
-        break;
-    case 3:
-    case 4:
-        add_node(3, one_in(4) ? below(16) : below(4), 0, 0);
-        break;
-    case 5:
-        add_node(12, one_in(2) ? below(256) : below(6), 0, 0);
-        break;
-    default:
-        add_node(4, one_in(6) ? below(16) : below(2), 0, 0);
-    }
-}
-
-/* A way, of a link that the site has for the most part. */
-static int some_way(void)
-{
-    int link = below(8);
-    for (int tries = 0; tries < 6 && model.link[link].count == 0; tries++)
-        link = below(8);
-    return one_in(8) ? 16 : one_in(3) ? link + 8 : link;
-}
-
-static void add_inner(int count, int *loops)
-{
-    int left = recent(count), choice = below(10);
-    if (choice < 4) {
-        add_node(one_in(2) ? 8 : 9, some_way(), left, 0);
-    } else if (choice < 7) {
-        add_node(one_in(2) ? 6 : 7, 0, left, recent(count));
-    } else if (choice < 8 && (one_in(8) || (variables[left].even | variables[left].odd) == 0)) {
-        add_node(5, 0, left, 0);
-    } else if (choice < 9 && *loops > 0) {
-        int v = one_in(6) ? below(16) : below(2);
-        if (one_in(30) || !(variables[left].odd >> v & 1)) {
-            add_node(one_in(2) ? 10 : 11, v, left, 0);
-            --*loops;
-        }
-    } else {
-        add_leaf();
-    }
-}
-
-/* Loops in loops, each variable under a way: (leaf and way 0) or (way 1) or .., closed from the last variable to the first. */
-static void random_nest(void)
-{
-    int depth = one_in(5) ? 3 : 2, last = 0;
-    cond.length = 0;
-    for (int v = 0; v < depth; v++) {
-        int before = last;
-        add_leaf();
-        int leaf = (int)cond.length / 6 - 1;
-        if (variables[leaf].even == 0 && one_in(3))
-            add_node(5, 0, leaf++, 0);
-        add_node(4, v, 0, 0);
-        add_node(one_in(3) ? 9 : 8, some_way(), leaf + 1, 0);
-        add_node(one_in(2) ? 6 : 7, 0, leaf, leaf + 2);
-        last = leaf + 3;
-        if (v > 0)
-            add_node(one_in(3) ? 7 : 6, 0, before, last++);
-    }
-    for (int v = depth - 1; v >= 0; v--) {
-        add_node(one_in(2) ? 10 : 11, v, last++, 0);
-        if (one_in(4))
-            add_node(one_in(2) ? 8 : 9, some_way(), last++, 0);
-    }
-}
-
-static void random_table(void)
-{
-    int wanted = one_in(6) ? between(1, NODES_MOST) : between(1, 14), loops = between(0, 3);
-    cond.length = 0;
-    add_leaf();
-    for (int tries = 0; tries < 200 && (int)cond.length / 6 < wanted; tries++)
-        if (one_in(4))
-            add_leaf();
-        else
-            add_inner((int)cond.length / 6, &loops);
-}
-
-static void random_condition(void)
-{
-    if (one_in(4))
-        random_nest();
-    else
-        random_table();
-    for (int v = 0; v < 16 && !one_in(60); v++) {
-        int last = (int)cond.length / 6 - 1;
-        if (variables[last].odd >> v & 1 && !(variables[last].even >> v & 1))
-            add_node(5, 0, last++, 0);
-        if (variables[last].even >> v & 1)
-            add_node(one_in(2) ? 10 : 11, v, last, 0);
-    }
-}
-
-/* ---- random sheets */
-
-static int some_name(void)
-{
-    return one_in(5) ? below(16) : below(5);
-}
-
-static int some_moved_name(void)
-{
-    return one_in(5) ? between(1, 15) : between(1, 4);
-}
-
-static void random_edit(uint8_t *edit)
-{
-    const int link = one_in(2) ? below(8) : one_in(2) ? 4 : 0, functional = between(4, 7), label = one_in(3) ? below(16) : below(3);
-    const int forms[9][3] = {
-        {some_moved_name(), some_name(), 0}, {some_moved_name(), some_name(), functional}, {some_name(), label, 0},
-        {some_name(), label, 0},             {link, some_name(), some_name()},             {link, some_name(), some_name()},
-        {functional, some_name(), 0},        {some_moved_name(), below(256), 0},           {some_name(), 0, 0},
-    };
-    edit[0] = (uint8_t)below(9);
-    for (int k = 0; k < 3; k++)
-        edit[k + 1] = (uint8_t)forms[edit[0]][k];
-}
-
-/* Edits that go through, for the most part; the model is the site as they leave it. */
-static void random_sheet(void)
-{
-    int wanted = one_in(30) ? between(7, 64) : one_in(3) ? between(0, 6) : between(0, 3);
-    uint8_t edit[4];
-    sheet.length = 0;
-    for (int tries = 0; tries < 20 * wanted && (int)sheet.length / 4 < wanted; tries++) {
-        random_edit(edit);
-        if (model_edit(&model, edit) || one_in(100))
-            append(&sheet, edit, 4);
-    }
-}
-
-/* ---- damage */
-
-static void damage_length(struct bytes *piece, int unit)
-{
-    int change = one_in(2) ? unit * between(-2, 2) : between(-5, 5);
-    if (one_in(8))
-        piece->length = 0;
-    else if ((int)piece->length + change >= 0)
-        piece->length = (size_t)((int)piece->length + change);
-    if (one_in(10) && piece == &cond)
-        piece->length = one_in(2) ? 12288 : 12294;
-    if (one_in(10) && piece == &sheet)
-        piece->length = one_in(2) ? 256 : 260;
-}
-
-static void damage_bit(struct bytes *piece)
-{
-    if (piece->length > 0)
-        piece->at[below((int)piece->length)] ^= (uint8_t)(1 << below(8));
-}
-
-static void damage_site(void)
-{
-    const int s = one_in(2) ? below(8) : below(256), t = one_in(2) ? below(8) : below(256);
-    if (site.length != DESK_SITE_BYTES)
-        return;
-    switch (below(9)) {
-    case 0:
-        site.at[s / 8] &= (uint8_t)~(1 << s % 8);
-        break;
-    case 1:
-        site.at[0] &= 0xfe;
-        break;
-    case 2:
-        site.at[NAMES] = (uint8_t)s;
-        break;
-    case 3:
-        site.at[NAMES + below(16)] = (uint8_t)s;
-        break;
-    case 4:
-    case 5:
-        put_slot(site.at + LABELS + 32 * below(16), s);
-        break;
-    case 6:
-        site.at[TARGETS + 256 * below(4) + (one_in(4) ? 0 : s)] = (uint8_t)t;
-        break;
-    case 7:
-        put_slot(site.at + ROWS + 8192 * below(4) + 32 * (one_in(4) ? 0 : s), one_in(4) ? 0 : t);
-        break;
-    default:
-        damage_bit(&site);
-    }
-}
-
-static void damage_condition(void)
-{
-    int count = (int)(cond.length / 6);
-    if (count == 0)
-        return;
-    uint8_t *node = cond.at + 6 * below(count);
-    switch (below(7)) {
-    case 0:
-        node[0] = (uint8_t)(one_in(4) ? below(256) : below(14));
-        break;
-    case 1:
-        node[1] = (uint8_t)(one_in(2) ? below(18) : below(256));
-        break;
-    case 2:
-        node[2 + 2 * below(2)] = (uint8_t)(one_in(2) ? below(count + 1) : (node - cond.at) / 6);
-        break;
-    case 3:
-        node[3 + 2 * below(2)] = (uint8_t)one_in(2);
-        break;
-    case 4: /* a variable is left free, or a not stands above it; more may follow, so that these nodes are not reached */
-        add_node(4, below(2), 0, 0);
-        if (one_in(2))
-            add_node(5, 0, count, 0);
-        for (int loops = below(4), last = (int)cond.length / 6 - 1; loops > 0; loops--)
-            add_node(between(10, 11), below(2), last, 0);
-        if (one_in(2))
-            add_node(5, 0, count - 1, 0);
-        break;
-    case 5: /* an operator is exchanged for another of its shape */
-        if (node[0] == 8 || node[0] == 9)
-            node[0] ^= 1;
-        else if (node[0] == 5)
-            node[0] = 10;
-        else if (node[0] == 10 || node[0] == 11)
-            node[0] = 5, node[1] = 0;
-        break;
-    default:
-        damage_bit(&cond);
-    }
-}
-
-static void damage_sheet(void)
-{
-    uint8_t edit[4];
-    random_edit(edit);
-    if (one_in(2)) {
-        static const uint8_t bounds[] = {0, 3, 4, 7, 8, 9, 15, 16, 255};
-        edit[below(4)] = one_in(4) ? (uint8_t)below(256) : bounds[below(sizeof bounds)];
-    }
-    if (one_in(2) && sheet.length >= 4)
-        memcpy(sheet.at + 4 * below((int)(sheet.length / 4)), edit, 4);
-    else if (one_in(2) && sheet.length < 256)
-        append(&sheet, edit, 4);
-    else
-        damage_bit(&sheet);
-}
-
-/* Before the pieces are put together. */
-static void damage_pieces(void)
-{
-    for (int k = one_in(2) ? between(2, 4) : 1; k > 0; k--)
-        switch (below(10)) {
-        case 0:
-            damage_length(one_in(3) ? &site : one_in(2) ? &cond : &sheet, one_in(2) ? 6 : 4);
-            break;
-        case 1:
-        case 2:
-        case 3:
-            damage_site();
-            break;
-        case 4:
-        case 5:
-        case 6:
-            if (cond.length < 6 * NODES_MOST)
-                damage_condition();
-            break;
-        default:
-            damage_sheet();
-        }
-}
-
-static void put_distance(uint8_t *at, size_t distance)
-{
-    for (int k = 0; k < 4; k++)
-        at[k] = (uint8_t)(distance >> 8 * k);
-}
-
-/* A length at the bounds, with pieces that fill it. */
-static void bound_file(void)
-{
-    static const size_t lengths[] = {11, 12, 13, 65535, 65536, 65537};
-    file.length = lengths[below(6)];
-    if (file.length < 12)
-        return;
-    size_t room = file.length - 12, back = (size_t)below((int)room + 1);
-    put_distance(file.at + room, one_in(2) ? back : (size_t)below((int)back + 1));
-    put_distance(file.at + room + 4, back);
-    put_distance(file.at + room + 8, room);
-}
-
-static void damage_file(void)
-{
-    uint8_t *trailer = file.at + file.length - 12, keep[4];
-    int which = below(3);
-    switch (below(9)) {
-    case 0:
-        file.length = (size_t)below(one_in(2) ? 16 : (int)file.length);
-        break;
-    case 1:
-        file.length = (size_t)between((int)file.length, PIECE_MAX);
-        break;
-    case 7:
-        bound_file();
-        break;
-    case 2: /* two distances exchanged */
-        memcpy(keep, trailer, 4);
-        memcpy(trailer, trailer + 4 + 4 * below(2), 4);
-        memcpy(trailer + 4, keep, 4);
-        break;
-    case 3:
-        memset(trailer + 4 * which, 0xff, 4);
-        break;
-    case 4:
-        trailer[4 * which]++;
-        break;
-    case 5: /* the pieces meet elsewhere */
-        put_distance(trailer, (size_t)below(300));
-        break;
-    case 6:
-        memset(trailer, 0, 4 + 4 * (size_t)which);
-        break;
-    default:
-        trailer[below(12)] ^= (uint8_t)(1 << below(8));
-    }
-}
-
-static void build_file(void)
-{
-    uint8_t trailer[12];
-    file.length = 0;
-    append(&file, site.at, site.length);
-    append(&file, cond.at, cond.length);
-    append(&file, sheet.at, sheet.length);
-    put_distance(trailer, sheet.length);
-    put_distance(trailer + 4, sheet.length + cond.length);
-    put_distance(trailer + 8, file.length);
-    append(&file, trailer, 12);
-}
-
-static void build_job(void)
-{
-    state = seed * 0x100000001b3u + (uint64_t)job;
-    bool damaged = job % 2 == 1, in_file = one_in(6);
-    random_site();
-    model_read(&model, site.at);
-    random_condition();
-    random_sheet();
-    if (damaged && !in_file)
-        damage_pieces();
-    build_file();
-    if (damaged && in_file)
-        damage_file();
-}
-
 /* ---- memory whose end is the end of a page, with a page after it that may not be touched */
 
-enum { PAGE = 4096, ROOM = 20 * PAGE, FRONT = 64 };
+enum { PAGE = 4096, ROOM = 20 * PAGE, FRONT = 64, INPUTS_MOST = 3, BUFFERS_MOST = 6, AREAS = INPUTS_MOST + BUFFERS_MOST };
 
-static uint8_t *areas[9];
+static uint8_t *areas[AREAS];
 
 static void make_areas(void)
 {
-    for (int k = 0; k < 9; k++) {
+    for (int k = 0; k < AREAS; k++) {
         areas[k] = mmap(NULL, ROOM + PAGE, PROT_READ | PROT_WRITE, MAP_PRIVATE | MAP_ANONYMOUS, -1, 0);
         if (areas[k] == MAP_FAILED || mprotect(areas[k] + ROOM, PAGE, PROT_NONE) != 0) {
             perror("desk_test: mmap");
@@ -558,13 +57,13 @@ struct buffer {
     uint8_t *at, oracle[DESK_WORK_BYTES + 1];
 };
 
-static struct buffer buffers[6];
+static struct buffer buffers[BUFFERS_MOST];
 
 static void open_buffer(int number, size_t length)
 {
     struct buffer *b = &buffers[number];
     b->length = length;
-    b->at = areas[3 + number] + ROOM - length;
+    b->at = areas[INPUTS_MOST + number] + ROOM - length;
     memset(b->at - FRONT, 0x55, FRONT);
     memset(b->at, 0xaa, length);
     memset(b->oracle, 0xaa, length);
@@ -595,119 +94,197 @@ static void check_input(const char *function, struct input input)
         fail(function, "an input");
 }
 
-/* ---- the calls */
-
-static unsigned long counted[5][15], listed, wrong_lengths;
-
-static void check_numbers(const char *function, const void *one, const void *other, size_t length, int entry, uint32_t reason)
+static void check_numbers(const char *function, const void *one, const void *other, size_t length)
 {
-    if (memcmp(one, other, length) != 0) {
-        const uint32_t *ours = one, *theirs = other;
-        for (size_t k = 0; k < length / 4; k++)
-            printf("%s: number %zu: library %u, oracle %u\n", function, k, ours[k], theirs[k]);
-        fail(function, "the answer");
-    }
-    counted[entry][reason]++;
+    if (memcmp(one, other, length) == 0)
+        return;
+    const uint32_t *ours = one, *theirs = other;
+    for (size_t k = 0; k < length / sizeof *ours; k++)
+        printf("%s: number %zu: library %u, oracle %u\n", function, k, ours[k], theirs[k]);
+    fail(function, "the answer");
 }
+
+/* ---- what the jobs have met */
+
+enum { LIST, APPLY, REWRITE, CLASSES, JOB, ENTRIES };
+enum { BUFFERS = 11 };
+
+static struct {
+    unsigned long reasons[ENTRIES][REASONS];
+    unsigned long kinds[KINDS], diamonds[WAYS], boxes[WAYS]; /* nodes that an accepted condition's last node reaches */
+    unsigned long rewritten[OPERATIONS];                     /* edits that an accepted condition was rewritten through */
+    unsigned long through[OPERATIONS], stuck[OPERATIONS];    /* edits that went through, and that did not */
+    unsigned long shorter[BUFFERS], longer[BUFFERS];         /* calls with this buffer a byte short, a byte long */
+    unsigned long listed;                                    /* lists that are not empty */
+} met;
+
+static void meet_nodes(void)
+{
+    static bool reached[DESK_NODES_MAX];
+    int count = (int)cond.length / DESK_NODE_BYTES;
+    memset(reached, 0, sizeof reached);
+    reached[count - 1] = true;
+    for (int i = count - 1; i >= 0; i--) {
+        const uint8_t *node = cond.at + DESK_NODE_BYTES * i;
+        if (!reached[i])
+            continue;
+        met.kinds[node[0]]++;
+        if (node[0] == DIAMOND)
+            met.diamonds[node[1]]++;
+        if (node[0] == BOX)
+            met.boxes[node[1]]++;
+        if (children(node[0]) >= 1)
+            reached[node[2] + 256 * node[3]] = true;
+        if (children(node[0]) == 2)
+            reached[node[4] + 256 * node[5]] = true;
+    }
+}
+
+static void meet_edits(unsigned long *operations, size_t count)
+{
+    for (size_t k = 0; k < count; k++)
+        operations[sheet.at[DESK_EDIT_BYTES * k]]++;
+}
+
+/* ---- the calls: each gives its reason */
 
 #define BUFFER(k) buffers[k].at, buffers[k].length
 #define ORACLE(k) buffers[k].oracle, buffers[k].length
 #define INPUT(i) (i).at, (i).from->length
 
-static void try_list(const size_t *lengths)
+static uint32_t try_list(const size_t *lengths)
 {
     struct input a = lend(0, &site), b = lend(1, &cond);
     for (int k = 0; k < 2; k++)
         open_buffer(k, lengths[k]);
     struct desk_listed one = desk_list(INPUT(a), INPUT(b), BUFFER(0), BUFFER(1));
     struct desk_listed other = oracle_list(INPUT(a), INPUT(b), ORACLE(0), ORACLE(1));
-    check_numbers("desk_list", &one, &other, sizeof one, 0, other.reason);
+    check_numbers("desk_list", &one, &other, sizeof one);
     check_buffers("desk_list", 2, other.reason, 1);
     check_input("desk_list", a);
     check_input("desk_list", b);
-    listed += other.count != 0;
+    if (other.reason == DESK_OK)
+        meet_nodes();
+    met.listed += other.count != 0;
+    return other.reason;
 }
 
-static void try_apply(const size_t *lengths)
+static uint32_t try_apply(const size_t *lengths)
 {
     struct input a = lend(0, &site), b = lend(1, &sheet);
     open_buffer(0, lengths[0]);
     struct desk_applied one = desk_apply(INPUT(a), INPUT(b), BUFFER(0));
     struct desk_applied other = oracle_apply(INPUT(a), INPUT(b), ORACLE(0));
-    check_numbers("desk_apply", &one, &other, sizeof one, 1, other.reason);
+    check_numbers("desk_apply", &one, &other, sizeof one);
     check_buffers("desk_apply", 1, other.reason, -1);
     check_input("desk_apply", a);
     check_input("desk_apply", b);
+    if (other.reason == DESK_OK)
+        meet_edits(met.through, sheet.length / DESK_EDIT_BYTES);
+    if (other.reason == DESK_NOT_THROUGH)
+        met.stuck[sheet.at[DESK_EDIT_BYTES * other.where]]++;
+    return other.reason;
 }
 
-static void try_rewrite(const size_t *lengths)
+static uint32_t try_rewrite(const size_t *lengths)
 {
     struct input a = lend(0, &cond), b = lend(1, &sheet);
     open_buffer(0, lengths[0]);
     struct desk_rewritten one = desk_rewrite(INPUT(a), INPUT(b), BUFFER(0));
     struct desk_rewritten other = oracle_rewrite(INPUT(a), INPUT(b), ORACLE(0));
-    check_numbers("desk_rewrite", &one, &other, sizeof one, 2, other.reason);
+    check_numbers("desk_rewrite", &one, &other, sizeof one);
     check_buffers("desk_rewrite", 1, other.reason, -1);
     check_input("desk_rewrite", a);
     check_input("desk_rewrite", b);
+    if (other.reason == DESK_OK)
+        meet_edits(met.rewritten, sheet.length / DESK_EDIT_BYTES);
+    return other.reason;
 }
 
-static void try_classes(const size_t *lengths)
+static uint32_t try_classes(const size_t *lengths)
 {
     struct input a = lend(0, &site);
     open_buffer(0, lengths[0]);
     struct desk_classed one = desk_classes(INPUT(a), BUFFER(0));
     struct desk_classed other = oracle_classes(INPUT(a), ORACLE(0));
-    check_numbers("desk_classes", &one, &other, sizeof one, 3, other.reason);
+    check_numbers("desk_classes", &one, &other, sizeof one);
     check_buffers("desk_classes", 1, other.reason, -1);
     check_input("desk_classes", a);
+    return other.reason;
 }
 
-static void try_job(const size_t *lengths)
+static uint32_t try_job(const size_t *lengths)
 {
     struct input a = lend(0, &file);
-    for (int k = 0; k < 6; k++)
+    for (int k = 0; k < BUFFERS_MOST; k++)
         open_buffer(k, lengths[k]);
     struct desk_done one = desk_job(INPUT(a), BUFFER(0), BUFFER(1), BUFFER(2), BUFFER(3), BUFFER(4), BUFFER(5));
     struct desk_done other = oracle_job(INPUT(a), ORACLE(0), ORACLE(1), ORACLE(2), ORACLE(3), ORACLE(4), ORACLE(5));
-    check_numbers("desk_job", &one, &other, sizeof one, 4, other.reason);
-    check_buffers("desk_job", 6, other.reason, 5);
+    check_numbers("desk_job", &one, &other, sizeof one);
+    check_buffers("desk_job", BUFFERS_MOST, other.reason, 5);
     check_input("desk_job", a);
-    if (memcmp(buffers[2].at, buffers[3].at, other.reason ? 0 : DESK_SET_BYTES) != 0)
+    if (other.reason == DESK_OK && memcmp(buffers[2].at, buffers[3].at, DESK_SET_BYTES) != 0)
         fail("desk_job", "the list today from the list after");
+    return other.reason;
 }
 
 static const struct entry {
-    const char *name;
-    void (*try)(const size_t *lengths);
-    unsigned items; /* weight 2 to the power n: item n concerns it */
+    uint32_t (*try)(const size_t *lengths);
     int buffers;
-    size_t lengths[6];
-} entries[5] = {
-    {"list", try_list, 0x7fb, 2, {DESK_SET_BYTES, DESK_WORK_BYTES}},
-    {"apply", try_apply, 0x387b, 1, {DESK_SITE_BYTES}},
-    {"rewrite", try_rewrite, 0x5f83, 1, {DESK_TABLE_BYTES}},
-    {"classes", try_classes, 0x7b, 1, {DESK_CLASSES_BYTES}},
-    {"job", try_job, 0x7fff, 6,
-     {DESK_SITE_BYTES, DESK_TABLE_BYTES, DESK_SET_BYTES, DESK_SET_BYTES, DESK_CLASSES_BYTES, DESK_WORK_BYTES}},
+    size_t lengths[BUFFERS_MOST];
+} entries[ENTRIES] = {
+    [LIST] = {try_list, 2, {DESK_SET_BYTES, DESK_WORK_BYTES}},
+    [APPLY] = {try_apply, 1, {DESK_SITE_BYTES}},
+    [REWRITE] = {try_rewrite, 1, {DESK_TABLE_BYTES}},
+    [CLASSES] = {try_classes, 1, {DESK_CLASSES_BYTES}},
+    [JOB] = {try_job, 6, {DESK_SITE_BYTES, DESK_TABLE_BYTES, DESK_SET_BYTES, DESK_SET_BYTES, DESK_CLASSES_BYTES, DESK_WORK_BYTES}},
 };
+
+static uint32_t try_entry(int e, const size_t *lengths)
+{
+    uint32_t reason = entries[e].try(lengths);
+    met.reasons[e][reason]++;
+    return reason;
+}
+
+/* The job at hand through all five, with buffers as they should be. */
+static void try_all(void)
+{
+    for (int e = 0; e < ENTRIES; e++)
+        try_entry(e, entries[e].lengths);
+}
+
+/* One buffer of the eleven, counted over the entry points, is a byte short or a byte long. */
+static void try_off_by_one(int number, bool longer)
+{
+    size_t lengths[BUFFERS_MOST];
+    int e = 0, k = number;
+    while (k >= entries[e].buffers)
+        k -= entries[e++].buffers;
+    memcpy(lengths, entries[e].lengths, sizeof lengths);
+    if (longer)
+        lengths[k]++;
+    else
+        lengths[k]--;
+    if (try_entry(e, lengths) != DESK_BUFFER_LENGTH)
+        fail("a buffer of a wrong length", "the reason");
+    (longer ? met.longer : met.shorter)[number]++;
+}
 
 /* One buffer at least has no byte, one too few, one too many, or another buffer's length. */
 static void try_wrong_lengths(void)
 {
-    const struct entry *e = &entries[one_in(2) ? 4 : below(5)];
-    size_t lengths[6];
-    int wrong = below(e->buffers);
-    for (int k = 0; k < e->buffers; k++) {
-        const size_t other = e->lengths[k] == DESK_WORK_BYTES ? DESK_SET_BYTES : DESK_WORK_BYTES;
-        const size_t faults[4] = {0, e->lengths[k] - 1, e->lengths[k] + 1, other};
-        lengths[k] = k == wrong || one_in(6) ? faults[below(4)] : e->lengths[k];
+    const int e = one_in(2) ? JOB : below(ENTRIES), wrong = below(entries[e].buffers);
+    size_t lengths[BUFFERS_MOST];
+    for (int k = 0; k < entries[e].buffers; k++) {
+        const size_t right = entries[e].lengths[k], other = right == DESK_WORK_BYTES ? DESK_SET_BYTES : DESK_WORK_BYTES;
+        const size_t faults[4] = {0, right - 1, right + 1, other};
+        lengths[k] = k == wrong || one_in(6) ? faults[below(4)] : right;
     }
-    e->try(lengths);
-    wrong_lengths++;
+    try_entry(e, lengths);
 }
 
-/* ---- cases with known answers, in a thread with the stack that the header asks for */
+/* ---- cases with known answers */
 
 static void expect(bool holds, const char *what)
 {
@@ -717,16 +294,44 @@ static void expect(bool holds, const char *what)
     }
 }
 
+/* Site A of the specification. */
 static void build_a(void)
 {
     site.length = DESK_SITE_BYTES;
     memset(site.at, 0, site.length);
     site.at[0] = 0x0f;
-    site.at[LABELS] = 0x02;
-    site.at[NAMES + 1] = 2;
-    site.at[NAMES + 2] = 3;
-    site.at[TARGETS + 2] = 1;
-    site.at[TARGETS + 3] = 2;
+    site.at[LABELS_AT] = 0x02;
+    site.at[NAMES_AT + 1] = 2;
+    site.at[NAMES_AT + 2] = 3;
+    site.at[target_at(4, 2)] = 1;
+    site.at[target_at(4, 3)] = 2;
+}
+
+/* The condition R of the specification. */
+static void build_r(void)
+{
+    cond.length = 0;
+    add_node(LABEL, 0, 0, 0);
+    add_node(VARIABLE, 0, 0, 0);
+    add_node(DIAMOND, 4, 1, 0);
+    add_node(OR, 0, 0, 2);
+    add_node(MU, 0, 3, 0);
+}
+
+/* Label 0, and then this kind over the node before it. */
+static void build_chain(int kind, int param, int count)
+{
+    cond.length = 0;
+    add_node(LABEL, 0, 0, 0);
+    for (int i = 0; i < count - 1; i++)
+        add_node(kind, param, i, children(kind) == 2 ? i : 0);
+}
+
+static void build_sheet(int op, int x, int y, int z)
+{
+    const uint8_t edit[DESK_EDIT_BYTES] = {(uint8_t)op, (uint8_t)x, (uint8_t)y, (uint8_t)z};
+    sheet.length = 0;
+    append(&sheet, edit, sizeof edit);
 }
 
 /* The reason, with the count or W. */
@@ -737,164 +342,245 @@ static void expect_list(uint32_t reason, uint32_t number, const char *what)
     expect(r.reason == reason && (reason ? r.where : r.count) == number, what);
 }
 
-/* A job without edits, whose condition may be too deep for the oracle. */
-static void expect_job(uint32_t count, const char *what)
+/* The reason, with the nodes of the table. */
+static void expect_rewrite(uint32_t reason, uint32_t nodes, const char *what)
+{
+    static uint8_t table[DESK_TABLE_BYTES];
+    struct desk_rewritten r = desk_rewrite(cond.at, cond.length, sheet.at, sheet.length, table, sizeof table);
+    expect(r.reason == reason && r.where == 0 && r.nodes == nodes, what);
+}
+
+/* The reason of a job, with the count of both lists. */
+static void expect_job(uint32_t reason, uint32_t count, const char *what)
 {
     static uint8_t result[DESK_SITE_BYTES], table[DESK_TABLE_BYTES], after[DESK_SET_BYTES], today[DESK_SET_BYTES];
     static uint8_t classes[DESK_CLASSES_BYTES], work[DESK_WORK_BYTES];
-    build_file();
     struct desk_done r = desk_job(file.at, file.length, result, sizeof result, table, sizeof table, after, sizeof after,
                                   today, sizeof today, classes, sizeof classes, work, sizeof work);
-    expect(r.reason == 0 && r.after == count && r.today == count && r.nodes == cond.length / 6 && r.classes == 5, what);
+    expect(r.reason == reason && r.where == 0 && r.after == count && r.today == count, what);
 }
 
-/* A chain: the first node, and then this kind over the node before it. */
-static void build_chain(int first, int kind, int param, int count)
+/* Chains of 2,048 nodes, which may be too deep for the oracle. */
+static void try_chains(void)
 {
-    cond.length = 0;
-    for (int i = 0; i < count; i++) {
-        const int below_it = i - 1, two = kind == 6 || kind == 7;
-        const uint8_t low = (uint8_t)below_it, high = (uint8_t)(below_it >> 8);
-        const uint8_t start[6] = {(uint8_t)first}, node[6] = {(uint8_t)kind, (uint8_t)param, low, high, two ? low : 0, two ? high : 0};
-        append(&cond, i == 0 ? start : node, 6);
+    build_a();
+    sheet.length = 0;
+    for (int kind = NOT; kind <= NU; kind++) {
+        const uint32_t count = kind == NOT ? 255 : kind == DIAMOND ? 0 : kind == BOX ? SLOTS : 1;
+        build_chain(kind, 0, DESK_NODES_MAX);
+        build_file();
+        try_entry(REWRITE, entries[REWRITE].lengths);
+        expect_list(DESK_OK, count, "a chain of 2,048 nodes");
+        expect_job(DESK_OK, count, "a job with a chain of 2,048 nodes");
+    }
+    build_chain(NOT, 0, DESK_NODES_MAX - 1);
+    expect_list(DESK_OK, 1, "2,046 nots over label 0");
+    build_chain(DIAMOND, EVERYWHERE, DESK_NODES_MAX);
+    expect_list(DESK_OK, SLOTS, "2,047 times everywhere");
+    build_chain(MU, 3, DESK_NODES_MAX);
+    expect_list(DESK_OK, 1, "2,047 loops without their variable");
+}
+
+/* "2,048 nodes pass; 12,294 bytes are refused, 7." */
+static void try_table_lengths(void)
+{
+    build_a();
+    sheet.length = 0;
+    for (int more = 0; more <= 1; more++) {
+        const uint32_t reason = more ? DESK_CONDITION_LENGTH : DESK_OK, count = more ? 0 : 255;
+        build_chain(NOT, 0, DESK_NODES_MAX + more);
+        build_file();
+        expect_list(reason, count, "the longest condition");
+        expect_rewrite(reason, more ? 0 : DESK_NODES_MAX, "the longest condition, rewritten");
+        expect_job(reason, count, "a job with the longest condition");
+        try_all();
+    }
+}
+
+/* "A with 4 and 5 present, link 4 to 1 from both: both class 4; absent slots 6." */
+static void try_class_numbers(void)
+{
+    static const uint8_t first[] = {0, 1, 2, 3, 4, 4};
+    static uint8_t classes[DESK_CLASSES_BYTES], numbers[DESK_CLASSES_BYTES];
+    build_a();
+    site.at[0] = 0x3f;
+    site.at[target_at(4, 4)] = site.at[target_at(4, 5)] = 1;
+    memset(numbers, 6, sizeof numbers);
+    memcpy(numbers, first, sizeof first);
+    struct desk_classed r = desk_classes(site.at, site.length, classes, sizeof classes);
+    expect(r.reason == DESK_OK && r.count == 6 && memcmp(classes, numbers, sizeof numbers) == 0, "the classes of A with 4 and 5");
+    build_r();
+    sheet.length = 0;
+    build_file();
+    try_all();
+}
+
+/* R through DT1 edits, each of which doubles its diamonds: 2,045 nodes after eight, and too many after nine. */
+static void try_doubles(void)
+{
+    static const uint8_t dt1[DESK_EDIT_BYTES] = {DT1, 4, 1, 2};
+    build_a();
+    build_r();
+    sheet.length = 0;
+    for (int k = 0; k <= 9; k++) {
+        const uint32_t reason = k < 9 ? DESK_OK : DESK_TABLE_FULL;
+        build_file();
+        expect_rewrite(reason, k < 9 ? 5 + 8 * ((1u << k) - 1) : 0, "R through DT1 edits");
+        expect_job(reason, k < 9 ? 3 : 0, "a job with R and DT1 edits");
+        try_all();
+        append(&sheet, dt1, sizeof dt1);
     }
 }
 
 /* AP makes three nodes of one: a rewritten table of 2,048 nodes, and one of 2,049. */
 static void try_full_tables(void)
 {
-    static const uint8_t ap[] = {2, 1, 0, 0};
-    sheet.length = 0;
-    append(&sheet, ap, sizeof ap);
-    for (int count = 2046; count <= 2047; count++) {
-        static uint8_t table[DESK_TABLE_BYTES];
-        build_chain(2, 5, 0, count);
-        struct desk_rewritten w = desk_rewrite(cond.at, cond.length, sheet.at, sheet.length, table, sizeof table);
-        expect(count == 2046 ? w.reason == 0 && w.nodes == 2048 : w.reason == 14, "a full table");
-        try_rewrite(entries[2].lengths);
+    build_sheet(AP, 1, 0, 0);
+    for (int more = 0; more <= 1; more++) {
+        build_chain(NOT, 0, DESK_NODES_MAX - 2 + more);
+        expect_rewrite(more ? DESK_TABLE_FULL : DESK_OK, more ? 0 : DESK_NODES_MAX, "a full table");
+        try_entry(REWRITE, entries[REWRITE].lengths);
     }
 }
 
 /* A functional link onto the target that is there, onto another one, and from a slot to itself. */
 static void try_links(void)
 {
-    static const uint8_t at[3][4] = {{4, 4, 2, 1}, {4, 4, 1, 2}, {4, 4, 1, 1}};
+    static const int ends[3][2] = {{2, 1}, {1, 2}, {1, 1}};
+    build_a();
     for (int k = 0; k < 3; k++) {
         static uint8_t result[DESK_SITE_BYTES];
-        sheet.length = 0;
-        append(&sheet, at[k], 4);
+        build_sheet(AT, 4, ends[k][0], ends[k][1]);
         struct desk_applied r = desk_apply(site.at, site.length, sheet.at, sheet.length, result, sizeof result);
-        expect(k == 0 ? r.reason == 0 && memcmp(result, site.at, sizeof result) == 0 : r.reason == 13, "AT over a target");
-        try_apply(entries[1].lengths);
+        expect(k == 0 ? r.reason == DESK_OK && memcmp(result, site.at, sizeof result) == 0 : r.reason == DESK_NOT_THROUGH,
+               "AT over a target");
+        try_entry(APPLY, entries[APPLY].lengths);
     }
 }
 
-static void *try_known_answers(void *unused)
+/* A file too short for a trailer, and a trailer alone: its three pieces are empty. */
+static void try_short_files(void)
 {
-    build_a();
-    sheet.length = 0;
-    for (int kind = 5; kind <= 11; kind++) {
-        const uint32_t count = kind == 5 ? 255 : kind == 8 ? 0 : kind == 9 ? 256 : 1;
-        build_chain(2, kind, 0, 2048);
-        try_rewrite(entries[2].lengths);
-        expect_list(0, count, "a chain of 2,048 nodes");
-        expect_job(count, "a job with a chain of 2,048 nodes");
+    memset(file.at, 0, DESK_TRAILER_BYTES);
+    for (int less = 0; less <= 1; less++) {
+        file.length = (size_t)(DESK_TRAILER_BYTES - less);
+        expect_job(less ? DESK_FILE : DESK_SITE_LENGTH, 0, "the shortest file");
+        try_entry(JOB, entries[JOB].lengths);
     }
-    build_chain(2, 5, 0, 2048);
-    expect_list(0, 255, "2,047 nots over label 0");
-    build_chain(2, 5, 0, 2047);
-    expect_list(0, 1, "2,046 nots over label 0");
-    build_chain(2, 7, 0, 2048);
-    expect_list(0, 1, "ands with 2^2047 paths");
-    build_chain(2, 8, 16, 2048);
-    expect_list(0, 256, "2,047 times everywhere");
-    build_chain(2, 10, 3, 2048);
-    expect_list(0, 1, "2,047 loops without their variable");
-    build_chain(2, 5, 0, 2049);
-    expect_list(7, 0, "12,294 bytes");
-    static const uint8_t r[] = {2, 0, 0, 0, 0, 0, 4, 0, 0, 0, 0, 0, 8, 4, 1, 0, 0, 0, 6, 0, 0, 0, 2, 0, 10, 0, 3, 0, 0, 0};
-    static const uint8_t dt1[] = {5, 4, 1, 2};
-    cond.length = sheet.length = 0;
-    append(&cond, r, sizeof r);
-    for (int k = 0; k <= 9; k++) {
-        static uint8_t table[DESK_TABLE_BYTES];
-        struct desk_rewritten w = desk_rewrite(cond.at, cond.length, sheet.at, sheet.length, table, sizeof table);
-        uint32_t nodes = 5 + 8 * ((1u << k) - 1);
-        expect(k < 9 ? w.reason == 0 && w.nodes == nodes : w.reason == 14 && w.where == 0 && w.nodes == 0, "R through DT1 edits");
-        build_file();
-        try_job(entries[4].lengths);
-        append(&sheet, dt1, sizeof dt1);
-    }
-    try_full_tables();
-    try_links();
-    return unused;
 }
 
 /* The chain of 255 slots, whose classes take the most rounds, and a site with every arc of a link. */
 static void try_large_sites(void)
 {
     build_a();
-    memset(site.at, 0xff, 32);
-    for (int s = 2; s < 256; s++)
-        site.at[TARGETS + s] = (uint8_t)(s - 1);
-    try_classes(entries[3].lengths);
-    memset(site.at + TARGETS, 0, 256);
-    for (int s = 1; s < 256; s++) {
-        memset(site.at + ROWS + 32 * s, 0xff, 32);
-        site.at[ROWS + 32 * s] = 0xfe;
+    memset(site.at, 0xff, DESK_SET_BYTES);
+    for (int s = 2; s < SLOTS; s++)
+        site.at[target_at(4, s)] = (uint8_t)(s - 1);
+    try_entry(CLASSES, entries[CLASSES].lengths);
+    memset(site.at + TARGETS_AT, 0, SLOTS);
+    for (int s = 1; s < SLOTS; s++) {
+        memset(site.at + row_at(0, s), 0xff, DESK_SET_BYTES);
+        site.at[row_at(0, s)] = 0xfe;
     }
-    try_classes(entries[3].lengths);
+    try_entry(CLASSES, entries[CLASSES].lengths);
 }
 
-static void print_counts(int jobs)
+static void *try_known_answers(void *unused)
 {
-    printf("seed %llu, %d jobs, half of them damaged; ", (unsigned long long)seed, jobs);
-    printf("%lu lists with a slot, %lu calls with wrong lengths\n%-8s", listed, wrong_lengths, "reason");
-    for (int n = 0; n < 15; n++)
+    try_chains();
+    try_table_lengths();
+    try_class_numbers();
+    try_doubles();
+    try_full_tables();
+    try_links();
+    try_short_files();
+    try_large_sites();
+    return unused;
+}
+
+/* In a thread with the stack that the header asks for. */
+static void run_known_answers(void)
+{
+    pthread_t thread;
+    pthread_attr_t attributes;
+    if (pthread_attr_init(&attributes) != 0 || pthread_attr_setstacksize(&attributes, DESK_STACK_BYTES) != 0 ||
+        pthread_create(&thread, &attributes, try_known_answers, NULL) != 0 || pthread_join(thread, NULL) != 0) {
+        fputs("desk_test: no thread\n", stderr);
+        exit(2);
+    }
+}
+
+/* ---- the run */
+
+/* Jobs of which some meet everything; if not, they are no longer made of everything. */
+enum { ENOUGH = 20000 };
+
+#define ALL(n) ((1u << (n)) - 1)
+
+static const struct row {
+    const char *name;
+    const unsigned long *counts;
+    int columns;
+    unsigned wanted; /* weight 2 to the power n: column n is met, and no other */
+} rows[] = {
+    {"list: reason", met.reasons[LIST], REASONS, 0x7fb},
+    {"apply: reason", met.reasons[APPLY], REASONS, 0x387b},
+    {"rewrite: reason", met.reasons[REWRITE], REASONS, 0x5f83},
+    {"classes: reason", met.reasons[CLASSES], REASONS, 0x7b},
+    {"job: reason", met.reasons[JOB], REASONS, ALL(REASONS)},
+    {"kind", met.kinds, KINDS, ALL(KINDS)},
+    {"way, diamond", met.diamonds, WAYS, ALL(WAYS)},
+    {"way, box", met.boxes, WAYS, ALL(WAYS)},
+    {"edit, rewritten", met.rewritten, OPERATIONS, ALL(OPERATIONS)},
+    {"edit, through", met.through, OPERATIONS, ALL(OPERATIONS)},
+    {"edit, not through", met.stuck, OPERATIONS, 1u << AT | 1u << AS | 1u << DS},
+    {"buffer, short", met.shorter, BUFFERS, ALL(BUFFERS)},
+    {"buffer, long", met.longer, BUFFERS, ALL(BUFFERS)},
+};
+
+static void print_rows(void)
+{
+    printf("%-17s", "");
+    for (int n = 0; n < WAYS; n++)
         printf("%6d", n);
-    for (int e = 0; e < 5; e++) {
-        printf("\n%-8s", entries[e].name);
-        for (int n = 0; n < 15; n++)
-            printf("%6lu", counted[e][n]);
+    for (size_t k = 0; k < sizeof rows / sizeof *rows; k++) {
+        printf("\n%-17s", rows[k].name);
+        for (int n = 0; n < rows[k].columns; n++)
+            printf("%6lu", rows[k].counts[n]);
     }
-    printf("\nno difference\n");
+    printf("\n");
 }
 
-/* Of so many jobs some meet each item that concerns an entry point; if not, they are no longer made of everything. */
-static void check_coverage(void)
+static void check_rows(void)
 {
-    for (int e = 0; e < 5; e++)
-        for (int n = 0; n < 15; n++)
-            if ((entries[e].items >> n & 1) != (counted[e][n] > 0)) {
-                printf("desk_test: %s: reason %d: %lu times\n", entries[e].name, n, counted[e][n]);
-                exit(1);
+    bool right = true;
+    for (size_t k = 0; k < sizeof rows / sizeof *rows; k++)
+        for (int n = 0; n < rows[k].columns; n++)
+            if ((rows[k].wanted >> n & 1) != (rows[k].counts[n] > 0)) {
+                printf("desk_test: %s %d: met %lu times\n", rows[k].name, n, rows[k].counts[n]);
+                right = false;
             }
+    if (!right)
+        exit(1);
 }
 
 int main(int argc, char **argv)
 {
-    int jobs = argc > 1 ? atoi(argv[1]) : 20000;
-    pthread_t thread;
-    pthread_attr_t attributes;
+    int jobs = argc > 1 ? atoi(argv[1]) : ENOUGH;
     seed = argc > 2 ? strtoull(argv[2], NULL, 10) : 1;
     make_areas();
-    job = -1;
-    if (pthread_attr_init(&attributes) != 0 || pthread_attr_setstacksize(&attributes, DESK_STACK_BYTES) != 0 ||
-        pthread_create(&thread, &attributes, try_known_answers, NULL) != 0 || pthread_join(thread, NULL) != 0) {
-        fputs("desk_test: no thread\n", stderr);
-        return 2;
-    }
-    try_large_sites();
-    memset(counted, 0, sizeof counted);
-    listed = 0;
+    run_known_answers();
+    memset(&met, 0, sizeof met);
     for (job = 0; job < jobs; job++) {
-        build_job();
-        for (int e = 0; e < 5; e++)
-            entries[e].try(entries[e].lengths);
+        build_job(seed, job);
+        try_all();
+        try_off_by_one(job % BUFFERS, job / BUFFERS % 2 == 1);
         try_wrong_lengths();
     }
-    print_counts(jobs);
-    if (jobs >= 20000)
-        check_coverage();
+    printf("seed %llu, %d jobs, half of them damaged; %lu lists with a slot\n", (unsigned long long)seed, jobs, met.listed);
+    print_rows();
+    if (jobs >= ENOUGH)
+        check_rows();
+    printf("no difference\n");
     return 0;
 }

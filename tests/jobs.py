@@ -14,8 +14,10 @@ import sys
 import changes
 import lists
 import pieces
+from layout import *
+from pieces import named, sheet
 
-LONGEST = 65536
+SEED = 65536
 
 
 # ---- the file
@@ -27,9 +29,9 @@ def job(site, condition, sheet):
 
 def parts(file):
     """Site, condition and sheet; None where item 2 is met."""
-    if not 12 <= len(file) <= LONGEST:
+    if not TRAILER_BYTES <= len(file) <= FILE_BYTES:
         return None
-    end = len(file) - 12
+    end = len(file) - TRAILER_BYTES
     near, middle, far = struct.unpack_from("<3I", file, end)
     if middle < near or far < middle or far != end:
         return None
@@ -49,13 +51,13 @@ def class_numbers(d):
     waiting = list(blocks)
     while waiting:
         splitter = waiting.pop()
-        for way in range(16):
+        for way in range(EVERYWHERE):
             reach = {s for s, targets in site.next[way].items() if targets & splitter}
             for block in [b for b in blocks if b & reach and b - reach]:
                 blocks.remove(block)
                 blocks += [block & reach, block - reach]
                 waiting += [block & reach, block - reach]
-    numbers = bytearray(256)
+    numbers = bytearray(SLOTS)
     for block in blocks:
         for s in block:
             numbers[s] = min(block)
@@ -85,22 +87,14 @@ def answer(file):
         return ["refused %d %d" % verdict]
     one, two, numbers = lists.answer(after, condition), lists.answer(site, table), class_numbers(after)
     assert one == two, (one, two)
-    long = table + bytes(12288 - len(table))
+    long = table + bytes(TABLE_BYTES - len(table))
     return [
-        "after " + one, "today " + two, "nodes %d" % (len(table) // 6), "classes %d" % len(set(numbers)),
+        "after " + one, "today " + two, "nodes %d" % (len(table) // NODE_BYTES), "classes %d" % len(set(numbers)),
         "site %d table %d numbers %s" % (checksum(after), checksum(long), numbers.hex()),
     ]
 
 
 # ---- cases
-
-def sheet(*edits):
-    return bytearray(b for edit in edits for b in (list(edit) + [0, 0, 0])[:4])
-
-
-def name(n):
-    return pieces.table((3, n, 0, 0))
-
 
 def with_bytes(d, *changed):
     d = bytearray(d)
@@ -110,7 +104,7 @@ def with_bytes(d, *changed):
 
 
 def with_trailer(file, *numbers):
-    return file[:-12] + struct.pack("<3I", *numbers)
+    return file[:-TRAILER_BYTES] + struct.pack("<3I", *numbers)
 
 
 A, R = pieces.site_a(), pieces.R
@@ -119,7 +113,7 @@ J = job(A, R, DT2)
 DOUBLE = [(5, 4, 1, 2)]
 ODD = pieces.table((4, 0, 0, 0), (5, 0, 0, 0), (10, 0, 1, 0))
 OPEN = pieces.table((0, 0, 0, 0), (4, 3, 0, 0))
-FULL = pieces.table((2, 0, 0, 0), *((6, 0, i, i) for i in range(2047)))
+FULL = pieces.full_table(2)
 
 
 def by_hand():
@@ -128,32 +122,32 @@ def by_hand():
     yield A, R, sheet((8, 1))
     yield A, R, sheet((0, 1, 2), (6, 4, 1))
     yield A, R, sheet((6, 4, 1), (0, 1, 2))
-    yield A, name(3), sheet((7, 3, 4))
-    yield A, name(3), sheet((7, 3, 3))
+    yield A, named(3), sheet((7, 3, 4))
+    yield A, named(3), sheet((7, 3, 3))
     yield A, R, sheet((4, 4, 1, 2))
     yield A, R, sheet((4, 4, 1, 1))
-    yield A, name(1), sheet((1, 1, 1, 4))
-    yield A, name(1), sheet((1, 1, 3, 4))
+    yield A, named(1), sheet((1, 1, 1, 4))
+    yield A, named(1), sheet((1, 1, 3, 4))
     yield A, pieces.table((0, 0, 0, 0), (5, 0, 0, 0), (9, 4, 1, 0)), sheet()
-    ring = with_bytes(A, (pieces.TARGETS_AT + 1, 3))
+    ring = with_bytes(A, (target_at(4, 1), 3))
     for kind in (11, 10):
         yield ring, pieces.table((4, 0, 0, 0), (8, 4, 0, 0), (kind, 0, 1, 0)), sheet()
     yield A, ODD, sheet()
     yield A, pieces.table((4, 0, 0, 0), (5, 0, 0, 0), (5, 0, 1, 0), (10, 0, 2, 0)), sheet()
     # both class 4; absent slots 6
-    yield with_bytes(A, (0, 63), (pieces.TARGETS_AT + 4, 1), (pieces.TARGETS_AT + 5, 1)), R, sheet()
+    yield with_bytes(A, (0, 63), (target_at(4, 4), 1), (target_at(4, 5), 1)), R, sheet()
     yield A, FULL, sheet()
     yield A, FULL, DT2
-    yield A, FULL + pieces.table((6, 0, 2047, 2047)), sheet()
-    yield A, pieces.table((12, 200, 0, 0), *((5, 0, i, 0) for i in range(2047))), sheet(*[(0, 1, 2)] * 64)
+    yield A, FULL + pieces.table((6, 0, NODES - 1, NODES - 1)), sheet()
+    yield A, pieces.table((12, 200, 0, 0), *((5, 0, i, 0) for i in range(NODES - 1))), sheet(*[(0, 1, 2)] * EDITS)
 
 
 def files():
     """Item 2: each of its reasons, and what just passes."""
-    end = len(J) - 12
+    end = len(J) - TRAILER_BYTES
     yield b""
-    yield J[-11:]
-    yield bytes(12)
+    yield J[1 - TRAILER_BYTES:]
+    yield bytes(TRAILER_BYTES)
     yield with_trailer(J, 34, 4, end)
     yield with_trailer(J, 35, 34, end)
     yield with_trailer(J, 4, end, 34)
@@ -179,10 +173,10 @@ def files():
     yield with_trailer(J, 4, end, end)
     yield with_trailer(J, end, end, end)
     # the longest file, and one byte more
-    for n in (LONGEST - 1, LONGEST, LONGEST + 1):
-        yield job(A, bytes(n - 12 - len(A) - len(DT2)), DT2)
-        yield job(bytes(n - 12 - len(R) - len(DT2)), R, DT2)
-    yield bytes(LONGEST + 1)
+    for n in (FILE_BYTES - 1, FILE_BYTES, FILE_BYTES + 1):
+        yield job(A, bytes(n - TRAILER_BYTES - len(A) - len(DT2)), DT2)
+        yield job(bytes(n - TRAILER_BYTES - len(R) - len(DT2)), R, DT2)
+    yield bytes(FILE_BYTES + 1)
 
 
 def refusals():
@@ -190,12 +184,12 @@ def refusals():
     yield A[:-1], R, DT2
     yield A + b"\0", R, DT2
     yield with_bytes(A, (0, 14)), R, DT2
-    yield with_bytes(A, (pieces.NAMES_AT, 1)), R, DT2
-    yield with_bytes(A, (pieces.NAMES_AT + 5, 9)), R, DT2
-    yield with_bytes(A, (pieces.LABELS_AT + 1, 1)), R, DT2
-    yield with_bytes(A, (pieces.TARGETS_AT + 1, 9)), R, DT2
-    yield with_bytes(A, (pieces.ROWS_AT + 32, 1)), R, DT2
-    for n in (0, 5, 7, 12294):
+    yield with_bytes(A, (NAMES_AT, 1)), R, DT2
+    yield with_bytes(A, (NAMES_AT + 5, 9)), R, DT2
+    yield with_bytes(A, (LABELS_AT + 1, 1)), R, DT2
+    yield with_bytes(A, (target_at(4, 1), 9)), R, DT2
+    yield with_bytes(A, (row_at(0, 1), 1)), R, DT2
+    for n in (0, NODE_BYTES - 1, NODE_BYTES + 1, TABLE_BYTES + NODE_BYTES):
         yield A, bytes(n), DT2
     yield A, R[:-4] + pieces.table((13, 0, 0, 0))[:4], DT2
     yield A, R + pieces.table((13, 0, 0, 0), (14, 0, 0, 0)), DT2
@@ -204,19 +198,19 @@ def refusals():
     yield A, ODD, DT2
     yield A, R + pieces.table((0, 0, 0, 0)) * 300 + pieces.table((4, 1, 0, 0), (5, 0, 305, 0), (11, 1, 306, 0), (10, 1, 306, 0)), DT2
     yield A, OPEN, DT2
-    yield A, pieces.table((0, 0, 0, 0)) * 2047 + pieces.table((4, 0, 0, 0)), DT2
+    yield A, pieces.table((0, 0, 0, 0)) * (NODES - 1) + pieces.table((4, 0, 0, 0)), DT2
     yield A, R, DT2[:3]
     yield A, R, DT2 + b"\6"
-    yield A, R, DT2 * 64
-    yield A, R, DT2 * 65
+    yield A, R, DT2 * EDITS
+    yield A, R, DT2 * (EDITS + 1)
     yield A, R, sheet((9,))
-    yield A, R, DT2 * 63 + sheet((6, 3, 1))
+    yield A, R, DT2 * (EDITS - 1) + sheet((6, 3, 1))
     yield A, R, DT2 + sheet((7, 0, 9), (7, 0, 9))
     yield A, R, sheet((0, 1, 2, 1))
     yield A, R, sheet((8, 0))
     yield A, R, sheet((8, 1), (8, 1))
     yield A, R, sheet((7, 1, 9), (7, 1, 9), (8, 0))
-    yield A, R, DT2 * 63 + sheet((4, 4, 0, 1))
+    yield A, R, DT2 * (EDITS - 1) + sheet((4, 4, 0, 1))
     yield A, R, sheet(*DOUBLE * 8)
     yield A, R, sheet(*DOUBLE * 9)
     yield A, FULL, sheet((2, 1, 0))
@@ -225,12 +219,12 @@ def refusals():
 
 def collisions():
     """Two items met: the lower number is answered."""
-    unmarked = with_bytes(A, (pieces.LABELS_AT + 1, 1))
-    unlinked = with_bytes(A, (pieces.TARGETS_AT + 9, 1))
+    unmarked = with_bytes(A, (LABELS_AT + 1, 1))
+    unlinked = with_bytes(A, (target_at(4, 9), 1))
     unfit = R + pieces.table((13, 0, 0, 0))
     yield A[:-1], R[:-1], DT2[:-1]
-    yield with_bytes(A, (0, 14), (pieces.LABELS_AT + 1, 1), (pieces.TARGETS_AT + 9, 1)), R[:-1], DT2
-    yield with_bytes(unmarked, (pieces.TARGETS_AT + 9, 1)), R[:-1], DT2
+    yield with_bytes(A, (0, 14), (LABELS_AT + 1, 1), (target_at(4, 9), 1)), R[:-1], DT2
+    yield with_bytes(unmarked, (target_at(4, 9), 1)), R[:-1], DT2
     yield unlinked, R[:-1], DT2[:-1]
     yield unlinked, R, sheet((9,))
     yield A, R[:-1], DT2[:-1]
@@ -251,25 +245,25 @@ def collisions():
 
 def classing():
     """Sites whose classes take several rounds, and the links of a sheet that joins or parts them."""
-    chain = bytearray(pieces.SITE_BYTES)
+    chain = bytearray(SITE_BYTES)
     for s in range(41):
         pieces.put(chain, 0, s)
         if 0 < s < 40:
-            chain[pieces.TARGETS_AT + s] = s + 1
-    two = with_bytes(chain, (pieces.TARGETS_AT + 20, 0))
+            chain[target_at(4, s)] = s + 1
+    two = with_bytes(chain, (target_at(4, 20), 0))
     for s in range(1, 21):
-        pieces.put(two, pieces.ROWS_AT + 8192 * (s % 4) + 32 * s, 20 + s)
-        pieces.put(two, pieces.ROWS_AT + 8192 * (s % 4) + 32 * (20 + s), s)
-    rings = bytearray(pieces.SITE_BYTES)
+        pieces.put(two, row_at(s % GENERAL, s), 20 + s)
+        pieces.put(two, row_at(s % GENERAL, 20 + s), s)
+    rings = bytearray(SITE_BYTES)
     for s in range(30):
         pieces.put(rings, 0, s)
         if s > 2:
-            rings[pieces.TARGETS_AT + 512 + s] = s - s % 3 + (s + 1) % 3
-    rings[pieces.TARGETS_AT + 512 + 1], rings[pieces.TARGETS_AT + 512 + 2] = 5, 3
+            rings[target_at(6, s)] = s - s % 3 + (s + 1) % 3
+    rings[target_at(6, 1)], rings[target_at(6, 2)] = 5, 3
     for site in (chain, two, rings):
         yield site, R, sheet()
         yield site, R, sheet((7, 1, 250), (7, 2, 251), (4, 2, 1, 2), (2, 1, 7))
-    rings[pieces.NAMES_AT + 1], rings[pieces.NAMES_AT + 2] = 5, 28
+    rings[NAMES_AT + 1], rings[NAMES_AT + 2] = 5, 28
     yield rings, R, sheet((6, 6, 1), (0, 1, 0), (0, 2, 0))
     yield rings, R, sheet((7, 3, 255), (8, 2), (5, 6, 1, 1))
 
@@ -290,19 +284,19 @@ def cases(rng):
             three[part] = changes.damaged(rng, three[part])
         file = bytearray(job(*three))
         if part == 3:
-            file[rng.randrange(-12, 0)] ^= 1 << rng.randrange(8)
+            file[rng.randrange(-TRAILER_BYTES, 0)] ^= 1 << rng.randrange(8)
         yield file
 
 
 def encode(file):
-    more = max(0, len(file) - (LONGEST - 1))
-    assert not any(file[LONGEST - 1:])
-    return pieces.encode(1 + more, file[:LONGEST - 1])
+    more = max(0, len(file) - (FILE_BYTES - 1))
+    assert not any(file[FILE_BYTES - 1:])
+    return pieces.encode(1 + more, file[:FILE_BYTES - 1])
 
 
 def main():
     sys.setrecursionlimit(20000)
-    rng = random.Random(65536)
+    rng = random.Random(SEED)
     pieces.write("job", J, answer(J)[:4])
     stdin, stdout, count = bytearray(), [], {}
     for file in cases(rng):

@@ -9,21 +9,23 @@ import random
 import sys
 
 import pieces
+from layout import *
+from pieces import nodes_of
 
-ALL = frozenset(range(256))
+ALL = frozenset(range(SLOTS))
+SEED = 256
 
 
 class Site:
     def __init__(self, d):
         self.present = frozenset(pieces.members(d, 0))
-        self.labels = [frozenset(pieces.members(d, pieces.LABELS_AT + 32 * p)) for p in range(16)]
-        self.names = d[pieces.NAMES_AT:pieces.NAMES_AT + 16]
+        self.labels = [frozenset(pieces.members(d, label_at(p))) for p in range(LABELS)]
+        self.names = d[NAMES_AT:NAMES_AT + NAMES]
         pairs = []
-        for m in range(4):
-            pairs.append([(s, t) for s in range(256) for t in pieces.members(d, pieces.ROWS_AT + 8192 * m + 32 * s)])
-        for f in range(4):
-            row = d[pieces.TARGETS_AT + 256 * f:pieces.TARGETS_AT + 256 * f + 256]
-            pairs.append([(s, t) for s, t in enumerate(row) if t])
+        for m in range(GENERAL):
+            pairs.append([(s, t) for s in range(SLOTS) for t in pieces.members(d, row_at(m, s))])
+        for f in range(GENERAL, LINKS):
+            pairs.append([(s, d[target_at(f, s)]) for s in range(SLOTS) if d[target_at(f, s)]])
         pairs += [[(t, s) for s, t in link] for link in pairs]
         self.next = []
         for way in pairs:
@@ -33,10 +35,10 @@ class Site:
             self.next.append(out)
 
     def neighbours(self, way, s):
-        return ALL if way == 16 else self.next[way].get(s, set())
+        return ALL if way == EVERYWHERE else self.next[way].get(s, set())
 
 
-def list_slots(site, nodes):
+def free_variables(nodes):
     free = []
     for kind, param, left, right in nodes:
         if kind == 4:
@@ -50,52 +52,58 @@ def list_slots(site, nodes):
         else:
             f = frozenset()
         free.append(frozenset(f))
-    memo = {}
+    return free
 
-    def value(i, env):
-        key = (i, tuple((v, env[v]) for v in sorted(free[i])))
-        if key not in memo:
-            memo[key] = compute(i, env)
-        return memo[key]
 
-    def compute(i, env):
-        kind, param, left, right = nodes[i]
+class Lister:
+    """The sets of the nodes of a table on a site, each for the values of its free variables."""
+
+    def __init__(self, site, nodes):
+        self.site, self.nodes, self.free, self.memo = site, nodes, free_variables(nodes), {}
+
+    def value(self, i, env):
+        key = (i, tuple((v, env[v]) for v in sorted(self.free[i])))
+        if key not in self.memo:
+            self.memo[key] = self.leaf(i, env) if self.nodes[i][0] in (0, 1, 2, 3, 4, 12) else self.inner(i, env)
+        return self.memo[key]
+
+    def leaf(self, i, env):
+        kind, param, _, _ = self.nodes[i]
         if kind == 0:
             return ALL
         if kind == 1:
-            return site.present
+            return self.site.present
         if kind == 2:
-            return site.labels[param]
+            return self.site.labels[param]
         if kind == 3:
-            return frozenset({site.names[param]})
-        if kind == 4:
-            return env[param]
-        if kind == 12:
-            return frozenset({param})
+            return frozenset({self.site.names[param]})
+        return env[param] if kind == 4 else frozenset({param})
+
+    def inner(self, i, env):
+        kind, param, left, right = self.nodes[i]
+        if kind in (10, 11):
+            return self.loop(left, param, frozenset() if kind == 10 else ALL, env)
+        body = self.value(left, env)
         if kind == 5:
-            return ALL - value(left, env)
+            return ALL - body
         if kind == 6:
-            return value(left, env) | value(right, env)
+            return body | self.value(right, env)
         if kind == 7:
-            return value(left, env) & value(right, env)
+            return body & self.value(right, env)
         if kind == 8:
-            body = value(left, env)
-            return frozenset(s for s in ALL if not body.isdisjoint(site.neighbours(param, s)))
-        if kind == 9:
-            body = value(left, env)
-            return frozenset(s for s in ALL if site.neighbours(param, s) <= body)
-        now = frozenset() if kind == 10 else ALL
+            return frozenset(s for s in ALL if not body.isdisjoint(self.site.neighbours(param, s)))
+        return frozenset(s for s in ALL if self.site.neighbours(param, s) <= body)
+
+    def loop(self, body, variable, now, env):
         while True:
-            then = value(left, {**env, param: now})
+            then = self.value(body, {**env, variable: now})
             if then == now:
                 return now
             now = then
 
-    return value(len(nodes) - 1, {})
 
-
-def nodes_of(d):
-    return [(d[i], d[i + 1], d[i + 2] + 256 * d[i + 3], d[i + 4] + 256 * d[i + 5]) for i in range(0, len(d), 6)]
+def list_slots(site, nodes):
+    return Lister(site, nodes).value(len(nodes) - 1, {})
 
 
 def answer(site, condition):
@@ -103,35 +111,37 @@ def answer(site, condition):
     if refusal:
         return "refused %d %d" % refusal
     slots = list_slots(Site(site), nodes_of(condition))
-    data = bytearray(32)
+    data = bytearray(SET_BYTES)
     for s in slots:
         pieces.put(data, 0, s)
     return "%d %s" % (len(slots), data.hex())
 
 
 def random_site(rng, links):
-    d = bytearray(pieces.SITE_BYTES)
-    slots = sorted(rng.sample(range(1, 256), rng.randrange(2, 40)))
+    d = bytearray(SITE_BYTES)
+    slots = sorted(rng.sample(range(1, SLOTS), rng.randrange(2, 40)))
     for s in [0] + slots:
         pieces.put(d, 0, s)
-    for n in range(1, 16):
-        d[pieces.NAMES_AT + n] = rng.choice([0] + slots)
+    for n in range(1, NAMES):
+        d[NAMES_AT + n] = rng.choice([0] + slots)
     for _ in range(rng.randrange(30)):
-        pieces.put(d, pieces.LABELS_AT + 32 * rng.randrange(16), rng.choice([0] + slots))
+        pieces.put(d, label_at(rng.randrange(LABELS)), rng.choice([0] + slots))
     for _ in range(links):
-        pieces.put(d, pieces.ROWS_AT + 8192 * rng.randrange(4) + 32 * rng.choice(slots), rng.choice(slots))
-        d[pieces.TARGETS_AT + 256 * rng.randrange(4) + rng.choice(slots)] = rng.choice(slots)
+        pieces.put(d, row_at(rng.randrange(GENERAL), rng.choice(slots)), rng.choice(slots))
+        pieces.put_target(rng, d, slots)
     return d
 
 
 def random_condition(rng):
     """A closed table with loops, mostly under the even rule: loops close their variables at the end."""
     while True:
-        nodes = [(4, v, 0, 0) for v in range(3)] + [(rng.choice((2, 3)), rng.randrange(16), 0, 0), (12, rng.randrange(256), 0, 0), (1, 0, 0, 0)]
+        kind = rng.choice((2, 3))
+        nodes = [(4, 0, 0, 0), (4, 1, 0, 0), (4, 2, 0, 0), (kind, rng.randrange(pieces.PARAMS[kind]), 0, 0)]
+        nodes += [(12, rng.randrange(SLOTS), 0, 0), (1, 0, 0, 0)]
         for i in range(len(nodes), len(nodes) + rng.randrange(3, 25)):
             kind = rng.choice((5, 6, 6, 7, 8, 8, 8, 9, 9, 10, 11, 10, 11))
             child = lambda: rng.choice((i - 1, rng.randrange(i)))
-            nodes.append((kind, rng.randrange(3) if kind in (10, 11) else rng.randrange(17) if kind in (8, 9) else 0, child(), child() if kind in (6, 7) else 0))
+            nodes.append((kind, rng.randrange(3) if kind in (10, 11) else rng.randrange(WAYS) if kind in (8, 9) else 0, child(), child() if kind in (6, 7) else 0))
         for v in range(3):
             nodes.append((rng.choice((10, 11)), v, len(nodes) - 1, 0))
         d = pieces.table(*nodes)
@@ -139,7 +149,7 @@ def random_condition(rng):
             return d
 
 
-def cases(rng):
+def by_hand():
     a = pieces.site_a()
     t = pieces.table
     yield a, pieces.R
@@ -150,7 +160,7 @@ def cases(rng):
     yield a, t((4, 0, 0, 0), (4, 1, 0, 0), (8, 4, 1, 0), (6, 0, 0, 2), (10, 1, 3, 0), (9, 12, 4, 0), (11, 0, 5, 0))
     # the same with a second loop around a label: on a ring, {} against {2, 3} without a restart
     ring = pieces.site_a()
-    ring[pieces.TARGETS_AT + 1] = 3
+    ring[target_at(4, 1)] = 3
     yield ring, t((4, 0, 0, 0), (2, 0, 0, 0), (7, 0, 0, 1), (4, 1, 0, 0), (8, 4, 3, 0), (6, 0, 2, 4), (10, 1, 5, 0), (5, 0, 1, 0), (7, 0, 6, 7), (11, 0, 8, 0))
     # a box where no link leaves
     yield a, t((0, 0, 0, 0), (5, 0, 0, 0), (9, 4, 1, 0))
@@ -159,23 +169,28 @@ def cases(rng):
     pairs = [(1, 0, 0, 0)]
     for _ in range(300):
         n = len(pairs)
-        pairs += [(8, 16, n - 1, 0), (7, 0, n - 1, n)]
+        pairs += [(8, EVERYWHERE, n - 1, 0), (7, 0, n - 1, n)]
     yield a, t(*pairs)
-    full = t((2, 0, 0, 0), *((6, 0, i, i) for i in range(2047)))
+    full = pieces.full_table(2)
     yield a, full
-    yield a, full + t((6, 0, 2047, 2047))
+    yield a, full + t((6, 0, NODES - 1, NODES - 1))
     for kind in (10, 11):
         yield ring, t((4, 0, 0, 0), (8, 4, 0, 0), (kind, 0, 1, 0))
     # refusals: the site's come first
     yield a[:-1], pieces.R[:-1]
     yield a, t((4, 0, 0, 0), (5, 0, 0, 0), (10, 0, 1, 0))
     yield a, t((4, 0, 0, 0))
+
+
+def cases(rng):
+    t = pieces.table
+    yield from by_hand()
     # every way, both modalities
     site = random_site(rng, 60)
-    for way in range(17):
+    for way in range(WAYS):
         for kind in (8, 9):
             yield site, t((2, 3, 0, 0), (1, 0, 0, 0), (6, 0, 0, 1), (kind, way, rng.choice((1, 2)), 0))
-            yield site, t((12, rng.randrange(256), 0, 0), (5, 0, 0, 0), (kind, way, rng.choice((0, 1)), 0))
+            yield site, t((12, rng.randrange(SLOTS), 0, 0), (5, 0, 0, 0), (kind, way, rng.choice((0, 1)), 0))
     for _ in range(60):
         yield random_site(rng, rng.choice((0, 5, 30, 120))), random_condition(rng)
     site = random_site(rng, 80)
@@ -185,14 +200,14 @@ def cases(rng):
 
 def main():
     sys.setrecursionlimit(10000)
-    rng = random.Random(256)
+    rng = random.Random(SEED)
     stdin, stdout = bytearray(), []
     for site, condition in cases(rng):
         stdin += pieces.encode(pieces.SITE, site) + pieces.encode(pieces.CONDITION, condition)
         stdout.append(answer(site, condition))
     pieces.write("lists", stdin, stdout)
     sizes = [int(line.split()[0]) for line in stdout if not line.startswith("refused")]
-    print(len(stdout), "cases;", len(sizes), "listed,", sum(0 < n < 256 for n in sizes), "of them neither empty nor full", file=sys.stderr)
+    print(len(stdout), "cases;", len(sizes), "listed,", sum(0 < n < SLOTS for n in sizes), "of them neither empty nor full", file=sys.stderr)
 
 
 if __name__ == "__main__":

@@ -4,10 +4,6 @@
 #include <stdlib.h>
 #include <string.h>
 
-enum { TRUE, HERE, LABEL, NAME, VARIABLE, NOT, OR, AND, DIAMOND, BOX, MU, NU, SLOT };
-enum { CN1, CN2, AP, DP, AT, DT1, DT2, AS, DS };
-enum { EVERYWHERE = 16 };
-
 /* ---- the site */
 
 static bool bit(const uint8_t *set, int slot)
@@ -15,62 +11,58 @@ static bool bit(const uint8_t *set, int slot)
     return set[slot / 8] >> slot % 8 & 1;
 }
 
-static void put_bit(uint8_t *set, int slot)
-{
-    set[slot / 8] |= (uint8_t)(1 << slot % 8);
-}
-
 static void add_arc(struct arcs *arcs, int from, int to)
 {
     arcs->at[arcs->count++] = (struct arc){(uint8_t)from, (uint8_t)to};
 }
 
+static void read_row(struct arcs *arcs, int from, const uint8_t *row)
+{
+    static const uint8_t nothing[DESK_SET_BYTES];
+    if (memcmp(row, nothing, sizeof nothing) == 0)
+        return;
+    for (int t = 0; t < SLOTS; t++)
+        if (bit(row, t))
+            add_arc(arcs, from, t);
+}
+
 void model_read(struct model *model, const uint8_t *site)
 {
-    const uint8_t *labels = site + 32, *names = labels + 16 * 32, *targets = names + 16, *rows = targets + 4 * 256;
-    for (int s = 0; s < 256; s++) {
+    for (int s = 0; s < SLOTS; s++) {
         model->present[s] = bit(site, s);
-        for (int p = 0; p < 16; p++)
-            model->label[p][s] = bit(labels + 32 * p, s);
+        for (int p = 0; p < LABELS; p++)
+            model->label[p][s] = bit(site + label_at(p), s);
     }
-    memcpy(model->name, names, 16);
-    for (int m = 0; m < 8; m++)
+    memcpy(model->name, site + NAMES_AT, NAMES);
+    for (int m = 0; m < LINKS; m++)
         model->link[m].count = 0;
-    for (int f = 0; f < 4; f++)
-        for (int s = 0; s < 256; s++)
-            if (targets[256 * f + s])
-                add_arc(&model->link[4 + f], s, targets[256 * f + s]);
-    for (int m = 0; m < 4; m++)
-        for (int s = 0; s < 256; s++) {
-            static const uint8_t nothing[32];
-            const uint8_t *row = rows + 8192 * m + 32 * s;
-            if (memcmp(row, nothing, 32) == 0)
-                continue;
-            for (int t = 0; t < 256; t++)
-                if (bit(row, t))
-                    add_arc(&model->link[m], s, t);
-        }
+    for (int f = GENERAL; f < LINKS; f++)
+        for (int s = 0; s < SLOTS; s++)
+            if (site[target_at(f, s)])
+                add_arc(&model->link[f], s, site[target_at(f, s)]);
+    for (int m = 0; m < GENERAL; m++)
+        for (int s = 0; s < SLOTS; s++)
+            read_row(&model->link[m], s, site + row_at(m, s));
 }
 
 static void model_write(const struct model *model, uint8_t *site)
 {
-    uint8_t *labels = site + 32, *names = labels + 16 * 32, *targets = names + 16, *rows = targets + 4 * 256;
     memset(site, 0, DESK_SITE_BYTES);
-    for (int s = 0; s < 256; s++) {
+    for (int s = 0; s < SLOTS; s++) {
         if (model->present[s])
-            put_bit(site, s);
-        for (int p = 0; p < 16; p++)
+            put_slot(site, s);
+        for (int p = 0; p < LABELS; p++)
             if (model->label[p][s])
-                put_bit(labels + 32 * p, s);
+                put_slot(site + label_at(p), s);
     }
-    memcpy(names, model->name, 16);
-    for (int m = 0; m < 8; m++)
+    memcpy(site + NAMES_AT, model->name, NAMES);
+    for (int m = 0; m < LINKS; m++)
         for (size_t k = 0; k < model->link[m].count; k++) {
             struct arc a = model->link[m].at[k];
-            if (m < 4)
-                put_bit(rows + 8192 * m + 32 * a.from, a.to);
+            if (m < GENERAL)
+                put_slot(site + row_at(m, a.from), a.to);
             else
-                targets[256 * (m - 4) + a.from] = a.to;
+                site[target_at(m, a.from)] = a.to;
         }
 }
 
@@ -79,14 +71,14 @@ static uint32_t site_fault(const struct model *model)
 {
     if (!model->present[0] || model->name[0] != 0)
         return 4;
-    for (int n = 0; n < 16; n++)
+    for (int n = 0; n < NAMES; n++)
         if (!model->present[model->name[n]])
             return 4;
-    for (int p = 0; p < 16; p++)
-        for (int s = 0; s < 256; s++)
+    for (int p = 0; p < LABELS; p++)
+        for (int s = 0; s < SLOTS; s++)
             if (model->label[p][s] && !model->present[s])
                 return 5;
-    for (int m = 0; m < 8; m++)
+    for (int m = 0; m < LINKS; m++)
         for (size_t k = 0; k < model->link[m].count; k++) {
             struct arc a = model->link[m].at[k];
             if (a.from == 0 || a.to == 0 || !model->present[a.from] || !model->present[a.to])
@@ -101,11 +93,6 @@ struct node {
     int kind, param, left, right;
 };
 
-static int children(int kind)
-{
-    return kind == OR || kind == AND ? 2 : kind == NOT || (DIAMOND <= kind && kind <= NU) ? 1 : 0;
-}
-
 static bool is_loop(const struct node *node)
 {
     return node->kind == MU || node->kind == NU;
@@ -113,17 +100,17 @@ static bool is_loop(const struct node *node)
 
 static void table_read(struct node *table, const uint8_t *bytes, size_t count)
 {
-    for (size_t i = 0; i < count; i++, bytes += 6)
+    for (size_t i = 0; i < count; i++, bytes += DESK_NODE_BYTES)
         table[i] = (struct node){bytes[0], bytes[1], bytes[2] + 256 * bytes[3], bytes[4] + 256 * bytes[5]};
 }
 
 static void table_write(const struct node *table, size_t count, uint8_t *bytes)
 {
     memset(bytes, 0, DESK_TABLE_BYTES);
-    for (size_t i = 0; i < count; i++, bytes += 6) {
-        const int fields[6] = {table[i].kind, table[i].param, table[i].left % 256, table[i].left / 256,
-                               table[i].right % 256, table[i].right / 256};
-        for (int k = 0; k < 6; k++)
+    for (size_t i = 0; i < count; i++, bytes += DESK_NODE_BYTES) {
+        const int fields[DESK_NODE_BYTES] = {table[i].kind,       table[i].param,       table[i].left % 256,
+                                             table[i].left / 256, table[i].right % 256, table[i].right / 256};
+        for (int k = 0; k < DESK_NODE_BYTES; k++)
             bytes[k] = (uint8_t)fields[k];
     }
 }
@@ -131,9 +118,9 @@ static void table_write(const struct node *table, size_t count, uint8_t *bytes)
 /* Item 8 for one node. */
 static bool node_fault(const struct node *node, int number)
 {
-    /* the greatest parameter of each kind */
-    static const int most[] = {0, 0, 15, 15, 15, 0, 0, 0, 16, 16, 15, 15, 255};
-    if (node->kind > SLOT || node->param > most[node->kind])
+    /* how many parameters each kind has */
+    static const int params[KINDS] = {1, 1, LABELS, NAMES, VARIABLES, 1, 1, 1, WAYS, WAYS, VARIABLES, VARIABLES, SLOTS};
+    if (node->kind >= KINDS || node->param >= params[node->kind])
         return true;
     int used = children(node->kind);
     return (used >= 1 ? node->left >= number : node->left != 0) || (used == 2 ? node->right >= number : node->right != 0);
@@ -173,7 +160,7 @@ static uint32_t condition_fault(const struct node *table, int count, uint32_t *w
             return 9;
         }
     }
-    for (int v = 0; v < 16; v++) {
+    for (int v = 0; v < VARIABLES; v++) {
         memset(seen, 0, sizeof seen[0] * (size_t)count);
         if (occurs(table, count - 1, v, 0, 2, seen)) {
             *where = (uint32_t)count - 1;
@@ -186,7 +173,7 @@ static uint32_t condition_fault(const struct node *table, int count, uint32_t *w
 /* ---- listing */
 
 struct slots {
-    bool has[256];
+    bool has[SLOTS];
 };
 
 static struct slots all_slots(bool value)
@@ -196,22 +183,28 @@ static struct slots all_slots(bool value)
     return set;
 }
 
+/* An arc of a link as a way goes over it: ways 8 to 15 against it. */
+static struct arc along(int way, struct arc a)
+{
+    return way < LINKS ? a : (struct arc){a.to, a.from};
+}
+
 /* Diamond (some neighbour is in the set) and box (every neighbour is). */
 static struct slots over_way(const struct model *model, int way, bool diamond, const struct slots *of)
 {
     struct slots set;
     if (way == EVERYWHERE) {
         bool found = false;
-        for (int s = 0; s < 256; s++)
+        for (int s = 0; s < SLOTS; s++)
             found |= of->has[s] == diamond;
         return all_slots(found == diamond);
     }
     set = all_slots(!diamond);
-    const struct arcs *arcs = &model->link[way % 8];
+    const struct arcs *arcs = &model->link[way % LINKS];
     for (size_t k = 0; k < arcs->count; k++) {
-        int s = way < 8 ? arcs->at[k].from : arcs->at[k].to, t = way < 8 ? arcs->at[k].to : arcs->at[k].from;
-        if (of->has[t] == diamond)
-            set.has[s] = diamond;
+        struct arc a = along(way, arcs->at[k]);
+        if (of->has[a.to] == diamond)
+            set.has[a.from] = diamond;
     }
     return set;
 }
@@ -221,7 +214,7 @@ static struct slots value(const struct model *, const struct node *, int, const 
 /* Mu from nothing, nu from everything, until the body gives back what it was given; the body is evaluated afresh each time. */
 static struct slots loop(const struct model *model, const struct node *table, const struct node *node, const struct slots *variables)
 {
-    struct slots inner[16], next;
+    struct slots inner[VARIABLES], next;
     memcpy(inner, variables, sizeof inner);
     next = all_slots(node->kind == NU);
     do {
@@ -254,7 +247,7 @@ static struct slots node_value(const struct model *model, const struct node *tab
         set.has[node->param] = true;
         return set;
     }
-    for (int s = 0; s < 256; s++)
+    for (int s = 0; s < SLOTS; s++)
         set.has[s] = node->kind == HERE    ? model->present[s]
                      : node->kind == LABEL ? model->label[node->param][s]
                      : node->kind == NOT   ? !left->has[s]
@@ -287,15 +280,15 @@ static struct slots value(const struct model *model, const struct node *table, i
 
 static uint32_t list(const struct model *model, const struct node *table, int count, uint8_t *set)
 {
-    struct slots variables[16], result;
+    struct slots variables[VARIABLES], result;
     uint32_t found = 0;
-    for (int v = 0; v < 16; v++)
+    for (int v = 0; v < VARIABLES; v++)
         variables[v] = all_slots(false);
     result = value(model, table, count - 1, variables);
     memset(set, 0, DESK_SET_BYTES);
-    for (int s = 0; s < 256; s++)
+    for (int s = 0; s < SLOTS; s++)
         if (result.has[s]) {
-            put_bit(set, s);
+            put_slot(set, s);
             found++;
         }
     return found;
@@ -304,20 +297,21 @@ static uint32_t list(const struct model *model, const struct node *table, int co
 /* ---- the sheet */
 
 /* What each operation's operands are: n name, N name but 0, m link, f link 4 to 7, p label, k slot, - unused. */
-static const char *const operands[] = {"Nn-", "Nnf", "np-", "np-", "mnn", "mnn", "fn-", "Nk-", "n--"};
+static const char *const operands[OPERATIONS] = {"Nn-", "Nnf", "np-", "np-", "mnn", "mnn", "fn-", "Nk-", "n--"};
 
 static bool operand_fault(char kind, int value)
 {
     switch (kind) {
     case 'n':
-    case 'p':
-        return value > 15;
+        return value >= NAMES;
     case 'N':
-        return value < 1 || value > 15;
+        return value < 1 || value >= NAMES;
+    case 'p':
+        return value >= LABELS;
     case 'm':
-        return value > 7;
+        return value >= LINKS;
     case 'f':
-        return value < 4 || value > 7;
+        return value < GENERAL || value >= LINKS;
     case '-':
         return value != 0;
     }
@@ -327,7 +321,7 @@ static bool operand_fault(char kind, int value)
 /* Item 12 for one edit. */
 static bool edit_fault(const uint8_t *edit)
 {
-    return edit[0] > DS || operand_fault(operands[edit[0]][0], edit[1]) || operand_fault(operands[edit[0]][1], edit[2]) ||
+    return edit[0] >= OPERATIONS || operand_fault(operands[edit[0]][0], edit[1]) || operand_fault(operands[edit[0]][1], edit[2]) ||
            operand_fault(operands[edit[0]][2], edit[3]);
 }
 
@@ -357,12 +351,12 @@ static int target(const struct arcs *arcs, int from)
 static void drop_slot(struct model *model, int slot)
 {
     model->present[slot] = false;
-    for (int p = 0; p < 16; p++)
+    for (int p = 0; p < LABELS; p++)
         model->label[p][slot] = false;
-    for (int n = 0; n < 16; n++)
+    for (int n = 0; n < NAMES; n++)
         if (model->name[n] == slot)
             model->name[n] = 0;
-    for (int m = 0; m < 8; m++) {
+    for (int m = 0; m < LINKS; m++) {
         struct arcs *arcs = &model->link[m];
         size_t kept = 0;
         for (size_t k = 0; k < arcs->count; k++)
@@ -375,7 +369,7 @@ static void drop_slot(struct model *model, int slot)
 static bool add_link(struct model *model, int link, int from, int to)
 {
     struct arcs *arcs = &model->link[link];
-    if (from == 0 || to == 0 || (link >= 4 && target(arcs, from) != 0 && target(arcs, from) != to))
+    if (from == 0 || to == 0 || (link >= GENERAL && target(arcs, from) != 0 && target(arcs, from) != to))
         return false;
     if (find_arc(arcs, from, to) < 0)
         add_arc(arcs, from, to);
@@ -428,8 +422,8 @@ struct words {
 static struct words link_words(const uint8_t *edit, const struct node *node)
 {
     struct words w = {.way = node->param, .f = edit[1], .n = edit[2], .n1 = edit[2], .n2 = edit[3]};
-    bool diamond = node->kind == DIAMOND, back = node->param >= 8;
-    if (node->param % 8 != edit[1])
+    bool diamond = node->kind == DIAMOND, back = node->param >= LINKS;
+    if (node->param % LINKS != edit[1])
         return w;
     if (back) {
         w.n1 = edit[3];
@@ -499,7 +493,7 @@ static bool is(const char *word, const char *other)
 
 static int way_of(const struct words *w, const char *inside)
 {
-    return inside[0] == 'E' ? EVERYWHERE : inside[0] == 'm' ? w->way : inside[1] == '-' ? w->f + 8 : w->f;
+    return inside[0] == 'E' ? EVERYWHERE : inside[0] == 'm' ? w->way : inside[1] == '-' ? w->f + LINKS : w->f;
 }
 
 static struct node leaf(const struct words *w, const char *word)
@@ -520,7 +514,8 @@ static struct node leaf(const struct words *w, const char *word)
 /* Reads the text as a stack machine does, adds its nodes to the table, and gives the block's last node. */
 static int put_words(const struct words *w, int image, struct node *table, int *count)
 {
-    int stack[16], depth = 0;
+    enum { DEEPEST = 8 };
+    int stack[DEEPEST], depth = 0;
     char text[64];
     strcpy(text, w->text);
     for (char *word = strtok(text, " "); word; word = strtok(NULL, " ")) {
@@ -576,7 +571,7 @@ static int rewrite(struct node *table, int count, const uint8_t *sheet, size_t e
     enum { LONGEST_BLOCK = 11 };
     static struct node longer[DESK_NODES_MAX * LONGEST_BLOCK];
     for (size_t k = edits; k-- > 0;) {
-        count = rewrite_edit(sheet + 4 * k, table, count, longer);
+        count = rewrite_edit(sheet + DESK_EDIT_BYTES * k, table, count, longer);
         if (count > DESK_NODES_MAX)
             return 0;
         memcpy(table, longer, sizeof *table * (size_t)count);
@@ -587,42 +582,50 @@ static int rewrite(struct node *table, int count, const uint8_t *sheet, size_t e
 /* ---- classes */
 
 struct neighbours {
-    int count[16][256];
-    uint8_t *at[16][256];
-    uint8_t pool[2 * 8 * 65536];
+    int count[EVERYWHERE][SLOTS];
+    uint8_t *at[EVERYWHERE][SLOTS];
+    uint8_t pool[EVERYWHERE * SLOTS * SLOTS];
 };
 
 static void gather(const struct model *model, struct neighbours *near)
 {
     uint8_t *free_at = near->pool;
     memset(near->count, 0, sizeof near->count);
-    for (int way = 0; way < 16; way++) {
-        const struct arcs *arcs = &model->link[way % 8];
+    for (int way = 0; way < EVERYWHERE; way++) {
+        const struct arcs *arcs = &model->link[way % LINKS];
         for (size_t k = 0; k < arcs->count; k++)
-            near->count[way][way < 8 ? arcs->at[k].from : arcs->at[k].to]++;
-        for (int s = 0; s < 256; s++) {
+            near->count[way][along(way, arcs->at[k]).from]++;
+        for (int s = 0; s < SLOTS; s++) {
             near->at[way][s] = free_at;
             free_at += near->count[way][s];
             near->count[way][s] = 0;
         }
         for (size_t k = 0; k < arcs->count; k++) {
-            int s = way < 8 ? arcs->at[k].from : arcs->at[k].to, t = way < 8 ? arcs->at[k].to : arcs->at[k].from;
-            near->at[way][s][near->count[way][s]++] = (uint8_t)t;
+            struct arc a = along(way, arcs->at[k]);
+            near->at[way][a.from][near->count[way][a.from]++] = a.to;
         }
     }
 }
 
 /* Here, the labels and the names of a slot, a bit each. */
-static uint64_t colour(const struct model *model, int slot)
+struct colour {
+    uint64_t here, labels, names;
+};
+
+_Static_assert(LABELS <= 64 && NAMES <= 64, "a colour has a bit for each");
+
+static struct colour colour(const struct model *model, int slot)
 {
-    uint64_t key = model->present[slot];
-    for (int k = 0; k < 16; k++)
-        key = key << 2 | (uint64_t)model->label[k][slot] << 1 | (model->name[k] == slot);
-    return key;
+    struct colour c = {model->present[slot], 0, 0};
+    for (int p = 0; p < LABELS; p++)
+        c.labels = c.labels << 1 | model->label[p][slot];
+    for (int n = 0; n < NAMES; n++)
+        c.names = c.names << 1 | (model->name[n] == slot);
+    return c;
 }
 
 /* Each neighbour of one is related to some neighbour of the other. */
-static bool answers(bool (*related)[256], const struct neighbours *near, int way, int one, int other)
+static bool answers(bool (*related)[SLOTS], const struct neighbours *near, int way, int one, int other)
 {
     for (int k = 0; k < near->count[way][one]; k++) {
         bool found = false;
@@ -634,34 +637,34 @@ static bool answers(bool (*related)[256], const struct neighbours *near, int way
     return true;
 }
 
-static bool alike(bool (*related)[256], const struct neighbours *near, int one, int other)
+static bool alike(bool (*related)[SLOTS], const struct neighbours *near, int one, int other)
 {
-    for (int way = 0; way < 16; way++)
+    for (int way = 0; way < EVERYWHERE; way++)
         if (!answers(related, near, way, one, other) || !answers(related, near, way, other, one))
             return false;
     return true;
 }
 
 /* Starts from agreement of colours and takes out pairs that are not alike until none is left. Slots without links stay as they are. */
-static void relate(const struct model *model, bool (*related)[256])
+static void relate(const struct model *model, bool (*related)[SLOTS])
 {
     static struct neighbours near;
-    uint64_t colours[256];
-    int linked[256], count = 0;
+    struct colour colours[SLOTS];
+    int linked[SLOTS], count = 0;
     gather(model, &near);
-    for (int s = 0; s < 256; s++) {
+    for (int s = 0; s < SLOTS; s++) {
         bool any = false;
         colours[s] = colour(model, s);
-        for (int way = 0; way < 16; way++)
+        for (int way = 0; way < EVERYWHERE; way++)
             any |= near.count[way][s] != 0;
         if (any)
             linked[count++] = s;
     }
-    for (int s = 0; s < 256; s++)
-        for (int t = 0; t < 256; t++)
-            related[s][t] = colours[s] == colours[t];
+    for (int s = 0; s < SLOTS; s++)
+        for (int t = 0; t < SLOTS; t++)
+            related[s][t] = memcmp(&colours[s], &colours[t], sizeof colours[s]) == 0;
     for (int i = 0; i < count; i++)
-        for (int t = 0; t < 256; t++)
+        for (int t = 0; t < SLOTS; t++)
             if (related[linked[i]][t] && !alike(related, &near, linked[i], t))
                 related[linked[i]][t] = related[t][linked[i]] = false;
     for (bool moved = true; moved;) {
@@ -679,11 +682,11 @@ static void relate(const struct model *model, bool (*related)[256])
 
 static uint32_t number_classes(const struct model *model, uint8_t *classes)
 {
-    static bool related[256][256];
-    bool used[256] = {false};
+    static bool related[SLOTS][SLOTS];
+    bool used[SLOTS] = {false};
     uint32_t different = 0;
     relate(model, related);
-    for (int s = 0; s < 256; s++) {
+    for (int s = 0; s < SLOTS; s++) {
         int lowest = 0;
         while (!related[s][lowest])
             lowest++;
@@ -711,12 +714,12 @@ struct read {
 
 static void judge_sheet(struct read *r, struct piece sheet)
 {
-    if (sheet.length % 4 != 0 || sheet.length > 256) {
+    if (sheet.length % DESK_EDIT_BYTES != 0 || sheet.length > SHEET_BYTES) {
         r->reason = 11;
         return;
     }
-    for (size_t k = 0; k < sheet.length / 4; k++)
-        if (edit_fault(sheet.at + 4 * k)) {
+    for (size_t k = 0; k < sheet.length / DESK_EDIT_BYTES; k++)
+        if (edit_fault(sheet.at + DESK_EDIT_BYTES * k)) {
             r->reason = 12;
             r->where = (uint32_t)k;
             return;
@@ -726,7 +729,7 @@ static void judge_sheet(struct read *r, struct piece sheet)
 static void model_copy(struct model *to, const struct model *from)
 {
     memcpy(to, from, offsetof(struct model, link));
-    for (int m = 0; m < 8; m++) {
+    for (int m = 0; m < LINKS; m++) {
         to->link[m].count = from->link[m].count;
         memcpy(to->link[m].at, from->link[m].at, sizeof(struct arc) * from->link[m].count);
     }
@@ -735,8 +738,8 @@ static void model_copy(struct model *to, const struct model *from)
 static void apply(struct read *r, struct piece sheet)
 {
     model_copy(&r->after, &r->before);
-    for (size_t k = 0; k < sheet.length / 4; k++)
-        if (!model_edit(&r->after, sheet.at + 4 * k)) {
+    for (size_t k = 0; k < sheet.length / DESK_EDIT_BYTES; k++)
+        if (!model_edit(&r->after, sheet.at + DESK_EDIT_BYTES * k)) {
             r->reason = 13;
             r->where = (uint32_t)k;
             return;
@@ -756,12 +759,12 @@ static void judge(struct read *r, struct piece site, struct piece cond, struct p
         r->reason = site_fault(&r->before);
     }
     if (!r->reason && cond.at) {
-        if (cond.length % 6 != 0 || cond.length < 6 || cond.length > 12288) {
+        if (cond.length % DESK_NODE_BYTES != 0 || cond.length == 0 || cond.length > DESK_TABLE_BYTES) {
             r->reason = 7;
             return;
         }
-        r->count = (int)(cond.length / 6);
-        table_read(r->table, cond.at, cond.length / 6);
+        r->count = (int)(cond.length / DESK_NODE_BYTES);
+        table_read(r->table, cond.at, cond.length / DESK_NODE_BYTES);
         r->reason = condition_fault(r->table, r->count, &r->where);
     }
     if (!r->reason && sheet.at)
@@ -770,7 +773,7 @@ static void judge(struct read *r, struct piece site, struct piece cond, struct p
         apply(r, sheet);
     if (!r->reason && sheet.at && cond.at) {
         memcpy(r->rewritten, r->table, sizeof r->table);
-        r->rewritten_count = rewrite(r->rewritten, r->count, sheet.at, sheet.length / 4);
+        r->rewritten_count = rewrite(r->rewritten, r->count, sheet.at, sheet.length / DESK_EDIT_BYTES);
         if (r->rewritten_count == 0)
             r->reason = 14;
     }
@@ -835,11 +838,11 @@ static uint64_t distance(const uint8_t *at)
 /* Item 2; the three pieces where it is not met. */
 static bool file_fault(const uint8_t *file, size_t length, struct piece *site, struct piece *cond, struct piece *sheet)
 {
-    if (length < 12 || length > 65536)
+    if (length < DESK_TRAILER_BYTES || length > DESK_FILE_MAX_BYTES)
         return true;
-    const uint8_t *trailer = file + length - 12;
+    const uint8_t *trailer = file + length - DESK_TRAILER_BYTES;
     uint64_t to_sheet = distance(trailer), to_cond = distance(trailer + 4), to_site = distance(trailer + 8);
-    if (to_cond < to_sheet || to_site < to_cond || to_site != length - 12)
+    if (to_cond < to_sheet || to_site < to_cond || to_site != length - DESK_TRAILER_BYTES)
         return true;
     *site = (struct piece){file, to_site - to_cond};
     *cond = (struct piece){trailer - to_cond, to_cond - to_sheet};

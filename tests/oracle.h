@@ -6,6 +6,65 @@
 
 #include "desk.h"
 
+/* How many of each thing the specification has, beside what desk.h says. */
+enum {
+    SLOTS = DESK_CLASSES_BYTES,
+    LABELS = 16,
+    NAMES = 16,
+    VARIABLES = 16,
+    GENERAL = 4,    /* links 0 to 3, with a set of targets for each slot */
+    FUNCTIONAL = 4, /* links 4 to 7, with one target for each slot */
+    LINKS = GENERAL + FUNCTIONAL,
+    EVERYWHERE = 2 * LINKS, /* the way behind the links and their reverses */
+    WAYS = EVERYWHERE + 1,
+    REASONS = DESK_TABLE_FULL + 1,
+    SHEET_BYTES = DESK_EDITS_MAX * DESK_EDIT_BYTES
+};
+
+enum { TRUE, HERE, LABEL, NAME, VARIABLE, NOT, OR, AND, DIAMOND, BOX, MU, NU, SLOT, KINDS };
+enum { CN1, CN2, AP, DP, AT, DT1, DT2, AS, DS, OPERATIONS };
+
+/* Where the parts of a site stand. */
+enum {
+    LINK_BYTES = SLOTS * DESK_SET_BYTES,
+    LABELS_AT = DESK_SET_BYTES,
+    NAMES_AT = LABELS_AT + LABELS * DESK_SET_BYTES,
+    TARGETS_AT = NAMES_AT + NAMES,
+    ROWS_AT = TARGETS_AT + FUNCTIONAL * SLOTS,
+    SITE_END = ROWS_AT + GENERAL * LINK_BYTES
+};
+
+_Static_assert(SITE_END == DESK_SITE_BYTES, "the parts of a site fill it");
+_Static_assert(DESK_NODES_MAX * DESK_NODE_BYTES == DESK_TABLE_BYTES, "the nodes fill a table");
+
+static inline int label_at(int label)
+{
+    return LABELS_AT + DESK_SET_BYTES * label;
+}
+
+/* The targets of a slot, for a link 0 to 3. */
+static inline int row_at(int link, int slot)
+{
+    return ROWS_AT + LINK_BYTES * link + DESK_SET_BYTES * slot;
+}
+
+/* The target of a slot, for a link 4 to 7. */
+static inline int target_at(int link, int slot)
+{
+    return TARGETS_AT + SLOTS * (link - GENERAL) + slot;
+}
+
+static inline void put_slot(uint8_t *set, int slot)
+{
+    set[slot / 8] |= (uint8_t)(1 << slot % 8);
+}
+
+/* How many children a node of this kind has. */
+static inline int children(int kind)
+{
+    return kind == OR || kind == AND ? 2 : kind == NOT || (DIAMOND <= kind && kind <= NU) ? 1 : 0;
+}
+
 /* A site opened out: slots as arrays of bool, each link as the list of its pairs. */
 struct arc {
     uint8_t from, to;
@@ -13,14 +72,14 @@ struct arc {
 
 struct arcs {
     size_t count;
-    struct arc at[65536];
+    struct arc at[SLOTS * SLOTS];
 };
 
 struct model {
-    bool present[256];
-    bool label[16][256];
-    uint8_t name[16];
-    struct arcs link[8];
+    bool present[SLOTS];
+    bool label[LABELS][SLOTS];
+    uint8_t name[NAMES];
+    struct arcs link[LINKS];
 };
 
 /* Opens out DESK_SITE_BYTES bytes, whether the site is valid or not. */

@@ -11,48 +11,54 @@ import os
 import random
 import sys
 
+from layout import *
+
 SITE, CONDITION, SHEET = 1, 2, 3
-NAMES = {SITE: "site", CONDITION: "condition", SHEET: "sheet"}
-LABELS_AT, NAMES_AT, TARGETS_AT, ROWS_AT, SITE_BYTES = 32, 544, 560, 1584, 34352
+WORDS = {SITE: "site", CONDITION: "condition", SHEET: "sheet"}
+SEED = 2048
 
 
 # ---- the items, as document 01 words them
 
 def members(data, at):
-    return {8 * i + k for i in range(32) for k in range(8) if data[at + i] >> k & 1}
+    return {8 * i + k for i in range(SET_BYTES) for k in range(8) if data[at + i] >> k & 1}
 
 
 def judge_site(d):
     if len(d) != SITE_BYTES:
         return 3, 0
     present = members(d, 0)
-    names = d[NAMES_AT:NAMES_AT + 16]
+    names = d[NAMES_AT:NAMES_AT + NAMES]
     if 0 not in present or names[0] != 0 or any(n not in present for n in names):
         return 4, 0
-    if any(not members(d, LABELS_AT + 32 * p) <= present for p in range(16)):
+    if any(not members(d, label_at(p)) <= present for p in range(LABELS)):
         return 5, 0
     ends = present - {0}
-    for m in range(4):
-        for s in range(256):
-            row = members(d, ROWS_AT + 8192 * m + 32 * s)
+    for m in range(GENERAL):
+        for s in range(SLOTS):
+            row = members(d, row_at(m, s))
             if row and (s not in ends or not row <= ends):
                 return 6, 0
-    for f in range(4):
-        for s in range(256):
-            t = d[TARGETS_AT + 256 * f + s]
+    for f in range(GENERAL, LINKS):
+        for s in range(SLOTS):
+            t = d[target_at(f, s)]
             if t and (s not in ends or t not in ends):
                 return 6, 0
     return None
 
 
 UNARY, BINARY = {5, 8, 9, 10, 11}, {6, 7}
-PARAMS = {0: 1, 1: 1, 2: 16, 3: 16, 4: 16, 5: 1, 6: 1, 7: 1, 8: 17, 9: 17, 10: 16, 11: 16, 12: 256}
+PARAMS = {0: 1, 1: 1, 2: LABELS, 3: NAMES, 4: VARIABLES, 5: 1, 6: 1, 7: 1, 8: WAYS, 9: WAYS, 10: VARIABLES, 11: VARIABLES, 12: SLOTS}
+
+
+def nodes_of(d):
+    return [(d[i], d[i + 1], d[i + 2] + 256 * d[i + 3], d[i + 4] + 256 * d[i + 5]) for i in range(0, len(d), NODE_BYTES)]
 
 
 def judge_condition(d):
-    if len(d) % 6 or not 6 <= len(d) <= 12288:
+    if len(d) % NODE_BYTES or not NODE_BYTES <= len(d) <= TABLE_BYTES:
         return 7, 0
-    nodes = [(d[i], d[i + 1], d[i + 2] + 256 * d[i + 3], d[i + 4] + 256 * d[i + 5]) for i in range(0, len(d), 6)]
+    nodes = nodes_of(d)
     for i, (kind, param, left, right) in enumerate(nodes):
         fits = kind in PARAMS and param < PARAMS[kind]
         fits = fits and (left < i if kind in UNARY | BINARY else left == 0)
@@ -82,19 +88,23 @@ def judge_condition(d):
 
 
 def name(x):
-    return x < 16
+    return x < NAMES
 
 
 def moved(x):
-    return 0 < x < 16
+    return 0 < x < NAMES
+
+
+def label(x):
+    return x < LABELS
 
 
 def link(x):
-    return x < 8
+    return x < LINKS
 
 
 def functional(x):
-    return 4 <= x < 8
+    return GENERAL <= x < LINKS
 
 
 def unused(x):
@@ -102,22 +112,22 @@ def unused(x):
 
 
 def slot(x):
-    return x < 256
+    return x < SLOTS
 
 
 OPERANDS = [
-    (moved, name, unused), (moved, name, functional), (name, name, unused), (name, name, unused),
+    (moved, name, unused), (moved, name, functional), (name, label, unused), (name, label, unused),
     (link, name, name), (link, name, name), (functional, name, unused), (moved, slot, unused), (name, unused, unused),
 ]
 
 
 def judge_sheet(d):
-    if len(d) % 4 or len(d) > 256:
+    if len(d) % EDIT_BYTES or len(d) > SHEET_BYTES:
         return 11, 0
-    for i in range(0, len(d), 4):
+    for i in range(0, len(d), EDIT_BYTES):
         op = d[i]
-        if op > 8 or not all(ok(x) for ok, x in zip(OPERANDS[op], d[i + 1:i + 4])):
-            return 12, i // 4
+        if op >= OPERATIONS or not all(ok(x) for ok, x in zip(OPERANDS[op], d[i + 1:i + EDIT_BYTES])):
+            return 12, i // EDIT_BYTES
     return None
 
 
@@ -130,13 +140,18 @@ def put(site, at, slot):
     site[at + slot // 8] |= 1 << slot % 8
 
 
+def put_target(rng, site, slots):
+    target = rng.choice(slots)
+    site[TARGETS_AT + SLOTS * rng.randrange(FUNCTIONAL) + rng.choice(slots)] = target
+
+
 def site_a():
     d = bytearray(SITE_BYTES)
     for s in range(4):
         put(d, 0, s)
     put(d, LABELS_AT, 1)
     d[NAMES_AT + 1], d[NAMES_AT + 2] = 2, 3
-    d[TARGETS_AT + 2], d[TARGETS_AT + 3] = 1, 2
+    d[target_at(4, 2)], d[target_at(4, 3)] = 1, 2
     return d
 
 
@@ -147,6 +162,20 @@ def table(*nodes):
     return d
 
 
+def named(n):
+    """The condition "name n"."""
+    return table((3, n, 0, 0))
+
+
+def sheet(*edits):
+    return bytearray(b for edit in edits for b in (list(edit) + [0, 0, 0])[:EDIT_BYTES])
+
+
+def full_table(kind):
+    """A leaf, and ors as far as a table goes."""
+    return table((kind, 0, 0, 0), *((6, 0, i, i) for i in range(NODES - 1)))
+
+
 R = table((2, 0, 0, 0), (4, 0, 0, 0), (8, 4, 1, 0), (6, 0, 0, 2), (10, 0, 3, 0))
 
 
@@ -155,33 +184,35 @@ def sites(rng):
     for n in (0, SITE_BYTES - 1, SITE_BYTES + 1):
         yield (site_a() + b"\0")[:n]
     for at, value in (
-        (0, 14), (0, 0), (544, 1), (545, 4), (559, 255), (543, 128), (32, 3), (512, 1), (512, 16), (63, 128),
-        (560, 1), (561, 4), (564, 1), (1583, 1), (1327, 255), (1584, 2), (1616, 1), (1616, 2), (1616, 16), (1712, 2),
-        (34351, 128), (34320, 1), (26192, 4), (9776 + 32, 4), (9776 + 32, 1),
+        (0, 14), (0, 0), (NAMES_AT, 1), (NAMES_AT + 1, 4), (NAMES_AT + NAMES - 1, 255),
+        (NAMES_AT - 1, 128), (LABELS_AT, 3), (label_at(LABELS - 1), 1), (label_at(LABELS - 1), 16), (label_at(1) - 1, 128),
+        (TARGETS_AT, 1), (target_at(4, 1), 4), (target_at(4, 4), 1), (target_at(7, 255), 1), (target_at(6, 255), 255),
+        (ROWS_AT, 2), (row_at(0, 1), 1), (row_at(0, 1), 2), (row_at(0, 1), 16), (row_at(0, 4), 2),
+        (SITE_BYTES - 1, 128), (row_at(3, 255), 1), (row_at(3, 1), 4), (row_at(1, 1), 4), (row_at(1, 1), 1),
     ):
         d = site_a()
         d[at] = value
         yield d
     d = site_a()
-    d[0], d[32], d[560] = 14, 255, 1
+    d[0], d[LABELS_AT], d[TARGETS_AT] = 14, 255, 1
     yield d
     d[0] = 15
     yield d
-    d[32] = 2
+    d[LABELS_AT] = 2
     yield d
     for _ in range(40):
         d = bytearray(SITE_BYTES)
-        slots = sorted(rng.sample(range(1, 256), rng.randrange(1, 60)))
+        slots = sorted(rng.sample(range(1, SLOTS), rng.randrange(1, 60)))
         for s in [0] + slots:
             put(d, 0, s)
-        for n in range(1, 16):
+        for n in range(1, NAMES):
             d[NAMES_AT + n] = rng.choice([0] + slots)
         for _ in range(rng.randrange(60)):
-            put(d, LABELS_AT + 32 * rng.randrange(16), rng.choice([0] + slots))
-            put(d, ROWS_AT + 8192 * rng.randrange(4) + 32 * rng.choice(slots), rng.choice(slots))
-            d[TARGETS_AT + 256 * rng.randrange(4) + rng.choice(slots)] = rng.choice(slots)
+            put(d, label_at(rng.randrange(LABELS)), rng.choice([0] + slots))
+            put(d, row_at(rng.randrange(GENERAL), rng.choice(slots)), rng.choice(slots))
+            put_target(rng, d, slots)
         for _ in range(rng.choice((0, 0, 1, 2))):
-            area = rng.choice(((0, 32), (32, 544), (544, 560), (560, 1584), (1584, SITE_BYTES)))
+            area = rng.choice(((0, LABELS_AT), (LABELS_AT, NAMES_AT), (NAMES_AT, TARGETS_AT), (TARGETS_AT, ROWS_AT), (ROWS_AT, SITE_BYTES)))
             d[rng.randrange(*area)] ^= 1 << rng.randrange(8)
         yield d
 
@@ -205,9 +236,8 @@ def conditions(rng):
     yield bytearray()
     for n in (5, 7, 12, 29, 31):
         yield (R + b"\0\0")[:n]
-    full = table((0, 0, 0, 0), *((6, 0, i, i) for i in range(2047)))
-    yield full
-    yield full + table((6, 0, 2047, 2047))
+    yield full_table(0)
+    yield full_table(0) + table((6, 0, NODES - 1, NODES - 1))
     for kind in range(14):
         child = 1 if kind in UNARY | BINARY else 0
         right = 1 if kind in BINARY else 0
@@ -222,16 +252,16 @@ def conditions(rng):
     yield table((4, 0, 0, 0), (5, 0, 0, 0), (11, 1, 1, 0), (10, 0, 2, 0))
     yield table((4, 0, 0, 0), (10, 0, 0, 0), (5, 0, 1, 0), (11, 0, 2, 0))
     yield table((4, 0, 0, 0), (5, 0, 0, 0), (6, 0, 0, 1), (11, 0, 2, 0), (0, 0, 0, 0))
-    yield table((4, 15, 0, 0))
-    yield table((4, 15, 0, 0), (10, 14, 0, 0))
-    yield table((4, 15, 0, 0), (10, 15, 0, 0))
+    yield table((4, VARIABLES - 1, 0, 0))
+    yield table((4, VARIABLES - 1, 0, 0), (10, VARIABLES - 2, 0, 0))
+    yield table((4, VARIABLES - 1, 0, 0), (10, VARIABLES - 1, 0, 0))
     yield table((4, 3, 0, 0), (0, 0, 0, 0))
     for _ in range(300):
         nodes = random_table(rng)
         if rng.random() < 0.5:
             i = rng.randrange(len(nodes))
             node = list(nodes[i])
-            node[rng.randrange(4)] = rng.choice((0, 1, i, i + 1, 13, 16, 17, 255))
+            node[rng.randrange(4)] = rng.choice((0, 1, i, i + 1, 13, VARIABLES, WAYS, 255))
             nodes[i] = tuple(node)
             nodes[i] = (nodes[i][0] % 256, nodes[i][1] % 256, nodes[i][2], nodes[i][3])
         elif rng.random() < 0.7:
@@ -240,27 +270,35 @@ def conditions(rng):
         yield table(*nodes)
 
 
+def first_operands(op):
+    """Operands that fit; zeros for an operation that there is not."""
+    if op >= OPERATIONS:
+        return 0, 0, 0
+    return tuple(GENERAL if ok in (link, functional) else 0 if ok is unused else 1 for ok in OPERANDS[op])
+
+
 def sheets(rng):
     yield bytearray((6, 4, 1, 0))
     yield bytearray()
     for n in (1, 3, 5, 6):
         yield bytearray((6, 4, 1, 0, 6, 4, 1, 0))[:n]
-    yield bytearray((6, 4, 1, 0)) * 64
-    yield bytearray((6, 4, 1, 0)) * 65
-    yield bytearray((6, 4, 1, 0)) * 63 + bytearray((6, 4, 1, 1))
-    for op in range(10):
+    yield bytearray((6, 4, 1, 0)) * EDITS
+    yield bytearray((6, 4, 1, 0)) * (EDITS + 1)
+    yield bytearray((6, 4, 1, 0)) * (EDITS - 1) + bytearray((6, 4, 1, 1))
+    bounds = sorted({0, 1, GENERAL - 1, GENERAL, LINKS - 1, LINKS, LABELS - 1, LABELS, NAMES - 1, NAMES, 255})
+    for op in range(OPERATIONS + 1):
         for at in range(3):
-            for value in (0, 1, 3, 4, 7, 8, 15, 16, 255):
-                edit = [op, *(4 if op < 9 and ok in (link, functional) else 1 if op < 9 and ok is not unused else 0 for ok in OPERANDS[op % 9])]
+            for value in bounds:
+                edit = [op, *first_operands(op)]
                 edit[1 + at] = value
                 yield bytearray((6, 4, 1, 0)) + bytearray(edit)
     for _ in range(100):
         d = bytearray()
         for _ in range(rng.randrange(1, 12)):
-            op = rng.randrange(9)
-            d += bytes([op, *(0 if ok is unused else rng.choice([x for x in range(256) if ok(x)]) for ok in OPERANDS[op])])
+            op = rng.randrange(OPERATIONS)
+            d += bytes([op, *(0 if ok is unused else rng.choice([x for x in range(SLOTS) if ok(x)]) for ok in OPERANDS[op])])
         if rng.random() < 0.5:
-            d[rng.randrange(len(d))] = rng.choice((0, 1, 9, 16, 255))
+            d[rng.randrange(len(d))] = rng.choice((0, 1, OPERATIONS, NAMES, 255))
         yield d
 
 
@@ -281,7 +319,7 @@ def write(crate, stdin, stdout):
 
 
 def main():
-    rng = random.Random(2048)
+    rng = random.Random(SEED)
     stdin, stdout = bytearray(), []
     makers = {SITE: list(sites(rng)), CONDITION: list(conditions(rng)), SHEET: list(sheets(rng))}
     first = [(kind, makers[kind][0]) for kind in (SITE, CONDITION, SHEET)]
@@ -289,7 +327,7 @@ def main():
     for kind, d in first + rest:
         stdin += encode(kind, d)
         verdict = JUDGES[kind](d)
-        stdout.append(f"{NAMES[kind]} " + ("accepted" if verdict is None else "refused %d %d" % verdict))
+        stdout.append(f"{WORDS[kind]} " + ("accepted" if verdict is None else "refused %d %d" % verdict))
     write("verdicts", stdin, stdout)
     counts = {}
     for line in stdout:

@@ -38,6 +38,10 @@ def missing(text):
     for name, word in re.findall(r"`(\w+\.py): (\w+)`", text):
         if name != "file.py" and not re.search(r"(?m)^(?:def )?" + word + r"\b", read(f"tests/{name}")):
             yield f"{name}: {word}"
+    for path, words in re.findall(r"(tests/\w+\.c) \((`\w+`(?:, `\w+`)*)\)", text):
+        for word in re.findall(r"\w+", words):
+            if not (os.path.exists(path) and re.search(r"(?m)^static .*\b" + word + r"\(", read(path))) and word != "name":
+                yield f"{path}: {word}"
     for path in re.findall(r"(?<![\w/])((?:crates|docs|tests|include|examples|bench)/[\w./]*\w)", text):
         if not os.path.exists(path) and not path.startswith(("crates/crate", "tests/file")):
             yield path

@@ -17,7 +17,7 @@ fn run(site: &mut [u8], sheet: &[u8]) -> usize
     let mut k = 0;
     while k < n {
         let e = sheet::edit_at(sheet, k);
-        if !edits::goes_through(site, e) {
+        if !going::goes_through(site, e) {
             return k;
         }
         edits::apply_edit(site, e);

@@ -1,9 +1,15 @@
 // Reads sites, conditions and sheets on standard input and prints for each three what the desk answers: the bytes that applying changes,
 // behind their places; the rewritten table; and the lists of the condition on the site after and of the rewritten table today.
 // A refusal is printed as `refused N W`. What a buffer should not hold, and a buffer of another length that is not refused, is said.
+use bitset::SET_BYTES;
 use libc::STDOUT_FILENO;
+use limits::NODE_BYTES;
+use limits::TABLE_BYTES;
 use list_entry::Listing;
+use listing::WORK_BYTES;
+use pieces::ROOM;
 use rewriting::Rewriting;
+use site::SITE_BYTES;
 use verdict::Verdict;
 
 fn print_refusal(item: u8, place: u16) {
@@ -46,12 +52,12 @@ fn is_item_1(v: Verdict) -> bool {
 
 // A result buffer that is a byte too short.
 fn short_site_is_refused(site: &[u8], sheet: &[u8]) -> bool {
-    let mut result = [170u8; 34351];
+    let mut result = [170u8; SITE_BYTES - 1];
     is_item_1(apply_entry::apply(site, sheet, &mut result)) & pieces::all_zero(&result)
 }
 
 fn short_table_is_refused(cond: &[u8], sheet: &[u8]) -> bool {
-    let mut result = [170u8; 12287];
+    let mut result = [170u8; TABLE_BYTES - 1];
     let r = rewrite_entry::rewrite(cond, sheet, &mut result);
     is_item_1(rewriting::verdict(r)) & (rewriting::nodes(r) == 0) & pieces::all_zero(&result)
 }
@@ -77,7 +83,7 @@ fn apply(site: &[u8], sheet: &[u8], result: &mut [u8]) -> bool {
 }
 
 fn print_table(nodes: u32, result: &[u8]) {
-    let n = 6 * nodes as usize;
+    let n = NODE_BYTES * nodes as usize;
     io::print_decimal(STDOUT_FILENO, nodes as u64);
     io::write_all(STDOUT_FILENO, b" nodes ");
     if n <= result.len() {
@@ -100,12 +106,12 @@ fn rewrite(cond: &[u8], sheet: &[u8], result: &mut [u8]) -> usize {
     }
     complain(!short_table_is_refused(cond, sheet), b" short buffer taken");
     io::write_all(STDOUT_FILENO, b"\n");
-    6 * rewriting::nodes(r) as usize
+    NODE_BYTES * rewriting::nodes(r) as usize
 }
 
 fn print_list(site: &[u8], cond: &[u8]) {
-    let mut set = [170u8; 32];
-    let mut work = [170u8; 65536];
+    let mut set = [170u8; SET_BYTES];
+    let mut work = [170u8; WORK_BYTES];
     match list_entry::list(site, cond, &mut set, &mut work) {
         Listing::Listed(n) => {
             io::print_decimal(STDOUT_FILENO, n as u64);
@@ -125,8 +131,8 @@ fn print_today(site: &[u8], table: &[u8], n: usize) {
 }
 
 fn answer(site: &[u8], cond: &[u8], sheet: &[u8]) {
-    let mut after = [170u8; 34352];
-    let mut table = [170u8; 12288];
+    let mut after = [170u8; SITE_BYTES];
+    let mut table = [170u8; TABLE_BYTES];
     let applied = apply(site, sheet, &mut after);
     let n = rewrite(cond, sheet, &mut table);
     if applied && n > 0 {
@@ -139,15 +145,15 @@ fn answer(site: &[u8], cond: &[u8], sheet: &[u8]) {
 
 // Reads one three and prints its lines; false at the end of the input.
 fn next() -> bool {
-    let mut site = [0u8; 65536];
+    let mut site = [0u8; ROOM];
     let first = pieces::read(&mut site);
     let kind = first.kind;
     if kind == 0 {
         return false;
     }
-    let mut cond = [0u8; 65536];
+    let mut cond = [0u8; ROOM];
     let second = pieces::read(&mut cond);
-    let mut sheet = [0u8; 65536];
+    let mut sheet = [0u8; ROOM];
     let third = pieces::read(&mut sheet);
     let m = first.len;
     let n = second.len;

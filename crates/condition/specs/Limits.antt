@@ -1,8 +1,8 @@
 -- Item 8 as bounds on a node's fields: a field that a kind does not use has the one value 0.
 use mathlib.Core.Bool.{cond}
-use Prim.Native.Nat.{ℕ}
+use Prim.Native.Nat.{ℕ, suc}
 use lib.Dec.{ltb}
-use Rattle.limits.specs.Limits.{labels, names, variables}
+use Rattle.limits.specs.Limits.{labels, names, variables, everyWay}
 use Rattle.semantics.specs.Table.{kTrue, kHere, kLabel, kName, kVar, kSlot, kNot, kDia, kBox, kMu, kNu, Kind, leaf, unary, binary}
 
 -- the parameter is below this number
@@ -14,8 +14,8 @@ paramLimit (leaf kName) = names
 paramLimit (leaf kVar) = variables
 paramLimit (leaf kSlot) = 256
 paramLimit (unary kNot) = 1
-paramLimit (unary kDia) = 17
-paramLimit (unary kBox) = 17
+paramLimit (unary kDia) = suc everyWay
+paramLimit (unary kBox) = suc everyWay
 paramLimit (unary kMu) = variables
 paramLimit (unary kNu) = variables
 paramLimit (binary k) = 1

@@ -6,13 +6,14 @@ use lib.ListN.{length}
 use Rattle.finite.specs.Tests.{same, below, first}
 use Rattle.verdict.specs.declared.Verdict.{Verdict}
 use Rattle.verdict.specs.declared.Verdict.the-variants.{Accepted, Refused}
+use Rattle.limits.specs.Limits.{nodeSize, tableBytes}
 use Rattle.semantics.specs.Form.{even, closed}
 use Rattle.semantics.specs.Table.{treeAt, formOf, nodeFits}
 use Rattle.condition.specs.Bytes.{nodeAt, tableOf}
 
 -- item 7 is not met: a multiple of 6 from 6 to 12,288 bytes
 unfoldable pub sizeFits : ℕ → Bool
-sizeFits n = same (n % 6) 0 && (not (below n 6) && not (below 12288 n))
+sizeFits n = same (n % nodeSize) 0 && (not (below n nodeSize) && not (below tableBytes n))
 
 -- the lowest node that meets item 8, and the number of nodes where none does
 unfoldable pub firstUnfit : List ℕ → ℕ

@@ -1,13 +1,33 @@
 // The node table of a condition: reading a node's fields, and items 7 and 8.
 use buffer::wide;
+use limits::DIA;
+use limits::KINDS;
+use limits::LABEL;
+use limits::MU;
+use limits::NAME;
+use limits::NOT;
+use limits::OR;
+use limits::SLOT;
+use limits::TABLE_BYTES;
+use limits::VAR;
 ghost use mathlib.Core.Path.{_≡_};
 ghost use mathlib.Core.Bool.{true};
 ghost use Prim.Native.Nat.{_+_, _*_, _≤_, _<_};
 ghost use lib.ListN.{length};
+ghost use Rattle.limits.specs.Limits.{notNo, orNo, andNo, nuNo};
 ghost use Rattle.semantics.specs.Table.{kindOf, nodeFits, nodesFit};
 ghost use Rattle.condition.specs.Bytes.{wordAt, nodeAt, tableOf};
 ghost use Rattle.condition.specs.Limits.{paramLimit, childLimit};
 ghost use Rattle.condition.specs.Refusal.{sizeFits, firstUnfit};
+
+// The bounds of parameters, as they are compared.
+const LABEL_LIMIT: usize = limits::LABELS as usize;
+
+const NAME_LIMIT: usize = limits::NAMES as usize;
+
+const VARIABLE_LIMIT: usize = limits::VARIABLES as usize;
+
+const WAY_LIMIT: usize = limits::EVERY as usize + 1;
 
 // Item 7 is not met by a table of n bytes.
 pub fn size_fits(n: usize) -> bool
@@ -19,7 +39,7 @@ pub fn size_fits(n: usize) -> bool
     if n < 6 {
         return false;
     }
-    if 12288 < n {
+    if TABLE_BYTES < n {
         return false;
     }
     true
@@ -61,12 +81,11 @@ pub fn right(table: &[u8], i: usize) -> usize
     word(table, 6 * i + 4)
 }
 
-// The same of a table whose nodes fit, with what a caller relies on: a label, name or variable is below 16, a child is lower.
+// The same of a table whose nodes fit, with what a caller relies on: a parameter is below the limit of its kind, a child is lower.
 pub fn number(table: &[u8], i: usize) -> usize
     requires { ⌜ nodesFit 0 (tableOf (now table)) ≡ true ⌝ }
     requires { ⌜ 6 * i + 6 ≤ length (now table) ⌝ }
-    requires { ⌜ paramLimit (kindOf (nodeAt (now table) i .kind)) ≡ 16 ⌝ }
-    ensures { λ r. ⌜ (r ≡ nodeAt (now (table .entry)) i .param) × (r < 16) ⌝ }
+    ensures { λ r. ⌜ (r ≡ nodeAt (now (table .entry)) i .param) × (r < paramLimit (kindOf (nodeAt (now (table .entry)) i .kind))) ⌝ }
 {
     wide(param(table, i))
 }
@@ -74,7 +93,7 @@ pub fn number(table: &[u8], i: usize) -> usize
 pub fn left_child(table: &[u8], i: usize) -> usize
     requires { ⌜ nodesFit 0 (tableOf (now table)) ≡ true ⌝ }
     requires { ⌜ 6 * i + 6 ≤ length (now table) ⌝ }
-    requires { ⌜ (5 ≤ nodeAt (now table) i .kind) × (nodeAt (now table) i .kind ≤ 11) ⌝ }
+    requires { ⌜ (notNo ≤ nodeAt (now table) i .kind) × (nodeAt (now table) i .kind ≤ nuNo) ⌝ }
     ensures { λ r. ⌜ (r ≡ nodeAt (now (table .entry)) i .left) × (r < i) ⌝ }
 {
     left(table, i)
@@ -83,7 +102,7 @@ pub fn left_child(table: &[u8], i: usize) -> usize
 pub fn right_child(table: &[u8], i: usize) -> usize
     requires { ⌜ nodesFit 0 (tableOf (now table)) ≡ true ⌝ }
     requires { ⌜ 6 * i + 6 ≤ length (now table) ⌝ }
-    requires { ⌜ (6 ≤ nodeAt (now table) i .kind) × (nodeAt (now table) i .kind ≤ 7) ⌝ }
+    requires { ⌜ (orNo ≤ nodeAt (now table) i .kind) × (nodeAt (now table) i .kind ≤ andNo) ⌝ }
     ensures { λ r. ⌜ (r ≡ nodeAt (now (table .entry)) i .right) × (r < i) ⌝ }
 {
     right(table, i)
@@ -93,20 +112,26 @@ pub fn right_child(table: &[u8], i: usize) -> usize
 fn param_limit(k: u8) -> usize
     ensures { λ r. ⌜ r ≡ paramLimit (kindOf k) ⌝ }
 {
-    if k < 2 {
+    if k < LABEL {
         return 1;
     }
-    if k < 5 {
-        return 16;
+    if k < NAME {
+        return LABEL_LIMIT;
     }
-    if k < 8 {
+    if k < VAR {
+        return NAME_LIMIT;
+    }
+    if k < NOT {
+        return VARIABLE_LIMIT;
+    }
+    if k < DIA {
         return 1;
     }
-    if k < 10 {
-        return 17;
+    if k < MU {
+        return WAY_LIMIT;
     }
-    if k < 12 {
-        return 16;
+    if k < SLOT {
+        return VARIABLE_LIMIT;
     }
     256
 }
@@ -129,16 +154,16 @@ fn node_fits(table: &[u8], i: usize) -> bool
     ensures { λ r. ⌜ r ≡ nodeFits i (nodeAt (now (table .entry)) i) ⌝ }
 {
     let k = kind(table, i);
-    if 13 <= k {
+    if KINDS <= k {
         return false;
     }
     if param_limit(k) <= wide(param(table, i)) {
         return false;
     }
-    if child_limit(k, 5, 12, i) <= left(table, i) {
+    if child_limit(k, NOT, SLOT, i) <= left(table, i) {
         return false;
     }
-    right(table, i) < child_limit(k, 6, 8, i)
+    right(table, i) < child_limit(k, OR, DIA, i)
 }
 
 // The lowest node that meets item 8, and the number of nodes where none does.

@@ -1,6 +1,2 @@
--- Laws of the entry points, by topic.
+-- Laws of the entry points.
 pub mod Returned
-pub mod Accepted
-pub mod Demand1
-pub mod Demands
-pub mod Job

@@ -1,4 +1,4 @@
-// The nine edits on a site's bytes, in place, and when they go through.
+// The nine edits on a site's bytes, in place.
 ghost use mathlib.Core.Path.{_≡_};
 ghost use mathlib.Core.Bool.{true};
 ghost use Prim.Native.Nat.{_≤_, _<_};
@@ -9,7 +9,8 @@ ghost use Rattle.semantics.specs.Edit.{CN1, CN2, AP, DP, AT, DT1, DT2, AS, DS, 
 ghost use Rattle.site.specs.Layout.{siteBytes, targetAt};
 ghost use Rattle.site.specs.Site.{siteOf};
 ghost use Rattle.sheet.specs.Bytes.{editOf};
-ghost use Rattle.edits.specs.Change.{withName, withLabel, withoutLabel, withLink, withoutLink, withoutTarget, withoutName, columnTo, withoutLinksOf, withoutLabels, withoutNames, withoutLinks, joins};
+ghost use Rattle.going.specs.Joins.{joins};
+ghost use Rattle.edits.specs.Change.{withName, withLabel, withoutLabel, withLink, withoutLink, withoutTarget, withoutName, columnTo, withoutLinksOf, withoutLabels, withoutNames, withoutLinks};
 use bitset::SET_BYTES;
 use bitset::SET_SLOTS;
 use sheet::Op;
@@ -272,67 +273,5 @@ pub fn apply_edit(site: &mut [u8], e: Op)
         Op::Dt2(f, n) => delete_target(site, f, n),
         Op::As(n, k) => add_slot(site, n, k),
         Op::Ds(n) => delete_slot(site, n),
-    }
-}
-
-// Can link m be added from slot s to slot t?
-fn can_join(site: &[u8], m: usize, s: usize, t: usize) -> bool
-    requires { ⌜ (length (now site) ≡ siteBytes) × ((m < links) × ((s < setSlots) × (t < setSlots))) ⌝ }
-    ensures { λ r. ⌜ r ≡ joins (siteOf (now (site .entry))) m s t ⌝ }
-{
-    if s == 0 {
-        return false;
-    }
-    if t == 0 {
-        return false;
-    }
-    if m < GENERAL_LINKS {
-        return true;
-    }
-    let u = site::target(site, m, s);
-    (u == 0) | (u == t)
-}
-
-// AT goes through.
-fn link_goes(site: &[u8], m: u8, n1: u8, n2: u8) -> bool
-    requires { ⌜ (length (now site) ≡ siteBytes) × (legal (AT m n1 n2) ≡ true) ⌝ }
-    ensures { λ r. ⌜ r ≡ goes (AT m n1 n2) (siteOf (now (site .entry))) ⌝ }
-{
-    let s = site::place(site, n1 as usize);
-    let t = site::place(site, n2 as usize);
-    can_join(site, m as usize, s, t)
-}
-
-// AS goes through.
-fn slot_is_absent(site: &[u8], n: u8, k: u8) -> bool
-    requires { ⌜ (length (now site) ≡ siteBytes) × (legal (AS n k) ≡ true) ⌝ }
-    ensures { λ r. ⌜ r ≡ goes (AS n k) (siteOf (now (site .entry))) ⌝ }
-{
-    !site::present(site, k as usize)
-}
-
-// DS goes through.
-fn is_on_site(site: &[u8], n: u8) -> bool
-    requires { ⌜ (length (now site) ≡ siteBytes) × (legal (DS n) ≡ true) ⌝ }
-    ensures { λ r. ⌜ r ≡ goes (DS n) (siteOf (now (site .entry))) ⌝ }
-{
-    site::place(site, n as usize) != 0
-}
-
-// The edit goes through on the site.
-pub fn goes_through(site: &[u8], e: Op) -> bool
-    requires { ⌜ (length (now site) ≡ siteBytes) × (legal (editOf e) ≡ true) ⌝ }
-    ensures { λ r. ⌜ r ≡ goes (editOf e) (siteOf (now (site .entry))) ⌝ }
-{
-    match e {
-        Op::Cn1(_, _) => true,
-        Op::Cn2(_, _, _) => true,
-        Op::Ap(_, _) => true,
-        Op::Dp(_, _) => true,
-        Op::At(m, n1, n2) => link_goes(site, m, n1, n2),
-        Op::Dt1(_, _, _) => true,
-        Op::Dt2(_, _) => true,
-        Op::As(n, k) => slot_is_absent(site, n, k),
-        Op::Ds(n) => is_on_site(site, n),
     }
 }

@@ -6,7 +6,7 @@ use lib.ListN.{length, getD, replicate}
 use Rattle.finite.specs.Tests.{bit}
 use Rattle.verdict.specs.declared.Verdict.{Verdict}
 use Rattle.verdict.specs.declared.Verdict.the-variants.{Accepted, Refused}
-use Rattle.limits.specs.Limits.{variables}
+use Rattle.limits.specs.Limits.{variables, tableNodes}
 use Rattle.semantics.specs.Form.{free}
 use Rattle.semantics.specs.Table.{treeAt}
 use Rattle.condition.specs.Bytes.{tableOf}
@@ -17,9 +17,9 @@ pub record FreeRows (S rows : List ℕ) : Type 0 where
   pub node : (i v : ℕ) → i < length (tableOf S) → v < variables → bit (getD rows i 0) v ≡ free v (treeAt (tableOf S) i)
   pub rest : (i : ℕ) → length (tableOf S) ≤ i → getD rows i 0 ≡ 0
 
--- 2,048 masks, all 0
+-- a mask for each place of the longest table, all 0
 abbrev pub noMasks : List ℕ
-noMasks = replicate 2048 0
+noMasks = replicate tableNodes 0
 
 -- the masks after a verdict: all are 0 where the table is refused
 unfoldable pub FreeAfter : Verdict → List ℕ → List ℕ → Type 0

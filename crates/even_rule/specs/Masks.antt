@@ -6,10 +6,18 @@ use Prim.Native.Nat.{ℕ, _+_, _*_, _≤_, _<_}
 use lib.ListN.{length, getD}
 use lib.Bits.{bitOr}
 use Rattle.finite.specs.Tests.{bit}
-use Rattle.limits.specs.Limits.{variables}
+use Rattle.limits.specs.Limits.{variables, tableNodes, tableBytes, notNo, orNo, andNo, nuNo}
 use Rattle.semantics.specs.Form.{Form, occ}
 use Rattle.semantics.specs.Table.{treeAt, nodesFit}
 use Rattle.condition.specs.Bytes.{nodeAt, tableOf}
+
+-- A mask is a number of 16 bits (u16), of which the variable v has bit v: enough, since there are at most 16 variables.
+abbrev pub maskBits : ℕ
+maskBits = 16
+
+-- the mask of all its bits
+abbrev pub fullMask : ℕ
+fullMask = 65535
 
 -- the mask m holds the variables with an occurrence of parity b in φ
 unfoldable pub Shows : Bool → Form → ℕ → Type 0
@@ -21,8 +29,8 @@ Row b S own other j = Shows b (treeAt (tableOf S) j) (getD own j 0) × Shows (no
 
 -- those of the children of node i are
 pub record Children (b : Bool) (S own other : List ℕ) (i : ℕ) : Type 0 where
-  pub left : 5 ≤ nodeAt S i .kind → nodeAt S i .kind ≤ 11 → Row b S own other (nodeAt S i .left)
-  pub right : 6 ≤ nodeAt S i .kind → nodeAt S i .kind ≤ 7 → Row b S own other (nodeAt S i .right)
+  pub left : notNo ≤ nodeAt S i .kind → nodeAt S i .kind ≤ nuNo → Row b S own other (nodeAt S i .left)
+  pub right : orNo ≤ nodeAt S i .kind → nodeAt S i .kind ≤ andNo → Row b S own other (nodeAt S i .right)
 
 -- those of every node that is done are
 unfoldable pub Good : List ℕ → List ℕ → List ℕ → List ℕ → Type 0
@@ -46,15 +54,15 @@ DoneFrom S done i = (j : ℕ) → i ≤ j → 6 * j + 6 ≤ length S → getD do
 
 -- a table whose nodes fit
 pub record Fit (S : List ℕ) : Type 0 where
-  pub few : length S ≤ 12288
+  pub few : length S ≤ tableBytes
   pub fits : nodesFit 0 (tableOf S) ≡ true
 
 -- what each call of the pass asks
 pub record Ready (S done evens odds : List ℕ) : Type 0 where
   pub fit : Fit S
-  pub done-size : length done ≡ 2048
-  pub evens-size : length evens ≡ 2048
-  pub odds-size : length odds ≡ 2048
+  pub done-size : length done ≡ tableNodes
+  pub evens-size : length evens ≡ tableNodes
+  pub odds-size : length odds ≡ tableNodes
   pub good : Good S done evens odds
 
 -- what it leaves: node i is done

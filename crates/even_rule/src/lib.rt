@@ -1,5 +1,13 @@
 // The check of a condition's table. Items 9 and 10 go by two masks for each node: the variables that occur free in it under an
 // even and under an odd number of nots.
+use limits::AND;
+use limits::DIA;
+use limits::MU;
+use limits::NOT;
+use limits::NU;
+use limits::OR;
+use limits::TABLE_NODES;
+use limits::VAR;
 use verdict::Verdict;
 ghost use mathlib.Core.Path.{_≡_};
 ghost use mathlib.Core.Bool.{true, not, _||_, cond};
@@ -7,30 +15,31 @@ ghost use Prim.Native.Nat.{_+_, _*_, _-_, _^_, _≤_, _<_};
 ghost use lib.ListN.{length, replicate};
 ghost use lib.Bits.{bitAnd};
 ghost use Rattle.finite.specs.Tests.{all, bit};
+ghost use Rattle.limits.specs.Limits.{variables, tableNodes};
 ghost use Rattle.semantics.specs.Form.{even};
 ghost use Rattle.semantics.specs.Table.{treeAt, nodesFit};
 ghost use Rattle.condition.specs.Bytes.{tableOf};
 ghost use Rattle.condition.specs.Refusal.{sizeFits, firstUneven};
 ghost use Rattle.even_rule.specs.Free.{noMasks, Checked};
-ghost use Rattle.even_rule.specs.Masks.{Shows, Children, Rows, Odds, Fit, Ready, Visited, ChildrenVisited, United};
+ghost use Rattle.even_rule.specs.Masks.{fullMask, Shows, Children, Rows, Odds, Fit, Ready, Visited, ChildrenVisited, United};
 
 // The mask of the variable v alone.
 fn single(v: usize) -> u16
-    requires { ⌜ v < 16 ⌝ }
+    requires { ⌜ v < variables ⌝ }
     ensures { λ r. ⌜ r ≡ 2 ^ v ⌝ }
 {
     1u16 << v
 }
 
 fn without(mask: u16, v: usize) -> u16
-    requires { ⌜ v < 16 ⌝ }
-    ensures { λ r. ⌜ r ≡ bitAnd mask (65535 - 2 ^ v) ⌝ }
+    requires { ⌜ v < variables ⌝ }
+    ensures { λ r. ⌜ r ≡ bitAnd mask (fullMask - 2 ^ v) ⌝ }
 {
     mask & !single(v)
 }
 
 fn has(mask: u16, v: usize) -> bool
-    requires { ⌜ v < 16 ⌝ }
+    requires { ⌜ v < variables ⌝ }
     ensures { λ r. ⌜ r ≡ bit mask v ⌝ }
 {
     (mask >> v) % 2 == 1
@@ -40,29 +49,29 @@ fn has(mask: u16, v: usize) -> bool
 fn mask(table: &[u8], own: &[u16], other: &[u16], parity: bool, i: usize) -> u16
     requires { ⌜ Fit (now table) ⌝ }
     requires { ⌜ 6 * i + 6 ≤ length (now table) ⌝ }
-    requires { ⌜ (length (now own) ≡ 2048) × (length (now other) ≡ 2048) ⌝ }
+    requires { ⌜ (length (now own) ≡ tableNodes) × (length (now other) ≡ tableNodes) ⌝ }
     requires { ⌜ Children parity (now table) (now own) (now other) i ⌝ }
     ensures { λ r. ⌜ Shows parity (treeAt (tableOf (now (table .entry))) i) r ⌝ }
 {
     let k = condition::kind(table, i);
-    if k < 4 {
+    if k < VAR {
         return 0;
     }
-    if k < 5 {
+    if k < NOT {
         return variable(condition::number(table, i), parity);
     }
-    if 11 < k {
+    if NU < k {
         return 0;
     }
     let l = condition::left_child(table, i);
-    if k < 6 {
+    if k < OR {
         return other[l];
     }
     let m = own[l];
-    if k < 8 {
+    if k < DIA {
         return m | own[condition::right_child(table, i)];
     }
-    if k < 10 {
+    if k < MU {
         return m;
     }
     without(m, condition::number(table, i))
@@ -70,7 +79,7 @@ fn mask(table: &[u8], own: &[u16], other: &[u16], parity: bool, i: usize) -> u16
 
 // A variable stands under no not, so the odd mask is empty.
 fn variable(v: usize, parity: bool) -> u16
-    requires { ⌜ v < 16 ⌝ }
+    requires { ⌜ v < variables ⌝ }
     ensures { λ r. ⌜ r ≡ cond parity (2 ^ v) 0 ⌝ }
 {
     if parity {
@@ -96,25 +105,25 @@ fn visit(table: &[u8], done: &mut [u8], evens: &mut [u16], odds: &mut [u16], i: 
     done[i] = 1;
 }
 
-// Kinds 5 to 11 have a left child, 6 and 7 a right one too.
+// The kinds from NOT to NU have a left child, OR and AND a right one too.
 fn descend(table: &[u8], done: &mut [u8], evens: &mut [u16], odds: &mut [u16], i: usize)
     requires { ⌜ Ready (now table) (now done) (now evens) (now odds) ⌝ }
     requires { ⌜ 6 * i + 6 ≤ length (now table) ⌝ }
     ensures { λ _. ⌜ ChildrenVisited (now (table .entry)) (now (done .entry)) (now (done .exit)) (now (evens .exit)) (now (odds .exit)) i ⌝ }
 {
     let k = condition::kind(table, i);
-    if k < 5 {
+    if k < NOT {
         return;
     }
-    if 11 < k {
+    if NU < k {
         return;
     }
     let l = condition::left_child(table, i);
     visit(table, done, evens, odds, l);
-    if k < 6 {
+    if k < OR {
         return;
     }
-    if 7 < k {
+    if AND < k {
         return;
     }
     let r = condition::right_child(table, i);
@@ -137,15 +146,15 @@ fn visit_all(table: &[u8], done: &mut [u8], evens: &mut [u16], odds: &mut [u16])
 fn uneven(table: &[u8], odds: &[u16], i: usize) -> bool
     requires { ⌜ Fit (now table) ⌝ }
     requires { ⌜ 6 * i + 6 ≤ length (now table) ⌝ }
-    requires { ⌜ length (now odds) ≡ 2048 ⌝ }
+    requires { ⌜ length (now odds) ≡ tableNodes ⌝ }
     requires { ⌜ Odds (now table) (now odds) ⌝ }
     ensures { λ r. ⌜ r ≡ not (even (treeAt (tableOf (now (table .entry))) i)) ⌝ }
 {
     let k = condition::kind(table, i);
-    if k < 10 {
+    if k < MU {
         return false;
     }
-    if 11 < k {
+    if NU < k {
         return false;
     }
     has(
@@ -157,7 +166,7 @@ fn uneven(table: &[u8], odds: &[u16], i: usize) -> bool
 // Item 9: the lowest node that breaks the even rule, and the number of nodes where none does.
 fn first_uneven(table: &[u8], odds: &[u16]) -> usize
     requires { ⌜ Fit (now table) ⌝ }
-    requires { ⌜ length (now odds) ≡ 2048 ⌝ }
+    requires { ⌜ length (now odds) ≡ tableNodes ⌝ }
     requires { ⌜ Odds (now table) (now odds) ⌝ }
     ensures { λ r. ⌜ r ≡ firstUneven (now (table .entry)) ⌝ }
 {
@@ -174,14 +183,14 @@ fn first_uneven(table: &[u8], odds: &[u16]) -> usize
 
 // Item 10 is not met by a node with these masks: they are empty.
 fn no_free(e: u16, o: u16) -> bool
-    ensures { λ r. ⌜ r ≡ all 16 (λ v. not (bit e v || bit o v)) ⌝ }
+    ensures { λ r. ⌜ r ≡ all variables (λ v. not (bit e v || bit o v)) ⌝ }
 {
     (e | o) == 0
 }
 
 // The free variables of the first n nodes: those of either parity.
 fn unite(evens: &[u16], odds: &[u16], free: &mut [u16], n: usize)
-    requires { ⌜ (n ≤ 2048) × (length (now evens) ≡ 2048) × (length (now odds) ≡ 2048) × (length (now free) ≡ 2048) ⌝ }
+    requires { ⌜ (n ≤ tableNodes) × (length (now evens) ≡ tableNodes) × (length (now odds) ≡ tableNodes) × (length (now free) ≡ tableNodes) ⌝ }
     ensures { λ _. ⌜ United (now (evens .entry)) (now (odds .entry)) (now (free .entry)) (now (free .exit)) n ⌝ }
 {
     let mut i = 0;
@@ -201,17 +210,17 @@ fn zero(rows: &mut [u16])
     }
 }
 
-fn no_flags() -> [u8; 2048]
-    ensures { λ r. ⌜ r ≡ replicate 2048 0 ⌝ }
+fn no_flags() -> [u8; TABLE_NODES]
+    ensures { λ r. ⌜ r ≡ replicate tableNodes 0 ⌝ }
 {
-    [0; 2048]
+    [0; TABLE_NODES]
 }
 
 // Room for the masks of a table's free variables.
-pub fn no_masks() -> [u16; 2048]
+pub fn no_masks() -> [u16; TABLE_NODES]
     ensures { λ r. ⌜ r ≡ noMasks ⌝ }
 {
-    [0u16; 2048]
+    [0u16; TABLE_NODES]
 }
 
 // Items 9 and 10 of a table that meets neither 7 nor 8.
@@ -240,7 +249,7 @@ fn check_rules(table: &[u8], free: &mut [u16]) -> Verdict
 
 // Items 7 to 10, in this order. An accepted table's free variables are written to `free`, which is zero otherwise.
 pub fn check(table: &[u8], free: &mut [u16]) -> Verdict
-    requires { ⌜ length (now free) ≡ 2048 ⌝ }
+    requires { ⌜ length (now free) ≡ tableNodes ⌝ }
     ensures { λ r. ⌜ Checked (now (table .entry)) (now (free .exit)) r ⌝ }
 {
     zero(free);

@@ -1,14 +1,20 @@
 // Reads a job on standard input and prints its answer. The buffer has one byte more than the longest job, so a longer one is seen to be
 // too long.
+use bitset::SET_BYTES;
+use bitset::SET_SLOTS;
 use libc::STDIN_FILENO;
+use limits::TABLE_BYTES;
+use listing::WORK_BYTES;
+use site::SITE_BYTES;
+use trailer::FILE_LIMIT;
 
 fn answer(file: &[u8]) {
-    let mut site = [0u8; 34352];
-    let mut table = [0u8; 12288];
-    let mut after = [0u8; 32];
-    let mut today = [0u8; 32];
-    let mut classes = [0u8; 256];
-    let mut work = [0u8; 65536];
+    let mut site = [0u8; SITE_BYTES];
+    let mut table = [0u8; TABLE_BYTES];
+    let mut after = [0u8; SET_BYTES];
+    let mut today = [0u8; SET_BYTES];
+    let mut classes = [0u8; SET_SLOTS];
+    let mut work = [0u8; WORK_BYTES];
     let r = job_entry::run(
         file,
         &mut site,
@@ -22,7 +28,7 @@ fn answer(file: &[u8]) {
 }
 
 fn main() {
-    let mut file = [0u8; 65537];
+    let mut file = [0u8; FILE_LIMIT + 1];
     let n = io::read_full(STDIN_FILENO, &mut file);
     answer(&file[..n]);
 }

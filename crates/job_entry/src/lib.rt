@@ -1,7 +1,7 @@
 // A job, for every input: the file is judged, its sheet is applied and its condition rewritten, and both are listed; or it is refused.
 use bitset::SET_BYTES;
 use bitset::SET_SLOTS;
-use blocks::TABLE_BYTES;
+use limits::TABLE_BYTES;
 use listing::WORK_BYTES;
 use rewriting::Rewriting;
 use site::SITE_BYTES;

@@ -2,12 +2,19 @@
 // else the job leaves: a checksum of the site after and of the table, and the class numbers, two hexadecimal digits each. The work
 // buffer has to come back as zeros, and so has every buffer of a refusal. Buffers of other lengths have to be refused with 1 and come
 // back as zeros too. What does not is said behind the answer.
+use bitset::SET_BYTES;
+use bitset::SET_SLOTS;
 use job_entry::Job;
 use libc::STDOUT_FILENO;
+use limits::TABLE_BYTES;
+use listing::WORK_BYTES;
 use pieces::Piece;
+use pieces::ROOM;
+use site::SITE_BYTES;
 ghost use mathlib.Core.Path.{_≡_};
-ghost use Prim.Native.Nat.{_<_};
+ghost use Prim.Native.Nat.{_+_, _<_};
 ghost use lib.ListN.{length};
+ghost use Rattle.pieces.specs.Room.{room};
 
 // A number below 4,294,967,291, a prime.
 fn mixed(h: u64, x: u8) -> u64
@@ -62,12 +69,12 @@ fn is_item_1(answer: Job) -> bool {
 
 // Buffers that are a byte too short.
 fn short_is_refused(file: &[u8]) -> bool {
-    let mut site = [170u8; 34351];
-    let mut table = [170u8; 12287];
-    let mut after = [170u8; 31];
-    let mut today = [170u8; 31];
-    let mut classes = [170u8; 255];
-    let mut work = [170u8; 65535];
+    let mut site = [170u8; SITE_BYTES - 1];
+    let mut table = [170u8; TABLE_BYTES - 1];
+    let mut after = [170u8; SET_BYTES - 1];
+    let mut today = [170u8; SET_BYTES - 1];
+    let mut classes = [170u8; SET_SLOTS - 1];
+    let mut work = [170u8; WORK_BYTES - 1];
     let r = job_entry::run(
         file,
         &mut site,
@@ -86,12 +93,12 @@ fn short_is_refused(file: &[u8]) -> bool {
 }
 
 fn answer(file: &[u8]) {
-    let mut site = [170u8; 34352];
-    let mut table = [170u8; 12288];
-    let mut after = [170u8; 32];
-    let mut today = [170u8; 32];
-    let mut classes = [170u8; 256];
-    let mut work = [170u8; 65536];
+    let mut site = [170u8; SITE_BYTES];
+    let mut table = [170u8; TABLE_BYTES];
+    let mut after = [170u8; SET_BYTES];
+    let mut today = [170u8; SET_BYTES];
+    let mut classes = [170u8; SET_SLOTS];
+    let mut work = [170u8; WORK_BYTES];
     let r = job_entry::run(
         file,
         &mut site,
@@ -117,16 +124,16 @@ fn answer(file: &[u8]) {
 
 // A job is read as a piece into the front of a longer buffer of zeros.
 fn read(file: &mut [u8]) -> Piece
-    requires { ⌜ length (now file) ≡ 65791 ⌝ }
-    ensures { λ r. ⌜ r .len < 65536 ⌝ }
+    requires { ⌜ length (now file) ≡ room + 255 ⌝ }
+    ensures { λ r. ⌜ r .len < room ⌝ }
 {
-    pieces::read(&mut file[0..65536])
+    pieces::read(&mut file[0..ROOM])
 }
 
 // Reads one job and prints its answer; false at the end of the input. A piece alone is no longer than 65,535 bytes, so a job has as many
 // zeros behind its piece as the piece's kind less 1.
 fn next() -> bool {
-    let mut file = [0u8; 65791];
+    let mut file = [0u8; ROOM + 255];
     let piece = read(&mut file);
     let kind = piece.kind;
     if kind == 0 {

@@ -1,5 +1,6 @@
--- The limits of the format. Document 01, "The site" and "The condition". The code has the same constants.
-use Prim.Native.Nat.{ℕ, _*_}
+-- The limits of the format and the numbers of its kinds of node. Document 01, "The site" and "The condition". The code has the same
+-- constants.
+use Prim.Native.Nat.{ℕ, suc, _*_}
 
 -- how many slots there are. Shut, so that nothing counts to it: `unfolding slots` makes it 256
 unfoldable pub slots : ℕ
@@ -35,3 +36,47 @@ nodeSize = 6
 
 abbrev pub tableBytes : ℕ
 tableBytes = nodeSize * tableNodes
+
+-- the kinds of node. Those up to the variable have no child, nor has the slot; the others have one, or and and two
+abbrev pub trueNo : ℕ
+trueNo = 0
+
+abbrev pub hereNo : ℕ
+hereNo = 1
+
+abbrev pub labelNo : ℕ
+labelNo = 2
+
+abbrev pub nameNo : ℕ
+nameNo = 3
+
+abbrev pub varNo : ℕ
+varNo = 4
+
+abbrev pub notNo : ℕ
+notNo = 5
+
+abbrev pub orNo : ℕ
+orNo = 6
+
+abbrev pub andNo : ℕ
+andNo = 7
+
+abbrev pub diaNo : ℕ
+diaNo = 8
+
+abbrev pub boxNo : ℕ
+boxNo = 9
+
+abbrev pub muNo : ℕ
+muNo = 10
+
+abbrev pub nuNo : ℕ
+nuNo = 11
+
+abbrev pub slotNo : ℕ
+slotNo = 12
+
+-- how many kinds there are
+abbrev pub kinds : ℕ
+kinds = suc slotNo

@@ -48,3 +48,6 @@ pub const MU: u8 = 10;
 pub const NU: u8 = 11;
 
 pub const SLOT: u8 = 12;
+
+// How many kinds there are.
+pub const KINDS: u8 = SLOT + 1;

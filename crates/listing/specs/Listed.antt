@@ -3,17 +3,17 @@ use mathlib.Core.Path.{_≡_}
 use mathlib.Core.Logic.{_↔_}
 use mathlib.Core.List.{List}
 use mathlib.Core.Bool.{true}
-use Prim.Native.Nat.{ℕ, _<_}
+use Prim.Native.Nat.{ℕ, _*_, _<_}
 use lib.ListN.{length}
 use Rattle.finite.specs.Tests.{count}
 use Rattle.bitset.specs.Set.{setBytes, has}
-use Rattle.limits.specs.Limits.{slots}
+use Rattle.limits.specs.Limits.{slots, tableNodes}
 use Rattle.semantics.specs.Form.{Form}
 use Rattle.semantics.specs.Holds.{Env, Model, Holds}
 
--- how many bytes the work buffer has: a set for each of 2,048 nodes
+-- how many bytes the work buffer has: a set for each node of a table
 abbrev pub workBytes : ℕ
-workBytes = 65536
+workBytes = setBytes * tableNodes
 
 -- the set is 32 bytes and holds the slots where the condition φ holds on the site M, and they are n. A condition without a free
 -- variable holds at the same slots under every valuation

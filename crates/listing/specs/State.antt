@@ -14,7 +14,7 @@ use Rattle.site.specs.Site.{siteOf}
 use Rattle.condition.specs.Bytes.{tableOf}
 use Rattle.even_rule.specs.Free.{FreeRows}
 use Rattle.limits.specs.Limits.{tableNodes, tableBytes}
-use Rattle.listing_sets.specs.Places.{setAt}
+use Rattle.listing_sets.specs.Places.{envBytes, setAt}
 use Rattle.listing.specs.Listed.{workBytes}
 
 -- the set of node j of the table S under the valuation ρ
@@ -32,7 +32,7 @@ pub record Ready (site S free env fresh work : List ℕ) : Type 0 where
   pub fits : nodesFit 0 (tableOf S) ≡ true
   pub rows : FreeRows S free
   pub free-size : length free ≡ tableNodes
-  pub env-size : length env ≡ 512
+  pub env-size : length env ≡ envBytes
   pub fresh-size : length fresh ≡ tableNodes
   pub work-size : length work ≡ workBytes
   pub good : Good site S env fresh work

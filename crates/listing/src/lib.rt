@@ -14,12 +14,21 @@ ghost use Rattle.verdict.specs.declared.Verdict.the-variants.{Accepted};
 ghost use Rattle.condition.specs.Bytes.{nodeAt, tableOf};
 ghost use Rattle.condition.specs.Refusal.{conditionVerdict};
 ghost use Rattle.even_rule.specs.Free.{FreeRows};
-ghost use Rattle.limits.specs.Limits.{tableNodes};
+ghost use Rattle.limits.specs.Limits.{tableNodes, notNo, orNo, andNo, diaNo, boxNo, muNo, nuNo};
+ghost use Rattle.listing_sets.specs.Places.{envBytes};
 ghost use Rattle.listing.specs.Listed.{workBytes, Listed};
 ghost use Rattle.listing.specs.State.{Ready, Done};
 use bitset::SET_BYTES;
 use bitset::SET_SLOTS;
-use blocks::TABLE_NODES;
+use limits::AND;
+use limits::BOX;
+use limits::DIA;
+use limits::MU;
+use limits::NOT;
+use limits::NU;
+use limits::OR;
+use limits::TABLE_NODES;
+use listing_sets::ENV_BYTES;
 
 // The work buffer has a set for each node of a table.
 pub const WORK_BYTES: usize = SET_BYTES * TABLE_NODES;
@@ -61,9 +70,9 @@ fn compute(
 {
     let k = condition::kind(table, i);
     match k {
-        5 | 8 | 9 => unary(site, table, free, env, fresh, work, i),
-        6 | 7 => binary(site, table, free, env, fresh, work, i),
-        10 | 11 => fixpoint(site, table, free, env, fresh, work, i),
+        NOT | DIA | BOX => unary(site, table, free, env, fresh, work, i),
+        OR | AND => binary(site, table, free, env, fresh, work, i),
+        MU | NU => fixpoint(site, table, free, env, fresh, work, i),
         _ => listing_sets::put_leaf(site, table, env, work, i),
     }
 }
@@ -80,7 +89,7 @@ fn unary(
 )
     requires { ⌜ Ready (now site) (now table) (now free) (now env) (now fresh) (now work) ⌝ }
     requires { ⌜ 6 * i + 6 ≤ length (now table) ⌝ }
-    requires { ⌜ (nodeAt (now table) i .kind ≡ 5) ⊎ ((nodeAt (now table) i .kind ≡ 8) ⊎ (nodeAt (now table) i .kind ≡ 9)) ⌝ }
+    requires { ⌜ (nodeAt (now table) i .kind ≡ notNo) ⊎ ((nodeAt (now table) i .kind ≡ diaNo) ⊎ (nodeAt (now table) i .kind ≡ boxNo)) ⌝ }
     ensures { λ _. ⌜ Done (now (site .entry)) (now (table .entry)) (now (env .entry)) (now (env .exit)) (now (fresh .exit)) (now (work .exit)) i ⌝ }
 {
     let l = condition::left_child(table, i);
@@ -102,7 +111,7 @@ fn binary(
 )
     requires { ⌜ Ready (now site) (now table) (now free) (now env) (now fresh) (now work) ⌝ }
     requires { ⌜ 6 * i + 6 ≤ length (now table) ⌝ }
-    requires { ⌜ (6 ≤ nodeAt (now table) i .kind) × (nodeAt (now table) i .kind ≤ 7) ⌝ }
+    requires { ⌜ (orNo ≤ nodeAt (now table) i .kind) × (nodeAt (now table) i .kind ≤ andNo) ⌝ }
     ensures { λ _. ⌜ Done (now (site .entry)) (now (table .entry)) (now (env .entry)) (now (env .exit)) (now (fresh .exit)) (now (work .exit)) i ⌝ }
 {
     let l = condition::left_child(table, i);
@@ -133,7 +142,7 @@ fn fixpoint(
 )
     requires { ⌜ Ready (now site) (now table) (now free) (now env) (now fresh) (now work) ⌝ }
     requires { ⌜ 6 * i + 6 ≤ length (now table) ⌝ }
-    requires { ⌜ (10 ≤ nodeAt (now table) i .kind) × (nodeAt (now table) i .kind ≤ 11) ⌝ }
+    requires { ⌜ (muNo ≤ nodeAt (now table) i .kind) × (nodeAt (now table) i .kind ≤ nuNo) ⌝ }
     ensures { λ _. ⌜ Done (now (site .entry)) (now (table .entry)) (now (env .entry)) (now (env .exit)) (now (fresh .exit)) (now (work .exit)) i ⌝ }
 {
     let x = condition::number(table, i);
@@ -161,10 +170,10 @@ fn no_flags() -> [u8; TABLE_NODES]
     [0; TABLE_NODES]
 }
 
-fn no_sets() -> [u8; 512]
-    ensures { λ r. ⌜ r ≡ replicate 512 0 ⌝ }
+fn no_sets() -> [u8; ENV_BYTES]
+    ensures { λ r. ⌜ r ≡ replicate envBytes 0 ⌝ }
 {
-    [0; 512]
+    [0; ENV_BYTES]
 }
 
 // The condition's set, and how many slots it holds.

@@ -2,6 +2,7 @@
 use mathlib.Core.Bool.{cond}
 use Prim.Native.Nat.{ℕ}
 use Rattle.finite.specs.Tests.{same}
+use Rattle.limits.specs.Limits.{muNo}
 use Rattle.semantics.specs.Form.{var}
 use Rattle.semantics.specs.Holds.{Set, Model}
 use Rattle.semantics.specs.Table.{kindOf, Node, build}
@@ -12,6 +13,6 @@ use Rattle.semantics.specs.Laws.Eval.{eval}
 unfoldable pub applied : Model → Node → Set → Set → Set
 applied M x S T = eval M (λ v. cond (same v 0) S T) (build (kindOf (x .kind)) (x .param) (var 0) (var 1))
 
--- the set from which the rounds of a mu (kind 10) or nu start
+-- the set from which the rounds of a mu or nu start
 unfoldable pub startOf : ℕ → Set
-startOf k = cond (same k 10) none full
+startOf k = cond (same k muNo) none full

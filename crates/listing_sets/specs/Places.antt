@@ -7,9 +7,14 @@ use mathlib.Core.Bool.{cond}
 use Prim.Native.Nat.{ℕ, _+_, _*_, _≤_, _<_}
 use lib.ListN.{getD}
 use Rattle.finite.specs.Tests.{bit}
-use Rattle.bitset.specs.Set.{setSlots, has}
+use Rattle.bitset.specs.Set.{setBytes, setSlots, has}
+use Rattle.limits.specs.Limits.{variables}
 use Rattle.semantics.specs.Holds.{Set}
 use Rattle.semantics.specs.Laws.Agree.{_≐_}
+
+-- how many bytes the environment has
+abbrev pub envBytes : ℕ
+envBytes = setBytes * variables
 
 -- the set at place j. As a function of j it is a valuation: that of an environment
 unfoldable pub setAt : List ℕ → ℕ → Set

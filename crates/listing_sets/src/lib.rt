@@ -1,6 +1,16 @@
 // Sets of slots at their places in a buffer: set j is the 32 bytes from byte 32 * j on. Each write lends that part of the buffer to
 // an operation on sets, and says what the whole buffer becomes.
+use bitset::SET_BYTES;
 use buffer::wide;
+use limits::DIA;
+use limits::HERE;
+use limits::LABEL;
+use limits::MU;
+use limits::NAME;
+use limits::NOT;
+use limits::OR;
+use limits::TRUE;
+use limits::VAR;
 ghost use mathlib.Core.Path.{_≡_};
 ghost use mathlib.Core.Logic.{_⊎_};
 ghost use mathlib.Core.Bool.{true, not, _&&_, _||_};
@@ -8,6 +18,7 @@ ghost use Prim.Native.Nat.{_+_, _*_, _≤_, _<_};
 ghost use lib.ListN.{length, getD};
 ghost use Rattle.finite.specs.Tests.{same, bit};
 ghost use Rattle.bitset.specs.Set.{setBytes, setSlots, has, Is};
+ghost use Rattle.limits.specs.Limits.{variables, tableNodes, notNo, orNo, andNo, diaNo, boxNo, nuNo};
 ghost use Rattle.semantics.specs.Holds.{Model};
 ghost use Rattle.semantics.specs.Table.{treeAt, nodesFit};
 ghost use Rattle.semantics.specs.Laws.FixedPoint.{none, full};
@@ -16,9 +27,11 @@ ghost use Rattle.semantics.specs.Laws.Agree.{_≐_};
 ghost use Rattle.site.specs.Layout.{siteBytes};
 ghost use Rattle.site.specs.Site.{siteOf};
 ghost use Rattle.condition.specs.Bytes.{nodeAt, tableOf};
-ghost use Rattle.listing_sets.specs.Places.{setAt, Written, Cleared};
+ghost use Rattle.listing_sets.specs.Places.{envBytes, setAt, Written, Cleared};
 ghost use Rattle.listing_sets.specs.Nodes.{startOf, applied};
-use bitset::SET_BYTES;
+
+// The environment has a set for each variable.
+pub const ENV_BYTES: usize = SET_BYTES * limits::VARIABLES as usize;
 
 // The bound is no constant, so that the compiler copies the set whole and does not take it apart into bytes.
 fn copy(dst: &mut [u8], src: &[u8])
@@ -95,7 +108,7 @@ fn single(s: usize) -> [u8; SET_BYTES]
 
 // Is the variable x free in node j?
 fn depends(free: &[u16], j: usize, x: usize) -> bool
-    requires { ⌜ (j < length (now free)) × (x < 16) ⌝ }
+    requires { ⌜ (j < length (now free)) × (x < variables) ⌝ }
     ensures { λ r. ⌜ r ≡ bit (getD (now (free .entry)) j 0) x ⌝ }
 {
     (free[j] >> x) % 2 == 1
@@ -103,7 +116,7 @@ fn depends(free: &[u16], j: usize, x: usize) -> bool
 
 // Clears the flag of each of the first n nodes in which the variable x is free.
 fn stale(free: &[u16], fresh: &mut [u8], n: usize, x: usize)
-    requires { ⌜ (n ≤ 2048) × (x < 16) × (length (now free) ≡ 2048) × (length (now fresh) ≡ 2048) ⌝ }
+    requires { ⌜ (n ≤ tableNodes) × (x < variables) × (length (now free) ≡ tableNodes) × (length (now fresh) ≡ tableNodes) ⌝ }
     ensures { λ _. ⌜ Cleared (now (free .entry)) (now (fresh .entry)) (now (fresh .exit)) n x ⌝ }
 {
     let mut j = 0;
@@ -124,7 +137,7 @@ pub fn assign(
     x: usize,
     set: [u8; SET_BYTES],
 )
-    requires { ⌜ (n ≤ 2048) × (x < 16) × (length (now free) ≡ 2048) × (length (now env) ≡ 512) × (length (now fresh) ≡ 2048) ⌝ }
+    requires { ⌜ (n ≤ tableNodes) × (x < variables) × (length (now free) ≡ tableNodes) × (length (now env) ≡ envBytes) × (length (now fresh) ≡ tableNodes) ⌝ }
     ensures { λ _. ⌜ Written (now (env .entry)) (now (env .exit)) x (has set) × Cleared (now (free .entry)) (now (fresh .entry)) (now (fresh .exit)) n x ⌝ }
 {
     store(env, x, set);
@@ -147,7 +160,7 @@ fn all_slots() -> [u8; SET_BYTES]
 pub fn start(kind: u8) -> [u8; SET_BYTES]
     ensures { λ r. ⌜ has r ≐ startOf kind ⌝ }
 {
-    if kind == 10 {
+    if kind == MU {
         return no_slots();
     }
     all_slots()
@@ -155,29 +168,29 @@ pub fn start(kind: u8) -> [u8; SET_BYTES]
 
 // The set of node i, which has no child.
 fn leaf_set(site: &[u8], table: &[u8], env: &[u8], i: usize) -> [u8; SET_BYTES]
-    requires { ⌜ (length (now site) ≡ siteBytes) × (length (now env) ≡ 512) ⌝ }
+    requires { ⌜ (length (now site) ≡ siteBytes) × (length (now env) ≡ envBytes) ⌝ }
     requires { ⌜ nodesFit 0 (tableOf (now table)) ≡ true ⌝ }
     requires { ⌜ 6 * i + 6 ≤ length (now table) ⌝ }
-    requires { ⌜ (5 ≤ nodeAt (now table) i .kind → nodeAt (now table) i .kind ≤ 11 → ⊥) ⌝ }
+    requires { ⌜ (notNo ≤ nodeAt (now table) i .kind → nodeAt (now table) i .kind ≤ nuNo → ⊥) ⌝ }
     ensures { λ r. ⌜ has r ≐ eval (siteOf (now (site .entry))) (setAt (now (env .entry))) (treeAt (tableOf (now (table .entry))) i) ⌝ }
 {
     let k = condition::kind(table, i);
     match k {
-        0 => all_slots(),
-        1 => load(site, 0),
-        2 => load(site, 1 + condition::number(table, i)),
-        3 => single(site::place(site, condition::number(table, i))),
-        4 => load(env, condition::number(table, i)),
+        TRUE => all_slots(),
+        HERE => load(site, 0),
+        LABEL => load(site, 1 + condition::number(table, i)),
+        NAME => single(site::place(site, condition::number(table, i))),
+        VAR => load(env, condition::number(table, i)),
         _ => single(wide(condition::param(table, i))),
     }
 }
 
 // Writes it.
 pub fn put_leaf(site: &[u8], table: &[u8], env: &[u8], work: &mut [u8], i: usize)
-    requires { ⌜ (length (now site) ≡ siteBytes) × (length (now env) ≡ 512) × (setBytes * i + setBytes ≤ length (now work)) ⌝ }
+    requires { ⌜ (length (now site) ≡ siteBytes) × (length (now env) ≡ envBytes) × (setBytes * i + setBytes ≤ length (now work)) ⌝ }
     requires { ⌜ nodesFit 0 (tableOf (now table)) ≡ true ⌝ }
     requires { ⌜ 6 * i + 6 ≤ length (now table) ⌝ }
-    requires { ⌜ (5 ≤ nodeAt (now table) i .kind → nodeAt (now table) i .kind ≤ 11 → ⊥) ⌝ }
+    requires { ⌜ (notNo ≤ nodeAt (now table) i .kind → nodeAt (now table) i .kind ≤ nuNo → ⊥) ⌝ }
     ensures { λ _. ⌜ Written (now (work .entry)) (now (work .exit)) i (eval (siteOf (now (site .entry))) (setAt (now (env .entry))) (treeAt (tableOf (now (table .entry))) i)) ⌝ }
 {
     let set = leaf_set(site, table, env, i);
@@ -194,11 +207,11 @@ pub fn put_binary(
 )
     requires { ⌜ 6 * i + 6 ≤ length (now table) ⌝ }
     requires { ⌜ setBytes * i + setBytes ≤ length (now work) ⌝ }
-    requires { ⌜ (6 ≤ nodeAt (now table) i .kind) × (nodeAt (now table) i .kind ≤ 7) ⌝ }
+    requires { ⌜ (orNo ≤ nodeAt (now table) i .kind) × (nodeAt (now table) i .kind ≤ andNo) ⌝ }
     ensures { λ _. ⌜ ((M : Model) → Written (now (work .entry)) (now (work .exit)) i (applied M (nodeAt (now (table .entry)) i) (has left) (has right))) ⌝ }
 {
     store(work, i, left);
-    if condition::kind(table, i) == 6 {
+    if condition::kind(table, i) == OR {
         unite(work, i, right);
         return;
     }
@@ -210,17 +223,17 @@ pub fn put_unary(site: &[u8], table: &[u8], work: &mut [u8], i: usize, set: [u8;
     requires { ⌜ length (now site) ≡ siteBytes ⌝ }
     requires { ⌜ 6 * i + 6 ≤ length (now table) ⌝ }
     requires { ⌜ setBytes * i + setBytes ≤ length (now work) ⌝ }
-    requires { ⌜ (nodeAt (now table) i .kind ≡ 5) ⊎ ((nodeAt (now table) i .kind ≡ 8) ⊎ (nodeAt (now table) i .kind ≡ 9)) ⌝ }
+    requires { ⌜ (nodeAt (now table) i .kind ≡ notNo) ⊎ ((nodeAt (now table) i .kind ≡ diaNo) ⊎ (nodeAt (now table) i .kind ≡ boxNo)) ⌝ }
     ensures { λ _. ⌜ Written (now (work .entry)) (now (work .exit)) i (applied (siteOf (now (site .entry))) (nodeAt (now (table .entry)) i) (has set) (has set)) ⌝ }
 {
     let k = condition::kind(table, i);
-    if k == 5 {
+    if k == NOT {
         store(work, i, set);
         invert(work, i);
         return;
     }
     let way = condition::param(table, i);
-    if k == 8 {
+    if k == DIA {
         let found = modal::diamond(site, way, set);
         store(work, i, found);
         return;

@@ -1,8 +1,11 @@
 // Reads pairs of a site and a condition on standard input and prints for each what listing answers: the count and the set, two
 // hexadecimal digits a byte, or `refused N W`. The work buffer has to come back as zeros, and so has the set of a refusal. Buffers of
 // other lengths have to be refused with 1 and come back as zeros too. What does not is said behind the answer.
+use bitset::SET_BYTES;
 use libc::STDOUT_FILENO;
 use list_entry::Listing;
+use listing::WORK_BYTES;
+use pieces::ROOM;
 
 fn print_two(n: u64, w: u64) {
     io::print_decimal(STDOUT_FILENO, n);
@@ -40,8 +43,8 @@ fn is_item_1(answer: Listing) -> bool {
 
 // Buffers that are a byte too short.
 fn short_is_refused(site: &[u8], cond: &[u8]) -> bool {
-    let mut set = [170u8; 31];
-    let mut work = [170u8; 65535];
+    let mut set = [170u8; SET_BYTES - 1];
+    let mut work = [170u8; WORK_BYTES - 1];
     let r = list_entry::list(site, cond, &mut set, &mut work);
     is_item_1(r) & pieces::all_zero(&set) & pieces::all_zero(&work)
 }
@@ -53,8 +56,8 @@ fn complain(fault: bool, text: &[u8]) {
 }
 
 fn answer(site: &[u8], cond: &[u8]) {
-    let mut set = [170u8; 32];
-    let mut work = [170u8; 65536];
+    let mut set = [170u8; SET_BYTES];
+    let mut work = [170u8; WORK_BYTES];
     let r = list_entry::list(site, cond, &mut set, &mut work);
     print_answer(r, &set);
     complain(!pieces::all_zero(&work), b" work left");
@@ -65,13 +68,13 @@ fn answer(site: &[u8], cond: &[u8]) {
 
 // Reads one pair and prints its line; false at the end of the input.
 fn next() -> bool {
-    let mut site = [0u8; 65536];
+    let mut site = [0u8; ROOM];
     let first = pieces::read(&mut site);
     let kind = first.kind;
     if kind == 0 {
         return false;
     }
-    let mut cond = [0u8; 65536];
+    let mut cond = [0u8; ROOM];
     let second = pieces::read(&mut cond);
     let m = first.len;
     let n = second.len;

@@ -6,6 +6,10 @@ use libc::STDOUT_FILENO;
 ghost use mathlib.Core.Path.{_≡_};
 ghost use Prim.Native.Nat.{_<_};
 ghost use lib.ListN.{length};
+ghost use Rattle.pieces.specs.Room.{room};
+
+// Room for a piece of any length: a length and a place are two bytes.
+pub const ROOM: usize = 65536;
 
 pub const SITE: u8 = 1;
 
@@ -19,14 +23,14 @@ pub struct Piece {
 
 // A number of two bytes, low byte first.
 fn number(low: u8, high: u8) -> usize
-    ensures { λ r. ⌜ r < 65536 ⌝ }
+    ensures { λ r. ⌜ r < room ⌝ }
 {
     wide(low) + 256 * wide(high)
 }
 
 // Puts the next byte of the input, which stands behind its place, into the piece.
 fn put_next(piece: &mut [u8])
-    requires { ⌜ length (now piece) ≡ 65536 ⌝ }
+    requires { ⌜ length (now piece) ≡ room ⌝ }
 {
     let mut entry = [0u8; 3];
     io::read_full(STDIN_FILENO, &mut entry);
@@ -35,7 +39,7 @@ fn put_next(piece: &mut [u8])
 }
 
 fn fill(piece: &mut [u8], count: usize)
-    requires { ⌜ length (now piece) ≡ 65536 ⌝ }
+    requires { ⌜ length (now piece) ≡ room ⌝ }
 {
     for k in 0..count {
         put_next(piece);
@@ -44,8 +48,8 @@ fn fill(piece: &mut [u8], count: usize)
 
 // Reads the next piece into a buffer of zeros.
 pub fn read(piece: &mut [u8]) -> Piece
-    requires { ⌜ length (now piece) ≡ 65536 ⌝ }
-    ensures { λ r. ⌜ r .len < 65536 ⌝ }
+    requires { ⌜ length (now piece) ≡ room ⌝ }
+    ensures { λ r. ⌜ r .len < room ⌝ }
 {
     let mut head = [0u8; 5];
     if io::read_full(STDIN_FILENO, &mut head) < 5 {

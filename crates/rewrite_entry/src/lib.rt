@@ -1,5 +1,5 @@
 // Rewriting, for every input: the inputs are judged, then it rewrites or refuses.
-use blocks::TABLE_BYTES;
+use limits::TABLE_BYTES;
 use rewriting::Rewriting;
 use verdict::Verdict;
 ghost use mathlib.Core.Path.{_≡_};

@@ -8,7 +8,7 @@ use Rattle.semantics.specs.Edit.{DT1}
 use Rattle.samples.specs.Rows.{tableR}
 use Rattle.condition.specs.Bytes as condition
 use Rattle.sheet.specs.Bytes as sheet
-use Rattle.desk.specs.Demands.{RewriteCall}
+use Rattle.demands.specs.Demands.{RewriteCall}
 use Rattle.sample_bytes.specs.Refused.{NotRewritten}
 
 -- k times DT1 4 1 2

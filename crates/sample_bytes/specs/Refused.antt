@@ -6,7 +6,7 @@ use lib.ListN.{replicate}
 use Rattle.bitset.specs.Set.{setBytes}
 use Rattle.site.specs.Layout.{siteBytes}
 use Rattle.limits.specs.Limits.{tableBytes}
-use Rattle.desk.specs.Demands.{ApplyCall, RewriteCall, ListCall}
+use Rattle.demands.specs.Demands.{ApplyCall, RewriteCall, ListCall}
 
 pub record NotApplied {site sheet : List ℕ} (call : ApplyCall site sheet) (item w : ℕ) : Type 0 where
   pub reason-is : call .reason ≡ item

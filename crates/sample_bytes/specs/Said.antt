@@ -10,7 +10,7 @@ use Rattle.samples.specs.Said.{before, after}
 use Rattle.site.specs.Site.{siteOf}
 use Rattle.condition.specs.Bytes as condition
 use Rattle.sheet.specs.Bytes as sheet
-use Rattle.desk.specs.Demands.{ApplyCall, RewriteCall, ListCall, rewrittenTable}
+use Rattle.demands.specs.Demands.{ApplyCall, RewriteCall, ListCall, rewrittenTable}
 use Rattle.sample_bytes.specs.Write as site
 use Rattle.sample_bytes.specs.Refused.{NotApplied, NotRewritten, NotListed}
 

@@ -33,56 +33,31 @@ find (suc n) S = cond (S n) n (find n S)
 unfoldable pub target : Model → ℕ → ℕ → ℕ
 target M f s = find slots (M .link f s)
 
+-- a site with one of its parts changed: the present slots, the labels, the places of names, or the links
+abbrev pub setPresent : Model → Set → Model
+setPresent M P = record { present = P; marked = M .marked; place = M .place; link = M .link }
+
+abbrev pub setMarked : Model → (ℕ → Set) → Model
+setMarked M L = record { present = M .present; marked = L; place = M .place; link = M .link }
+
+abbrev pub setPlace : Model → (ℕ → ℕ) → Model
+setPlace M P = record { present = M .present; marked = M .marked; place = P; link = M .link }
+
+abbrev pub setLink : Model → (ℕ → ℕ → Set) → Model
+setLink M L = record { present = M .present; marked = M .marked; place = M .place; link = L }
+
 -- the effect of an edit. It reads the site before the edit; `M .place n` is "@n"
 unfoldable pub edit : Edit → Model → Model
-edit (CN1 n1 n2) M = record {
-  present = M .present;
-  marked = M .marked;
-  place = λ y. cond (same y n1) (M .place n2) (M .place y);
-  link = M .link;
-}
-edit (CN2 n1 n2 f) M = record {
-  present = M .present;
-  marked = M .marked;
-  place = λ y. cond (same y n1) (target M f (M .place n2)) (M .place y);
-  link = M .link;
-}
-edit (AP n p) M = record {
-  present = M .present;
-  marked = λ q s. cond (same q p) (M .marked q s || same s (M .place n)) (M .marked q s);
-  place = M .place;
-  link = M .link;
-}
-edit (DP n p) M = record {
-  present = M .present;
-  marked = λ q s. cond (same q p) (M .marked q s && not (same s (M .place n))) (M .marked q s);
-  place = M .place;
-  link = M .link;
-}
-edit (AT m n1 n2) M = record {
-  present = M .present;
-  marked = M .marked;
-  place = M .place;
-  link = λ l s t. cond (same l m) (M .link l s t || (same s (M .place n1) && same t (M .place n2))) (M .link l s t);
-}
-edit (DT1 m n1 n2) M = record {
-  present = M .present;
-  marked = M .marked;
-  place = M .place;
-  link = λ l s t. cond (same l m) (M .link l s t && not (same s (M .place n1) && same t (M .place n2))) (M .link l s t);
-}
-edit (DT2 f n) M = record {
-  present = M .present;
-  marked = M .marked;
-  place = M .place;
-  link = λ l s t. cond (same l f) (M .link l s t && not (same s (M .place n))) (M .link l s t);
-}
-edit (AS n k) M = record {
-  present = λ s. M .present s || same s k;
-  marked = M .marked;
-  place = λ y. cond (same y n) k (M .place y);
-  link = M .link;
-}
+edit (CN1 n1 n2) M = setPlace M (λ y. cond (same y n1) (M .place n2) (M .place y))
+edit (CN2 n1 n2 f) M = setPlace M (λ y. cond (same y n1) (target M f (M .place n2)) (M .place y))
+edit (AP n p) M = setMarked M (λ q s. cond (same q p) (M .marked q s || same s (M .place n)) (M .marked q s))
+edit (DP n p) M = setMarked M (λ q s. cond (same q p) (M .marked q s && not (same s (M .place n))) (M .marked q s))
+edit (AT m n1 n2) M =
+    setLink M (λ l s t. cond (same l m) (M .link l s t || (same s (M .place n1) && same t (M .place n2))) (M .link l s t))
+edit (DT1 m n1 n2) M =
+    setLink M (λ l s t. cond (same l m) (M .link l s t && not (same s (M .place n1) && same t (M .place n2))) (M .link l s t))
+edit (DT2 f n) M = setLink M (λ l s t. cond (same l f) (M .link l s t && not (same s (M .place n))) (M .link l s t))
+edit (AS n k) M = setPlace (setPresent M (λ s. M .present s || same s k)) (λ y. cond (same y n) k (M .place y))
 edit (DS n) M = record {
   present = λ s. M .present s && not (same s (M .place n));
   marked = λ q s. M .marked q s && not (same s (M .place n));

@@ -6,7 +6,7 @@ use mathlib.Core.Bool.{Bool, true, not, _&&_, cond}
 use Prim.Native.Nat.{ℕ, suc, _+_, _-_, _<_}
 use lib.ListN.{length, getD}
 use Rattle.finite.specs.Tests.{same, below, all}
-use Rattle.limits.specs.Limits.{slots, labels, names, links, variables, everyWay}
+use Rattle.limits.specs.Limits.{slots, labels, names, links, variables, everyWay, trueNo, hereNo, labelNo, nameNo, varNo, notNo, orNo, andNo, diaNo, boxNo, muNo, nuNo, slotNo, kinds}
 use Rattle.semantics.specs.Form.{Way, along, against, every, Form, top, here, label, name, var, neg, or, and, dia, box, mu, nu, slot, even, closed}
 
 -- the kinds of node: with no child, one (left) and two
@@ -24,23 +24,23 @@ pub data Kind : Type 0 where
   unary : Unary → Kind
   binary : Binary → Kind
 
--- the kinds' numbers, 0 to 12
+-- the kinds' numbers
 unfoldable pub kindNo : Kind → ℕ
-kindNo (leaf kTrue) = 0
-kindNo (leaf kHere) = 1
-kindNo (leaf kLabel) = 2
-kindNo (leaf kName) = 3
-kindNo (leaf kVar) = 4
-kindNo (unary kNot) = 5
-kindNo (binary kOr) = 6
-kindNo (binary kAnd) = 7
-kindNo (unary kDia) = 8
-kindNo (unary kBox) = 9
-kindNo (unary kMu) = 10
-kindNo (unary kNu) = 11
-kindNo (leaf kSlot) = 12
+kindNo (leaf kTrue) = trueNo
+kindNo (leaf kHere) = hereNo
+kindNo (leaf kLabel) = labelNo
+kindNo (leaf kName) = nameNo
+kindNo (leaf kVar) = varNo
+kindNo (unary kNot) = notNo
+kindNo (binary kOr) = orNo
+kindNo (binary kAnd) = andNo
+kindNo (unary kDia) = diaNo
+kindNo (unary kBox) = boxNo
+kindNo (unary kMu) = muNo
+kindNo (unary kNu) = nuNo
+kindNo (leaf kSlot) = slotNo
 
--- the kind with a number; a number above 12 is refused by item 8 and read as 12 here
+-- the kind with a number, in their order; a number past the last is refused by item 8 and read as the last here
 unfoldable pub kindOf : ℕ → Kind
 kindOf k =
     getD
@@ -48,7 +48,7 @@ kindOf k =
     k
     (leaf kSlot)
 
--- the ways' numbers: 0 to 7 the links, 8 to 15 their reverses in the same order, 16 everywhere
+-- the ways' numbers: the links, their reverses in the same order, everywhere
 unfoldable pub wayNo : Way → ℕ
 wayNo (along m) = m
 wayNo (against m) = m + links
@@ -127,7 +127,7 @@ kindFits i x (unary k) = unaryFits k (x .param) && (below (x .left) i && same (x
 kindFits i x (binary k) = same (x .param) 0 && (below (x .left) i && below (x .right) i)
 
 unfoldable pub nodeFits : ℕ → Node → Bool
-nodeFits i x = below (x .kind) 13 && kindFits i x (kindOf (x .kind))
+nodeFits i x = below (x .kind) kinds && kindFits i x (kindOf (x .kind))
 
 -- by no node of a table, whose first node has the number i
 unfoldable pub nodesFit : ℕ → List Node → Bool
@@ -138,7 +138,7 @@ nodesFit i (x ∷ xs) = nodeFits i x && nodesFit (suc i) xs
 unfoldable pub evenTable : List Node → Bool
 evenTable xs = all (length xs) (λ i. even (treeAt xs i))
 
--- no node has kind 12
+-- no node is a slot number
 unfoldable pub slotFree : List Node → Bool
 slotFree [] = true
 slotFree (x ∷ xs) = not (same (x .kind) (kindNo (leaf kSlot))) && slotFree xs

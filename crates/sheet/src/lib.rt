@@ -1,4 +1,8 @@
 // The sheet's bytes: edits read, and items 11 and 12.
+use limits::GENERAL_LINKS;
+use limits::LABELS;
+use limits::LINKS;
+use limits::NAMES;
 use verdict::Verdict;
 ghost use mathlib.Core.Path.{_≡_};
 ghost use mathlib.Core.Bool.{not, _&&_};
@@ -9,15 +13,6 @@ ghost use Rattle.limits.specs.Limits.{names};
 ghost use Rattle.semantics.specs.Edit.{functional};
 ghost use Rattle.sheet.specs.Bytes.{editOf, readEdit, editAt};
 ghost use Rattle.sheet.specs.Refusal.{editFits, fitsAt, faulty, sheetVerdict};
-
-// How many names, labels and links there are; links 4 to 7 are functional.
-const NAMES: u8 = 16;
-
-const LABELS: u8 = 16;
-
-const LINKS: u8 = 8;
-
-const FUNCTIONAL: u8 = 4;
 
 // The nine edits, with their operands in the order of the sheet.
 pub enum Op {
@@ -68,7 +63,7 @@ fn may_move(n: u8) -> bool
 fn is_functional(f: u8) -> bool
     ensures { λ r. ⌜ r ≡ functional f ⌝ }
 {
-    (FUNCTIONAL <= f) & (f < LINKS)
+    (GENERAL_LINKS <= f) & (f < LINKS)
 }
 
 // Item 12 is not met by an edit: row by row, what its operands may be, and 0 for those that it does not use.

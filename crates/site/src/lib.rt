@@ -15,16 +15,16 @@ use bitset::SET_BYTES;
 use bitset::SET_SLOTS;
 use verdict::Verdict;
 
-pub const LABELS: usize = 16;
+// The limits, as places in a buffer are counted.
+pub const LABELS: usize = limits::LABELS as usize;
 
-pub const NAMES: usize = 16;
+pub const NAMES: usize = limits::NAMES as usize;
 
-pub const LINKS: usize = 8;
+pub const LINKS: usize = limits::LINKS as usize;
 
-// Links 0 to 3 are general, 4 to 7 functional.
-pub const GENERAL_LINKS: usize = 4;
+pub const GENERAL_LINKS: usize = limits::GENERAL_LINKS as usize;
 
-pub const FUNCTIONAL_LINKS: usize = 4;
+pub const FUNCTIONAL_LINKS: usize = LINKS - GENERAL_LINKS;
 
 // Where the parts of a site start, and its length.
 pub const LABELS_AT: usize = SET_BYTES;

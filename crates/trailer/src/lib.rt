@@ -10,7 +10,8 @@ ghost use Rattle.trailer.specs.Pieces.{siteIn, conditionIn, sheetIn};
 
 const TRAILER_BYTES: usize = 12;
 
-const FILE_LIMIT: usize = 65536;
+// The most bytes of a job file.
+pub const FILE_LIMIT: usize = 65536;
 
 // Which distance is which piece's.
 const SHEET: usize = 0;

@@ -1,5 +1,7 @@
 // Reads pieces of jobs on standard input and prints for each that it is accepted, or the item and W with which it is refused.
 use libc::STDOUT_FILENO;
+use limits::TABLE_NODES;
+use pieces::ROOM;
 use verdict::Verdict;
 
 fn judge(kind: u8, piece: &[u8]) -> Verdict {
@@ -7,7 +9,7 @@ fn judge(kind: u8, piece: &[u8]) -> Verdict {
         return site::check(piece);
     }
     if kind == pieces::CONDITION {
-        let mut free = [0u16; 2048];
+        let mut free = [0u16; TABLE_NODES];
         return even_rule::check(piece, &mut free);
     }
     sheet::check(piece)
@@ -39,7 +41,7 @@ fn print_verdict(v: Verdict) {
 
 // Reads one piece and prints its line; false at the end of the input.
 fn next() -> bool {
-    let mut bytes = [0u8; 65536];
+    let mut bytes = [0u8; ROOM];
     let piece = pieces::read(&mut bytes);
     let kind = piece.kind;
     if kind == 0 {

@@ -17,7 +17,7 @@ returns : tie.Need-returns
 returns c =
     let a = c .before .before .before .args in
     let p = c .before .before .before .pre in
-    let f = param-lower (a .i) (nodeAt (a .table .now) (a .i)) (node-fits (a .table .now) (p .0) (a .i) (p .1 .0)) in
+    let f = param-lower (a .i) (nodeAt (a .table .now) (a .i)) (node-fits (a .table .now) (p .0) (a .i) (p .1)) in
     (omega arith, omega arith)
 
 pub number-spec : {M : Type 1} → statement M

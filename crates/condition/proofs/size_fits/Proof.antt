@@ -1,6 +1,7 @@
 -- The three tests of item 7, in their order.
 use Prim.Native.Nat.{_%_}
 use native.Mathlib.Omega.{arith}
+use Rattle.limits.specs.Limits.{tableBytes}
 use Rattle.condition.specs.Refusal.{sizeFits}
 use Rattle.finite.specs.Laws.Below.{eq-same, ne-same, below-in, below-not}
 use mathlib.Core.Path.{refl}
@@ -21,13 +22,13 @@ returns-3 : tie.Need-returns-3
 unfolding sizeFits
 returns-3 c =
     let n = c .before .before .before .args .n in
-    rw (eq-same {m = n % 6} {n = 0} (omega arith), below-not n 6 (omega arith), below-in 12288 n (omega arith)) refl
+    rw (eq-same {m = n % 6} {n = 0} (omega arith), below-not n 6 (omega arith), below-in tableBytes n (omega arith)) refl
 
 returns-4 : tie.Need-returns-4
 unfolding sizeFits
 returns-4 c =
     let n = c .before .before .before .args .n in
-    rw (eq-same {m = n % 6} {n = 0} (omega arith), below-not n 6 (omega arith), below-not 12288 n (omega arith)) refl
+    rw (eq-same {m = n % 6} {n = 0} (omega arith), below-not n 6 (omega arith), below-not tableBytes n (omega arith)) refl
 
 pub size-fits-spec : {M : Type 1} → statement M
 size-fits-spec = tie.close (tie.spec returns returns-2 returns-3 returns-4)

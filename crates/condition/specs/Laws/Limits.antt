@@ -8,7 +8,7 @@ use borrow.Author.Tests.{lt-ltb, le-ltb}
 use Rattle.finite.specs.Tests.{same, below}
 use Rattle.finite.specs.Laws.Bools.{and-l, and-r, both}
 use Rattle.finite.specs.Laws.Below.{same-eq, eq-same, below-in, below-out, below-not}
-use Rattle.limits.specs.Limits.{slots}
+use Rattle.limits.specs.Limits.{slots, labels, names, variables, everyWay, labelNo, nameNo, varNo, notNo, orNo, andNo, diaNo, muNo, nuNo, slotNo, kinds}
 use Rattle.semantics.specs.Table.{Leaf, kTrue, kHere, kLabel, kName, kVar, kSlot, Unary, kNot, kDia, kBox, kMu, kNu, Kind, leaf, unary, binary, kindOf, Node, leafFits, unaryFits, kindFits, nodeFits}
 use Rattle.condition.specs.Limits.{paramLimit, childLimit}
 
@@ -59,9 +59,9 @@ kind-limits i x (unary k) =
     ap₂ _&&_ (unary-limit k (x .param)) (ap (λ (b : Bool). below (x .left) i && b) (same-below (x .right)))
 kind-limits i x (binary k) = ap (λ (b : Bool). b && (below (x .left) i && below (x .right) i)) (same-below (x .param))
 
-pub node-limits : (i : ℕ) (x : Node) → nodeFits i x ≡ (below (x .kind) 13 && within i x (kindOf (x .kind)))
+pub node-limits : (i : ℕ) (x : Node) → nodeFits i x ≡ (below (x .kind) kinds && within i x (kindOf (x .kind)))
 unfolding nodeFits
-node-limits i x = ap (λ (b : Bool). below (x .kind) 13 && b) (kind-limits i x (kindOf (x .kind)))
+node-limits i x = ap (λ (b : Bool). below (x .kind) kinds && b) (kind-limits i x (kindOf (x .kind)))
 
 -- ---- the bounds by the kind's number
 
@@ -82,77 +82,88 @@ each-kind P a0 a1 a2 a3 a4 a5 a6 a7 a8 a9 a10 a11 r (suc (suc (suc (suc (suc (su
 each-kind P a0 a1 a2 a3 a4 a5 a6 a7 a8 a9 a10 a11 r (suc (suc (suc (suc (suc (suc (suc (suc (suc (suc (suc zero))))))))))) = a11
 each-kind P a0 a1 a2 a3 a4 a5 a6 a7 a8 a9 a10 a11 r (suc (suc (suc (suc (suc (suc (suc (suc (suc (suc (suc (suc k)))))))))))) = r _ (omega arith)
 
-pub kind-past : (k : ℕ) → 12 ≤ k → kindOf k ≡ leaf kSlot
+pub kind-past : (k : ℕ) → slotNo ≤ k → kindOf k ≡ leaf kSlot
 unfolding kindOf
 kind-past k h =
     let e : suc (suc (suc (suc (suc (suc (suc (suc (suc (suc (suc (suc (k - 12)))))))))))) ≡ k = omega arith in
     subst (λ (j : ℕ). kindOf j ≡ leaf kSlot) e refl
 
+-- the bound by ranges of the kinds' numbers, as the code asks for them
 pub number-limit : (k : ℕ) → paramLimit (kindOf k)
-    ≡ cond (ltb k 2) 1 (cond (ltb k 5) 16 (cond (ltb k 8) 1 (cond (ltb k 10) 17 (cond (ltb k 12) 16 256))))
+    ≡ cond (ltb k labelNo) 1 (cond (ltb k nameNo) labels (cond (ltb k varNo) names (cond (ltb k notNo) variables (cond (ltb k diaNo) 1 (cond (ltb k muNo) (suc everyWay) (cond (ltb k slotNo) variables 256))))))
 unfolding kindOf paramLimit
 number-limit =
     each-kind _ refl refl refl refl refl refl refl refl refl refl refl refl
-    (λ k h. rw (kind-past k h, le-ltb k 2 (omega arith), le-ltb k 5 (omega arith), le-ltb k 8 (omega arith), le-ltb k 10 (omega arith), le-ltb k 12 h) refl)
+    (λ k h. rw (kind-past k h, le-ltb k labelNo (omega arith), le-ltb k nameNo (omega arith), le-ltb k varNo (omega arith), le-ltb k notNo (omega arith), le-ltb k diaNo (omega arith), le-ltb k muNo (omega arith), le-ltb k slotNo h) refl)
 
-pub limit-name : (k : ℕ) → 2 ≤ k → k < 5 → paramLimit (kindOf k) ≡ 16
-limit-name k h l = rw (number-limit k, le-ltb k 2 h, lt-ltb k 5 l) refl
+-- the bounds of the kinds whose parameter is a number of its own: a label, a name, a variable, and the variable of a loop
+pub limit-label : {k : ℕ} → k ≡ labelNo → paramLimit (kindOf k) ≡ labels
+unfolding kindOf paramLimit
+limit-label e = rw e refl
 
-pub limit-loop : (k : ℕ) → 10 ≤ k → k < 12 → paramLimit (kindOf k) ≡ 16
+pub limit-name : {k : ℕ} → k ≡ nameNo → paramLimit (kindOf k) ≡ names
+unfolding kindOf paramLimit
+limit-name e = rw e refl
+
+pub limit-variable : {k : ℕ} → k ≡ varNo → paramLimit (kindOf k) ≡ variables
+unfolding kindOf paramLimit
+limit-variable e = rw e refl
+
+pub limit-loop : (k : ℕ) → muNo ≤ k → k ≤ nuNo → paramLimit (kindOf k) ≡ variables
 limit-loop k h l =
-    rw (number-limit k, le-ltb k 2 (omega arith), le-ltb k 5 (omega arith), le-ltb k 8 (omega arith), le-ltb k 10 h, lt-ltb k 12 l) refl
+    rw (number-limit k, le-ltb k labelNo (omega arith), le-ltb k nameNo (omega arith), le-ltb k varNo (omega arith), le-ltb k notNo (omega arith), le-ltb k diaNo (omega arith), le-ltb k muNo h, lt-ltb k slotNo (omega arith)) refl
 
-pub left-limit : (i k : ℕ) → leftLimit (kindOf k) i ≡ childLimit 5 12 k i
+pub left-limit : (i k : ℕ) → leftLimit (kindOf k) i ≡ childLimit notNo slotNo k i
 unfolding kindOf leftLimit
 left-limit i =
     each-kind _ refl refl refl refl refl refl refl refl refl refl refl refl
-    (λ k h. rw (kind-past k h, le-ltb k 5 (omega arith), le-ltb k 12 h) refl)
+    (λ k h. rw (kind-past k h, le-ltb k notNo (omega arith), le-ltb k slotNo h) refl)
 
-pub right-limit : (i k : ℕ) → rightLimit (kindOf k) i ≡ childLimit 6 8 k i
+pub right-limit : (i k : ℕ) → rightLimit (kindOf k) i ≡ childLimit orNo diaNo k i
 unfolding kindOf rightLimit
 right-limit i =
     each-kind _ refl refl refl refl refl refl refl refl refl refl refl refl
-    (λ k h. rw (kind-past k h, le-ltb k 6 (omega arith), le-ltb k 8 (omega arith)) refl)
+    (λ k h. rw (kind-past k h, le-ltb k orNo (omega arith), le-ltb k diaNo (omega arith)) refl)
 
 -- ---- what a node that fits has: children that are lower, and a parameter below its kind's bound
 
 module _ (i : ℕ) (x : Node) (f : nodeFits i x ≡ true) where
   inside : within i x (kindOf (x .kind)) ≡ true
-  inside = and-r (below (x .kind) 13) _ (sym (node-limits i x) ∙ f)
+  inside = and-r (below (x .kind) kinds) _ (sym (node-limits i x) ∙ f)
 
   pub param-lower : x .param < paramLimit (kindOf (x .kind))
   unfolding within
   param-lower = below-out _ _ (and-l _ _ inside)
 
-  pub left-lower : 5 ≤ x .kind → x .kind ≤ 11 → x .left < i
+  pub left-lower : notNo ≤ x .kind → x .kind ≤ nuNo → x .left < i
   unfolding within
   left-lower h l =
       let b : below (x .left) (leftLimit (kindOf (x .kind)) i) ≡ true = and-l _ _ (and-r (below (x .param) _) _ inside) in
-      below-out (x .left) i (rw (left-limit i (x .kind), le-ltb (x .kind) 5 h, lt-ltb (x .kind) 12 (omega arith)) at b)
+      below-out (x .left) i (rw (left-limit i (x .kind), le-ltb (x .kind) notNo h, lt-ltb (x .kind) slotNo (omega arith)) at b)
 
-  pub right-lower : 6 ≤ x .kind → x .kind ≤ 7 → x .right < i
+  pub right-lower : orNo ≤ x .kind → x .kind ≤ andNo → x .right < i
   unfolding within
   right-lower h l =
       let b : below (x .right) (rightLimit (kindOf (x .kind)) i) ≡ true =
       and-r (below (x .left) _) _ (and-r (below (x .param) _) _ inside) in
-      below-out (x .right) i (rw (right-limit i (x .kind), le-ltb (x .kind) 6 h, lt-ltb (x .kind) 8 (omega arith)) at b)
+      below-out (x .right) i (rw (right-limit i (x .kind), le-ltb (x .kind) orNo h, lt-ltb (x .kind) diaNo (omega arith)) at b)
 
 -- ---- the test of a node, field by field
 
 module _ (i k : ℕ) (x : Node) (e : k ≡ x .kind) where
-  pub unfit-kind : 13 ≤ k → nodeFits i x ≡ false
-  unfit-kind h = rw (node-limits i x, below-not (x .kind) 13 (omega arith)) refl
+  pub unfit-kind : kinds ≤ k → nodeFits i x ≡ false
+  unfit-kind h = rw (node-limits i x, below-not (x .kind) kinds (omega arith)) refl
 
-  module _ (h : k < 13) where
-    known : below (x .kind) 13 ≡ true
-    known = below-in (x .kind) 13 (omega arith)
+  module _ (h : k < kinds) where
+    known : below (x .kind) kinds ≡ true
+    known = below-in (x .kind) kinds (omega arith)
 
     module _ (p m : ℕ) (ep : p ≡ x .param) (em : m ≡ paramLimit (kindOf k)) where
       pub unfit-param : m ≤ p → nodeFits i x ≡ false
       unfolding within
       unfit-param g = rw (node-limits i x, known, ← e, ← em, ← ep, below-not p m g) refl
 
-      module _ (hp : p < m) (l n : ℕ) (el : l ≡ x .left) (cn : n ≡ childLimit 5 12 k i) where
+      module _ (hp : p < m) (l n : ℕ) (el : l ≡ x .left) (cn : n ≡ childLimit notNo slotNo k i) where
         en : n ≡ leftLimit (kindOf k) i
         en = cn ∙ sym (left-limit i k)
 
@@ -160,7 +171,7 @@ module _ (i k : ℕ) (x : Node) (e : k ≡ x .kind) where
         unfolding within
         unfit-left g = rw (node-limits i x, known, ← e, ← em, ← ep, below-in p m hp, ← en, ← el, below-not l n g) refl
 
-        pub fits-right : (r o : ℕ) → r ≡ x .right → o ≡ childLimit 6 8 k i → l < n → ltb r o ≡ nodeFits i x
+        pub fits-right : (r o : ℕ) → r ≡ x .right → o ≡ childLimit orNo diaNo k i → l < n → ltb r o ≡ nodeFits i x
         unfolding within below
         fits-right r o er co g =
             let eo : o ≡ rightLimit (kindOf k) i = co ∙ sym (right-limit i k) in

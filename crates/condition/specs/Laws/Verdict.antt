@@ -6,6 +6,7 @@ use Prim.Native.Nat.{ℕ, _-_, _%_, _≤_}
 use native.Mathlib.Omega.{arith}
 use lib.ListN.{length}
 use borrow.Author.Tests.{not-true, not-false}
+use Rattle.limits.specs.Limits.{tableBytes}
 use Rattle.finite.specs.Tests.{same, below}
 use Rattle.finite.specs.Laws.Bools.{and-in, and-l, and-r}
 use Rattle.finite.specs.Laws.Below.{same-eq, eq-same, below-not, not-below, any-none, none-any, all-in, all-out}
@@ -20,15 +21,15 @@ use Rattle.condition.specs.Laws.Fits.{none-unfit, fit-none}
 
 -- ---- item 7 and item 9, each both ways
 
-pub size-in : (n : ℕ) → n % 6 ≡ 0 → 6 ≤ n → n ≤ 12288 → sizeFits n ≡ true
+pub size-in : (n : ℕ) → n % 6 ≡ 0 → 6 ≤ n → n ≤ tableBytes → sizeFits n ≡ true
 unfolding sizeFits
-size-in n e h l = and-in (eq-same e) (and-in (ap not (below-not n 6 h)) (ap not (below-not 12288 n l)))
+size-in n e h l = and-in (eq-same e) (and-in (ap not (below-not n 6 h)) (ap not (below-not tableBytes n l)))
 
-pub size-out : (n : ℕ) → sizeFits n ≡ true → (n % 6 ≡ 0) × (6 ≤ n) × (n ≤ 12288)
+pub size-out : (n : ℕ) → sizeFits n ≡ true → (n % 6 ≡ 0) × (6 ≤ n) × (n ≤ tableBytes)
 unfolding sizeFits
 size-out n f =
     let g = and-r (same (n % 6) 0) _ f in
-    (same-eq (and-l _ _ f), not-below n 6 (not-true _ (and-l _ _ g)), not-below 12288 n (not-true _ (and-r (not (below n 6)) _ g)))
+    (same-eq (and-l _ _ f), not-below n 6 (not-true _ (and-l _ _ g)), not-below tableBytes n (not-true _ (and-r (not (below n 6)) _ g)))
 
 abbrev uneven : List ℕ → ℕ → Bool
 uneven S i = not (even (treeAt (tableOf S) i))
@@ -78,7 +79,7 @@ module _ (S : List ℕ) where
 pub record Sound (S : List ℕ) : Type 0 where
   pub multiple : length S % 6 ≡ 0
   pub some : 6 ≤ length S
-  pub few : length S ≤ 12288
+  pub few : length S ≤ tableBytes
   pub fits : nodesFit 0 (tableOf S) ≡ true
   pub even-rule : evenTable (tableOf S) ≡ true
   pub is-closed : closed (formOf (tableOf S)) ≡ true

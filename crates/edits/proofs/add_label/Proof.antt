@@ -1,7 +1,8 @@
 -- AP is a label put on a slot.
 use native.Mathlib.Omega.{arith}
 use Rattle.site.specs.Site.{siteOf}
-use Rattle.edits.specs.Laws.Rows.{row-AP, legal-AP}
+use Rattle.going.specs.Laws.Ranges.{legal-AP}
+use Rattle.edits.specs.Laws.Rows.{row-AP}
 use Rattle.edits.proofs.add_label.Statement.{statement}
 use Rattle.edits.proofs.add_label.Tie as tie
 

@@ -2,7 +2,9 @@
 use mathlib.Core.Path.{refl, _∙_}
 use native.Mathlib.Omega.{arith}
 use Rattle.site.specs.Site.{siteOf}
-use Rattle.edits.specs.Laws.Rows.{row-AT, legal-AT, goes-AT}
+use Rattle.going.specs.Laws.Ranges.{legal-AT}
+use Rattle.going.specs.Laws.Goes.{goes-AT}
+use Rattle.edits.specs.Laws.Rows.{row-AT}
 use Rattle.edits.proofs.add_link.Statement.{statement}
 use Rattle.edits.proofs.add_link.Tie as tie
 

@@ -1,7 +1,8 @@
 -- DP is a label taken from a slot.
 use native.Mathlib.Omega.{arith}
 use Rattle.site.specs.Site.{siteOf}
-use Rattle.edits.specs.Laws.Rows.{row-DP, legal-DP}
+use Rattle.going.specs.Laws.Ranges.{legal-DP}
+use Rattle.edits.specs.Laws.Rows.{row-DP}
 use Rattle.edits.proofs.delete_label.Statement.{statement}
 use Rattle.edits.proofs.delete_label.Tie as tie
 

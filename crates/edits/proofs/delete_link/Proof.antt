@@ -1,7 +1,8 @@
 -- DT1 is a link taken from between two slots.
 use native.Mathlib.Omega.{arith}
 use Rattle.site.specs.Site.{siteOf}
-use Rattle.edits.specs.Laws.Rows.{row-DT1, legal-DT1}
+use Rattle.going.specs.Laws.Ranges.{legal-DT1}
+use Rattle.edits.specs.Laws.Rows.{row-DT1}
 use Rattle.edits.proofs.delete_link.Statement.{statement}
 use Rattle.edits.proofs.delete_link.Tie as tie
 

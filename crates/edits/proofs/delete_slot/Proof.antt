@@ -3,7 +3,8 @@ use native.Mathlib.Omega.{arith}
 use borrow.Author.Needs.{needs}
 use Rattle.limits.specs.Limits.{slots}
 use Rattle.site.specs.Site.{siteOf}
-use Rattle.edits.specs.Laws.Rows.{row-DS, legal-DS}
+use Rattle.going.specs.Laws.Ranges.{legal-DS}
+use Rattle.edits.specs.Laws.Rows.{row-DS}
 use Rattle.edits.specs.Laws.Bytes.{slot-taken}
 use Rattle.edits.proofs.delete_slot.Statement.{statement}
 use Rattle.edits.proofs.delete_slot.Tie as tie

@@ -2,7 +2,8 @@
 use native.Mathlib.Omega.{arith}
 use Rattle.limits.specs.Limits.{slots}
 use Rattle.site.specs.Site.{siteOf}
-use Rattle.edits.specs.Laws.Rows.{row-DT2, legal-DT2}
+use Rattle.going.specs.Laws.Ranges.{legal-DT2}
+use Rattle.edits.specs.Laws.Rows.{row-DT2}
 use Rattle.edits.specs.Laws.Bytes.{target-taken}
 use Rattle.edits.proofs.delete_target.Statement.{statement}
 use Rattle.edits.proofs.delete_target.Tie as tie

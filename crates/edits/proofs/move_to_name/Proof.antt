@@ -1,7 +1,8 @@
 -- CN1 is a change of a name's place.
 use native.Mathlib.Omega.{arith}
 use Rattle.site.specs.Site.{siteOf}
-use Rattle.edits.specs.Laws.Rows.{row-CN1, legal-CN1}
+use Rattle.going.specs.Laws.Ranges.{legal-CN1}
+use Rattle.edits.specs.Laws.Rows.{row-CN1}
 use Rattle.edits.proofs.move_to_name.Statement.{statement}
 use Rattle.edits.proofs.move_to_name.Tie as tie
 

@@ -21,7 +21,8 @@ use Rattle.site.specs.Layout.{siteBytes, labelAt, nameAt, targetAt, rowAt}
 use Rattle.site.specs.Site.{siteOf}
 use Rattle.site.specs.Laws.Read.{present-is, present-in, marked-is, marked-in, place-is, row-is, target-is, link-in, functional-in}
 use Rattle.site.specs.Laws.Target.{nil-none, target-byte}
-use Rattle.edits.specs.Change.{withName, withSlot, withoutSlot, withLabel, withoutLabel, withLink, withoutLink, withoutTarget, joins}
+use Rattle.going.specs.Joins.{joins}
+use Rattle.edits.specs.Change.{withName, withSlot, withoutSlot, withLabel, withoutLabel, withLink, withoutLink, withoutTarget}
 use Rattle.edits.specs.Laws.Cases.{cond-yes, cond-no, same-by, takes, Changes, puts-changes, takes-changes, at-cond, cond-off}
 use Rattle.edits.specs.Laws.Areas.{same-fields, present-kept, marked-kept, place-kept-at, place-kept, row-kept, target-kept, link-kept, presents-are, marks-are, links-are}
 

@@ -4,6 +4,7 @@ use Rattle.even_rule.specs.Laws.Check.{rows-odds, none-done}
 use Rattle.condition.specs.Laws.Verdict.{size-out}
 use lib.ListN.{length, length-replicate}
 use native.Mathlib.Omega.{arith}
+use Rattle.limits.specs.Limits.{tableNodes}
 use Prim.Native.Nat.{ℕ}
 use mathlib.Core.Path.{_∙_, ap}
 use borrow.Author.Needs.{needs}
@@ -43,7 +44,7 @@ first-uneven-requires c κs =
     let a = c .before .before .before .before .before .before .before .before .before .before .before .before .before .args in
     let p = c .before .before .before .before .before .before .before .before .before .before .before .before .before .pre in
     let v = c .before .before .before .before .visit-all in
-    let long = v .kept .1 .1 .1 .0 ∙ ap length (c .before .before .before .before .before .before .before .before .no-masks2 .ensures) ∙ length-replicate {A = ℕ} 2048 0 in
+    let long = v .kept .1 .1 .1 .0 ∙ ap length (c .before .before .before .before .before .before .before .before .no-masks2 .ensures) ∙ length-replicate {A = ℕ} tableNodes 0 in
     (fit (a .table .now) (p .0) (p .1 .0), (long, rows-odds (a .table .now) (v .last .1 .1 .0) (v .last .1 .1 .1 .0) (v .ensures)))
 
 cast-t22 : tie.Need-cast-t22
@@ -129,9 +130,11 @@ unite-requires c κs =
     let p = c .before .before .before .before .before .before .before .before .before .before .before .before .before .before .before .before .before .before .before .before .pre in
     let s = size-out (length (a .table .now)) (p .0) in
     let v = c .before .before .before .before .before .before .before .before .before .before .before .visit-all in
-    let evens-long = v .kept .1 .1 .0 ∙ ap length (c .before .before .before .before .before .before .before .before .before .before .before .before .before .before .before .before .no-masks .ensures) ∙ length-replicate {A = ℕ} 2048 0 in
-    let odds-long = v .kept .1 .1 .1 .0 ∙ ap length (c .before .before .before .before .before .before .before .before .before .before .before .before .before .before .before .no-masks2 .ensures) ∙ length-replicate {A = ℕ} 2048 0 in
-    (omega (arith, s), evens-long, odds-long, ap length (p .1 .1) ∙ length-replicate {A = ℕ} 2048 0)
+    let evens = c .before .before .before .before .before .before .before .before .before .before .before .before .before .before .before .before .no-masks in
+    let odds = c .before .before .before .before .before .before .before .before .before .before .before .before .before .before .before .no-masks2 in
+    let evens-long = v .kept .1 .1 .0 ∙ ap length (evens .ensures) ∙ length-replicate {A = ℕ} tableNodes 0 in
+    let odds-long = v .kept .1 .1 .1 .0 ∙ ap length (odds .ensures) ∙ length-replicate {A = ℕ} tableNodes 0 in
+    (omega (arith, s), evens-long, odds-long, ap length (p .1 .1) ∙ length-replicate {A = ℕ} tableNodes 0)
 
 same-length : tie.Need-same-length
 same-length c = search needs
@@ -141,8 +144,10 @@ returns-3 c =
     let a = c .before .before .before .before .before .before .before .before .before .before .before .before .before .before .before .before .before .before .before .before .before .before .before .args in
     let p = c .before .before .before .before .before .before .before .before .before .before .before .before .before .before .before .before .before .before .before .before .before .before .before .pre in
     let v = c .before .before .before .before .before .before .before .before .before .before .before .before .before .before .visit-all in
-    answer-none (a .table .now) (a .free .now) (p .1 .1) (p .0) (p .1 .0) (c .before .before .before .before .before .before .before .before .before .first-uneven .result) (c .before .before .before .before .before .before .before .before .before .first-uneven .ensures)
-    (c .before .before .before .before .before .before .before .before .if1 .left) (v .last .1 .1 .0) (v .last .1 .1 .1 .0) (v .ensures) (c .before .before .before .before .before .before .before .no-free .result) (c .before .before .before .before .before .before .before .no-free .ensures)
+    let w = c .before .before .before .before .before .before .before .before .before .first-uneven in
+    let n = c .before .before .before .before .before .before .before .no-free in
+    answer-none (a .table .now) (a .free .now) (p .1 .1) (p .0) (p .1 .0) (w .result) (w .ensures) (c .before .before .before .before .before .before .before .before .if1 .left)
+    (v .last .1 .1 .0) (v .last .1 .1 .1 .0) (v .ensures) (n .result) (n .ensures)
     (c .before .before .before .before .before .before .if2 .left) (c .before .before .unite .last .1 .1 .0) (c .before .before .unite .ensures)
 
 pub check-rules-spec : {M : Type 1} → statement M

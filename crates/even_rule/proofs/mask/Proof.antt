@@ -1,7 +1,10 @@
 -- `even_rule::mask` meets its contract: each return has the law of its kind.
 use Rattle.even_rule.specs.Laws.Shows.{mask-none, mask-slot, mask-var, mask-not, mask-two, mask-step, mask-loop}
-use Rattle.condition.specs.Laws.Limits.{limit-name, limit-loop}
+use Rattle.limits.specs.Limits.{varNo}
+use Rattle.condition.specs.Laws.Limits.{limit-variable, limit-loop}
+use Rattle.condition.specs.Bytes.{nodeAt}
 use native.Mathlib.Omega.{arith}
+use mathlib.Core.Path.{_≡_}
 use Rattle.even_rule.proofs.mask.Statement.{statement}
 use Rattle.even_rule.proofs.mask.Tie as tie
 
@@ -16,10 +19,13 @@ returns c =
     mask-none (a .table .now) (a .own .now) (a .other .now) (a .i) (k .result) (a .parity) (p .0) (p .1 .0) (k .ensures) (p .1 .1 .1) (omega arith)
 
 number-requires : tie.Need-number-requires
-number-requires c κs = let p = c .before .before .before .before .before .before .pre in (p .0 .fits, (p .1 .0, limit-name _ (omega arith) (omega arith)))
+number-requires c κs = let p = c .before .before .before .before .before .before .pre in (p .0 .fits, p .1 .0)
 
 variable-requires : tie.Need-variable-requires
-variable-requires c κs = c .number .ensures .1
+variable-requires c κs =
+    let a = c .before .before .before .before .before .before .before .args in
+    let e : nodeAt (a .table .now) (a .i) .kind ≡ varNo = omega arith in
+    rw (limit-variable e) at (c .number .ensures .1)
 
 returns-2 : tie.Need-returns-2
 returns-2 c =
@@ -86,10 +92,12 @@ returns-6 c =
     mask-step (a .table .now) (a .own .now) (a .other .now) (a .i) (k .result) (a .parity) (p .0) (p .1 .0) (k .ensures) (p .1 .1 .1) (l .result) (l .ensures .0) (omega arith) (omega arith)
 
 number-requires-2 : tie.Need-number-requires-2
-number-requires-2 c κs = let p = c .before .before .before .before .before .before .before .before .before .before .before .before .pre in (p .0 .fits, (p .1 .0, limit-loop _ (omega arith) (omega arith)))
+number-requires-2 c κs = let p = c .before .before .before .before .before .before .before .before .before .before .before .before .pre in (p .0 .fits, p .1 .0)
 
 without-requires : tie.Need-without-requires
-without-requires c κs = c .number2 .ensures .1
+without-requires c κs =
+    let a = c .before .before .before .before .before .before .before .before .before .before .before .before .before .args in
+    rw (limit-loop (nodeAt (a .table .now) (a .i) .kind) (omega arith) (omega arith)) at (c .number2 .ensures .1)
 
 returns-7 : tie.Need-returns-7
 returns-7 c =

@@ -1,6 +1,7 @@
 -- A mu or nu whose variable stands in the odd mask.
 use Rattle.even_rule.specs.Laws.Check.{keeps-low, keeps-high, breaks}
 use Rattle.condition.specs.Laws.Limits.{limit-loop}
+use Rattle.condition.specs.Bytes.{nodeAt}
 use native.Mathlib.Omega.{arith}
 use borrow.Author.Needs.{needs}
 use Rattle.even_rule.proofs.uneven.Statement.{statement}
@@ -32,12 +33,13 @@ shared-slice-read-has c = search needs
 
 number-requires : tie.Need-number-requires
 number-requires c κs =
-    let a = c .before .before .before .before .before .before .before .args in
     let p = c .before .before .before .before .before .before .before .pre in
-    (p .0 .fits, (p .1 .0, limit-loop _ (omega arith) (omega arith)))
+    (p .0 .fits, p .1 .0)
 
 has-requires : tie.Need-has-requires
-has-requires c κs = search needs
+has-requires c κs =
+    let a = c .before .before .before .before .before .before .before .before .args in
+    rw (limit-loop (nodeAt (a .table .now) (a .i) .kind) (omega arith) (omega arith)) at (c .number .ensures .1)
 
 returns-3 : tie.Need-returns-3
 returns-3 c =

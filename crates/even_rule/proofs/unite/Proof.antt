@@ -3,13 +3,14 @@ use Rattle.even_rule.specs.Laws.Check.{united-start, united-more}
 use Rattle.even_rule.specs.Masks.{United}
 use lib.ListN.{length, length-set}
 use native.Mathlib.Omega.{arith}
+use Rattle.limits.specs.Limits.{tableNodes}
 use Prim.Native.Nat.{_-_, _≤_}
 use mathlib.Core.Path.{_≡_}
 use Rattle.even_rule.proofs.unite.Statement.{statement}
 use Rattle.even_rule.proofs.unite.Tie as tie
 
 abbrev Inv-loop : tie.InvT-loop
-Inv-loop evens odds free₀ n i₀ free i = (i ≤ n) × (length free ≡ 2048) × United evens odds free₀ free i
+Inv-loop evens odds free₀ n i₀ free i = (i ≤ n) × (length free ≡ tableNodes) × United evens odds free₀ free i
 
 abbrev μ-loop : tie.MeasureT-loop
 μ-loop evens odds free₀ n i₀ free i = n - i

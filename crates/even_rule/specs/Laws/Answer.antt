@@ -9,6 +9,7 @@ use borrow.Author.Tests.{not-true, not-false}
 use Rattle.finite.specs.Tests.{below, all, bit}
 use Rattle.finite.specs.Laws.Below.{below-in, below-not}
 use Rattle.verdict.specs.declared.Verdict.the-variants.{Accepted, Refused}
+use Rattle.limits.specs.Limits.{variables}
 use Rattle.semantics.specs.Form.{closed}
 use Rattle.semantics.specs.Table.{formOf, nodesFit}
 use Rattle.condition.specs.Bytes.{tableOf}
@@ -41,7 +42,7 @@ module _ (S rows : List ℕ) (zeros : rows ≡ noMasks) where
           rw e (refused 9 (firstUneven S) (item-9 S e₇ (fit-none S f) (below-in (firstUneven S) (length (tableOf S)) (omega arith))))
 
       module _ (h : length S / 6 ≤ w) (evens odds : List ℕ) (r : Rows S evens odds) (b : Bool)
-          (eb : b ≡ all 16 (λ v. not (bit (getD evens (length S / 6 - 1) 0) v || bit (getD odds (length S / 6 - 1) 0) v))) where
+          (eb : b ≡ all variables (λ v. not (bit (getD evens (length S / 6 - 1) 0) v || bit (getD odds (length S / 6 - 1) 0) v))) where
         keeps : below (firstUneven S) (length (tableOf S)) ≡ false
         keeps = let n = length-table S in below-not (firstUneven S) (length (tableOf S)) (omega arith)
 

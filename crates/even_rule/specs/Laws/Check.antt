@@ -2,7 +2,7 @@
 use mathlib.Core.Path.{_≡_, refl, sym, _∙_, ap, ap₂}
 use mathlib.Core.List.{List}
 use mathlib.Core.Bool.{Bool, true, false, not, _||_, Bool·not-not}
-use Prim.Native.Nat.{ℕ, zero, suc, _+_, _*_, _-_, _/_, _≤_, _<_}
+use Prim.Native.Nat.{ℕ, zero, suc, _+_, _*_, _-_, _/_, _^_, _≤_, _<_}
 use native.Mathlib.Nat.{not-suc-le-zero}
 use native.Mathlib.Omega.{arith}
 use lib.ListN.{length, getD, set, replicate, length-replicate, getD-replicate}
@@ -15,28 +15,32 @@ use Rattle.finite.specs.Laws.Bools.{either, both}
 use Rattle.finite.specs.Laws.Below.{equal?, all-in, all-out, all-cong}
 use Rattle.finite.specs.Laws.Bits.{bit-or}
 use Rattle.finite.specs.Laws.Weights.{bit-zero, no-bits}
+use Rattle.limits.specs.Limits.{variables, tableNodes, muNo, nuNo, slotNo}
 use Rattle.semantics.specs.Form.{occ, free, closed, even}
-use Rattle.semantics.specs.Table.{treeAt, formOf}
+use Rattle.semantics.specs.Table.{kindOf, treeAt, formOf}
 use Rattle.condition.specs.Bytes.{nodeAt, tableOf}
+use Rattle.condition.specs.Limits.{paramLimit}
 use Rattle.condition.specs.Laws.Bytes.{length-table}
+use Rattle.condition.specs.Laws.Limits.{limit-loop}
 use Rattle.condition.specs.Laws.Fits.{node-tree}
 use Rattle.even_rule.specs.Free.{FreeRows, noMasks}
-use Rattle.even_rule.specs.Masks.{Shows, Row, Rows, Odds, Fit, Good, Kept, DoneFrom, Ready, United}
+use Rattle.even_rule.specs.Masks.{maskBits, Shows, Row, Rows, Odds, Fit, Good, Kept, DoneFrom, Ready, United}
 use Rattle.even_rule.specs.Laws.Shows.{even-other, even-slot, even-loop}
 
 -- ---- item 9 at a node
 
 module _ (S : List ℕ) (i k : ℕ) (f : Fit S) (h : 6 * i + 6 ≤ length S) (e : k ≡ nodeAt S i .kind) where
-  pub keeps-low : k < 10 → false ≡ not (even (treeAt (tableOf S) i))
+  pub keeps-low : k < muNo → false ≡ not (even (treeAt (tableOf S) i))
   keeps-low l = rw (node-tree S (f .fits) i h, ← e) (sym (ap not (even-other true _ _ _ k l)))
 
-  pub keeps-high : 12 ≤ k → false ≡ not (even (treeAt (tableOf S) i))
+  pub keeps-high : slotNo ≤ k → false ≡ not (even (treeAt (tableOf S) i))
   keeps-high l = rw (node-tree S (f .fits) i h, ← e) (sym (ap not (even-slot true _ _ _ k l)))
 
-  pub breaks : 10 ≤ k → k ≤ 11 → (odds : List ℕ) → Odds S odds → (j p : ℕ) (r : Bool) → j ≡ nodeAt S i .left → j < i
-      → p ≡ nodeAt S i .param → p < 16 → r ≡ bit (getD odds j 0) p → r ≡ not (even (treeAt (tableOf S) i))
+  pub breaks : muNo ≤ k → k ≤ nuNo → (odds : List ℕ) → Odds S odds → (j p : ℕ) (r : Bool) → j ≡ nodeAt S i .left → j < i
+      → p ≡ nodeAt S i .param → p < paramLimit (kindOf (nodeAt S i .kind)) → r ≡ bit (getD odds j 0) p → r ≡ not (even (treeAt (tableOf S) i))
   unfolding Odds Shows
-  breaks l g odds o j p r ej hj ep hp er =
+  breaks l g odds o j p r ej hj ep few er =
+      let hp : p < variables = rw (limit-loop (nodeAt S i .kind) (omega arith) (omega arith)) at few in
       rw (node-tree S (f .fits) i h, ← e, ← ep, ← ej, even-loop true p (treeAt (tableOf S) j) (treeAt (tableOf S) (nodeAt S i .right)) k l g)
       (er ∙ o j (omega arith) p hp ∙ sym (Bool·not-not (occ false p (treeAt (tableOf S) j))))
 
@@ -61,17 +65,17 @@ unfolding Good DoneFrom Rows
 all-done S done evens odds i e g d j h = g j h (d j (omega arith) h)
 
 -- none is at the start
-pub none-done : (S : List ℕ) → Fit S → Ready S (replicate 2048 0) (replicate 2048 0) (replicate 2048 0)
+pub none-done : (S : List ℕ) → Fit S → Ready S (replicate tableNodes 0) noMasks noMasks
 unfolding Good
 none-done S f =
     record {
       fit = f;
-      done-size = length-replicate {A = ℕ} 2048 0;
-      evens-size = length-replicate {A = ℕ} 2048 0;
-      odds-size = length-replicate {A = ℕ} 2048 0;
+      done-size = length-replicate {A = ℕ} tableNodes 0;
+      evens-size = length-replicate {A = ℕ} tableNodes 0;
+      odds-size = length-replicate {A = ℕ} tableNodes 0;
       good = λ j h d.
           let l = f .few in
-          let z : _≡_ {A = ℕ} 0 1 = sym (getD-replicate {A = ℕ} 2048 j 0 0 (omega arith)) ∙ d in
+          let z : _≡_ {A = ℕ} 0 1 = sym (getD-replicate {A = ℕ} tableNodes j 0 0 (omega arith)) ∙ d in
           absurd (omega arith);
     }
 
@@ -82,25 +86,25 @@ zero-at (suc n) (suc i) = zero-at n i
 
 -- ---- item 10
 
-pub empty-masks : (e o : ℕ) → e < 65536 → o < 65536 → eqb (bitOr e o) 0 ≡ all 16 (λ v. not (bit e v || bit o v))
+pub empty-masks : (e o : ℕ) → e < 2 ^ maskBits → o < 2 ^ maskBits → eqb (bitOr e o) 0 ≡ all variables (λ v. not (bit e v || bit o v))
 empty-masks e o he ho =
     both
-    (λ z. all-in 16 (λ v. not (bit e v || bit o v)) (λ v h.
+    (λ z. all-in variables (λ v. not (bit e v || bit o v)) (λ v h.
     ap not (sym (bit-or e o v) ∙ ap (λ (m : ℕ). bit m v) (eqb-true (bitOr e o) 0 z) ∙ bit-zero v)))
     (λ a. eq-eqb (bitOr e o) 0
-    (no-bits 16 (bitOr e o) (or-lt 16 e o he ho) (λ v h. bit-or e o v ∙ not-true (bit e v || bit o v) (all-out 16 (λ v. not (bit e v || bit o v)) a v h))))
+    (no-bits maskBits (bitOr e o) (or-lt maskBits e o he ho) (λ v h. bit-or e o v ∙ not-true (bit e v || bit o v) (all-out variables (λ v. not (bit e v || bit o v)) a v h))))
 
 module _ (S evens odds : List ℕ) (r : Rows S evens odds) where
-  free-bits : (j v : ℕ) → 6 * j + 6 ≤ length S → v < 16 → (bit (getD evens j 0) v || bit (getD odds j 0) v) ≡ free v (treeAt (tableOf S) j)
+  free-bits : (j v : ℕ) → 6 * j + 6 ≤ length S → v < variables → (bit (getD evens j 0) v || bit (getD odds j 0) v) ≡ free v (treeAt (tableOf S) j)
   unfolding Rows Row Shows free
   free-bits j v h l = ap₂ _||_ (r j h .0 v l) (r j h .1 v l)
 
   pub last-closed : 6 ≤ length S
-      → all 16 (λ v. not (bit (getD evens (length S / 6 - 1) 0) v || bit (getD odds (length S / 6 - 1) 0) v)) ≡ closed (formOf (tableOf S))
+      → all variables (λ v. not (bit (getD evens (length S / 6 - 1) 0) v || bit (getD odds (length S / 6 - 1) 0) v)) ≡ closed (formOf (tableOf S))
   unfolding closed formOf
   last-closed h =
       rw (length-table S)
-      (all-cong 16 _ _ (λ v l. ap not (free-bits (length S / 6 - 1) v (omega arith) l)))
+      (all-cong variables _ _ (λ v l. ap not (free-bits (length S / 6 - 1) v (omega arith) l)))
 
   pub free-rows : (rows : List ℕ) → United evens odds noMasks rows (length S / 6) → FreeRows S rows
   free-rows rows u =
@@ -108,7 +112,7 @@ module _ (S evens odds : List ℕ) (r : Rows S evens odds) where
         node = λ i v h l.
             let n = length-table S in
             ap (λ (m : ℕ). bit m v) (u .node i (omega arith)) ∙ bit-or (getD evens i 0) (getD odds i 0) v ∙ free-bits i v (omega arith) l;
-        rest = λ i h. let n = length-table S in u .rest i (omega arith) ∙ zero-at 2048 i;
+        rest = λ i h. let n = length-table S in u .rest i (omega arith) ∙ zero-at tableNodes i;
       }
 
 -- ---- loops over masks

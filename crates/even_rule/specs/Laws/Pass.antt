@@ -9,6 +9,7 @@ use lib.ListN.{length, getD, set}
 use lib.Seq.{getD-set-same, getD-set-other}
 use Rattle.finite.specs.Laws.Bools.{either}
 use Rattle.finite.specs.Laws.Below.{equal?}
+use Rattle.limits.specs.Limits.{notNo, orNo, andNo, nuNo}
 use Rattle.semantics.specs.Table.{treeAt}
 use Rattle.condition.specs.Bytes.{nodeAt, tableOf}
 use Rattle.even_rule.specs.Masks.{Shows, Row, Children, Good, Kept, Ready, Visited, ChildrenVisited}
@@ -29,7 +30,7 @@ module _ (S done evens odds : List ℕ) (R : Ready S done evens odds) (i : ℕ) 
   was-done d = record { good = R .good; kept = λ j e. e; here = d }
 
   -- a node without children
-  pub no-child : (5 ≤ nodeAt S i .kind → nodeAt S i .kind ≤ 11 → ⊥) → ChildrenVisited S done done evens odds i
+  pub no-child : (notNo ≤ nodeAt S i .kind → nodeAt S i .kind ≤ nuNo → ⊥) → ChildrenVisited S done done evens odds i
   unfolding Kept
   no-child n =
       record {
@@ -52,7 +53,7 @@ module _ (S done evens odds : List ℕ) (R : Ready S done evens odds) (i : ℕ) 
 
     module _ (h : 6 * j + 6 ≤ length S) (e : j ≡ nodeAt S i .left) where
       -- one child is visited
-      pub one-child : (6 ≤ nodeAt S i .kind → nodeAt S i .kind ≤ 7 → ⊥) → ChildrenVisited S done done₁ evens₁ odds₁ i
+      pub one-child : (orNo ≤ nodeAt S i .kind → nodeAt S i .kind ≤ andNo → ⊥) → ChildrenVisited S done done₁ evens₁ odds₁ i
       unfolding Good
       one-child n =
           record {

@@ -1,4 +1,5 @@
 -- The items in order: the buffers, the site, the condition.
+use Rattle.limits.specs.Limits.{tableNodes}
 use Rattle.list_entry.specs.Laws.Listing.{judged-set, judged-work, judged-site, judged-table}
 use mathlib.Core.Path.{sym, _∙_, ap}
 use Prim.Native.Nat.{ℕ}
@@ -21,7 +22,7 @@ enum-told : tie.Need-enum-told
 enum-told c = search needs
 
 check-requires-2 : tie.Need-check-requires-2
-check-requires-2 c κs = ap length (c .before .before .before .before .before .before .before .before .before .pre) ∙ length-replicate {A = ℕ} 2048 0
+check-requires-2 c κs = ap length (c .before .before .before .before .before .before .before .before .before .pre) ∙ length-replicate {A = ℕ} tableNodes 0
 
 enum-known-v : tie.Need-enum-known-v
 enum-known-v c = search needs

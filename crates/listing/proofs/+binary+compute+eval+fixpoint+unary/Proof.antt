@@ -10,16 +10,16 @@ use borrow.Fn.Kinds.{In}
 use borrow.Fn.PlainCycle.{Measures, is, falls, and}
 use Rattle.finite.specs.Laws.Bools.{either}
 use Rattle.bitset.specs.Set.{setSlots, has}
+use Rattle.limits.specs.Limits.{notNo, diaNo, boxNo}
 use Rattle.semantics.specs.Laws.Agree.{_≐_}
 use Rattle.site.specs.Site.{siteOf}
-use Rattle.condition.specs.Laws.Limits.{limit-loop}
 use Rattle.condition.specs.Bytes.{nodeAt}
 use Rattle.listing_sets.specs.Laws.Nodes.{is-unary, is-binary, is-loop}
 use Rattle.listing_sets.specs.Nodes.{applied, startOf}
 use Rattle.listing_sets.specs.Places.{setAt}
 use Rattle.listing.specs.Laws.Rounds.{Rounds, rounds-none, assigned, rounds-more, rounds-done, restored}
 use Rattle.listing.specs.Laws.Memo.{good-moved, finish, was-known, leaf-done, flagged, again, since, child}
-use Rattle.listing.specs.Laws.Kinds.{unary-left, modal-in}
+use Rattle.listing.specs.Laws.Kinds.{unary-left, modal-in, loop-variable}
 use Rattle.listing.specs.State.{Done}
 use Rattle.listing.proofs.binary.Reads as binary
 use Rattle.listing.proofs.binary.Kinds as binary-kinds
@@ -104,48 +104,79 @@ binary-left-child-requires : (t : ℕ) → binary-lts.Need-left-child-requires (
 binary-left-child-requires t c κs = let p = c .before .before .before .before .before .before .pre .1 in (p .0 .fits, (p .1 .0, omega (arith, p .1 .1)))
 
 binary-eval-requires : (t : ℕ) → binary-lts.Need-eval-requires (binary-calls t) (binary-at t) binary.Post
-binary-eval-requires t c κs = let p = c .before .before .before .before .before .before .before .before .before .before .pre .1 in (omega (arith, c .before .before .before .before .before .before .before .before .before .before .pre, c .before .before .before .left-child .ensures), (p .0, omega (arith, p .1 .0, c .before .before .before .left-child .ensures)))
+binary-eval-requires t c κs =
+    let the-pre = c .before .before .before .before .before .before .before .before .before .before .pre in
+    let p = c .before .before .before .before .before .before .before .before .before .before .pre .1 in (omega (arith, the-pre, c .before .before .before .left-child .ensures), (p .0, omega (arith, p .1 .0, c .before .before .before .left-child .ensures)))
 
 binary-load-requires : (t : ℕ) → binary-lts.Need-load-requires (binary-calls t) (binary-at t) binary.Post
-binary-load-requires t c κs = omega (arith, c .before .before .before .before .before .before .before .before .before .before .before .before .before .before .before .before .before .before .pre, c .before .before .before .before .before .before .before .before .before .before .before .left-child .ensures, c .before .before .before .before .before .before .before .eval .kept)
+binary-load-requires t c κs =
+    let the-pre = c .before .before .before .before .before .before .before .before .before .before .before .before .before .before .before .before .before .before .pre in
+    let the-left-child = c .before .before .before .before .before .before .before .before .before .before .before .left-child in
+    omega (arith, the-pre, the-left-child .ensures, c .before .before .before .before .before .before .before .eval .kept)
 
 binary-right-child-requires : (t : ℕ) → binary-lts.Need-right-child-requires (binary-calls t) (binary-at t) binary.Post
 binary-right-child-requires t c κs = let p = c .before .before .before .before .before .before .before .before .before .before .before .before .before .before .before .before .before .before .before .pre .1 in (p .0 .fits, (p .1 .0, p .1 .1))
 
 binary-eval-requires-2 : (t : ℕ) → binary-lts.Need-eval-requires-2 (binary-calls t) (binary-at t) binary.Post
-binary-eval-requires-2 t c κs = let a = c .before .before .before .before .before .before .before .before .before .before .before .before .before .before .before .before .before .before .before .before .before .before .before .args in let p = c .before .before .before .before .before .before .before .before .before .before .before .before .before .before .before .before .before .before .before .before .before .before .before .pre .1 in let e = c .before .before .before .before .before .before .before .before .before .before .before .before .eval .last .1 .1 .1 in let q = c .before .before .before .before .before .before .before .before .before .before .before .before .eval .kept .1 .1 .1 in (
-  omega (arith, c .before .before .before .before .before .before .before .before .before .before .before .before .before .before .before .before .before .before .before .before .before .before .before .pre, c .before .before .before .right-child .ensures),
-  (
-    again (a .site .now) (a .table .now) (a .free .now) (a .env .now) (e .0) (a .fresh .now) (e .1 .0) (a .work .now) (e .1 .1 .0) (c .before .before .before .before .before .before .before .before .before .before .before .before .before .before .before .before .left-child .result) (p .0) (c .before .before .before .before .before .before .before .before .before .before .before .before .eval .ensures) (q .0) (q .1 .0) (q .1 .1 .0),
-    omega (arith, p .1 .0, c .before .before .before .right-child .ensures),
-  ),
-)
+binary-eval-requires-2 t c κs =
+    let the-pre = c .before .before .before .before .before .before .before .before .before .before .before .before .before .before .before .before .before .before .before .before .before .before .before .pre in
+    let the-left-child = c .before .before .before .before .before .before .before .before .before .before .before .before .before .before .before .before .left-child in
+    let the-eval = c .before .before .before .before .before .before .before .before .before .before .before .before .eval in
+    let a = c .before .before .before .before .before .before .before .before .before .before .before .before .before .before .before .before .before .before .before .before .before .before .before .args in let p = c .before .before .before .before .before .before .before .before .before .before .before .before .before .before .before .before .before .before .before .before .before .before .before .pre .1 in let e = c .before .before .before .before .before .before .before .before .before .before .before .before .eval .last .1 .1 .1 in let q = c .before .before .before .before .before .before .before .before .before .before .before .before .eval .kept .1 .1 .1 in (
+      omega (arith, the-pre, c .before .before .before .right-child .ensures),
+      (
+        again (a .site .now) (a .table .now) (a .free .now) (a .env .now) (e .0) (a .fresh .now) (e .1 .0) (a .work .now) (e .1 .1 .0) (the-left-child .result) (p .0) (the-eval .ensures) (q .0) (q .1 .0) (q .1 .1 .0),
+        omega (arith, p .1 .0, c .before .before .before .right-child .ensures),
+      ),
+    )
 
 binary-load-requires-2 : (t : ℕ) → binary-lts.Need-load-requires-2 (binary-calls t) (binary-at t) binary.Post
-binary-load-requires-2 t c κs = omega (arith, c .before .before .before .before .before .before .before .before .before .before .before .before .before .before .before .before .before .before .before .before .before .before .before .before .before .before .before .before .before .before .before .pre, c .before .before .before .before .before .before .before .before .before .before .before .right-child .ensures, c .before .before .before .before .before .before .before .before .before .before .before .before .before .before .before .before .before .before .before .before .eval .kept, c .before .before .before .before .before .before .before .eval2 .kept)
+binary-load-requires-2 t c κs =
+    let the-pre = c .before .before .before .before .before .before .before .before .before .before .before .before .before .before .before .before .before .before .before .before .before .before .before .before .before .before .before .before .before .before .before .pre in
+    let the-right-child = c .before .before .before .before .before .before .before .before .before .before .before .right-child in
+    let the-eval = c .before .before .before .before .before .before .before .before .before .before .before .before .before .before .before .before .before .before .before .before .eval in
+    omega (arith, the-pre, the-right-child .ensures, the-eval .kept, c .before .before .before .before .before .before .before .eval2 .kept)
 
 binary-put-binary-requires : (t : ℕ) → binary-lts.Need-put-binary-requires (binary-calls t) (binary-at t) binary.Post
-binary-put-binary-requires t c κs = let p = c .before .before .before .before .before .before .before .before .before .before .before .before .before .before .before .before .before .before .before .before .before .before .before .before .before .before .before .before .before .before .before .before .before .pre .1 in (p .1 .0, (omega (arith, c .before .before .before .before .before .before .before .before .before .before .before .before .before .before .before .before .before .before .before .before .before .before .before .before .before .before .before .before .before .before .before .before .before .pre, c .before .before .before .before .before .before .before .before .before .before .before .before .before .before .before .before .before .before .before .before .before .before .eval .kept, c .before .before .before .before .before .before .before .before .before .eval2 .kept), p .1 .1))
+binary-put-binary-requires t c κs =
+    let the-pre = c .before .before .before .before .before .before .before .before .before .before .before .before .before .before .before .before .before .before .before .before .before .before .before .before .before .before .before .before .before .before .before .before .before .pre in
+    let the-eval = c .before .before .before .before .before .before .before .before .before .before .before .before .before .before .before .before .before .before .before .before .before .before .eval in
+    let the-eval2 = c .before .before .before .before .before .before .before .before .before .eval2 in
+    let p = c .before .before .before .before .before .before .before .before .before .before .before .before .before .before .before .before .before .before .before .before .before .before .before .before .before .before .before .before .before .before .before .before .before .pre .1 in (p .1 .0, (omega (arith, the-pre, the-eval .kept, the-eval2 .kept), p .1 .1))
 
 binary-same-length : (t : ℕ) → binary-lts.Need-same-length (binary-calls t) (binary-at t) binary.Post
-binary-same-length t c = omega (arith, c .before .before .before .before .before .before .before .before .before .before .before .before .before .before .before .before .before .before .before .before .before .before .before .before .before .eval .kept, c .before .before .before .before .before .before .before .before .before .before .before .before .eval2 .kept, c .before .before .put-binary .kept)
+binary-same-length t c =
+    let the-eval = c .before .before .before .before .before .before .before .before .before .before .before .before .before .before .before .before .before .before .before .before .before .before .before .before .before .eval in
+    let the-eval2 = c .before .before .before .before .before .before .before .before .before .before .before .before .eval2 in
+    omega (arith, the-eval .kept, the-eval2 .kept, c .before .before .put-binary .kept)
 
 binary-same-length-2 : (t : ℕ) → binary-lts.Need-same-length-2 (binary-calls t) (binary-at t) binary.Post
-binary-same-length-2 t c = omega (arith, c .before .before .before .before .before .before .before .before .before .before .before .before .before .before .before .before .before .before .before .before .before .before .before .before .before .eval .kept, c .before .before .before .before .before .before .before .before .before .before .before .before .eval2 .kept, c .before .before .put-binary .kept)
+binary-same-length-2 t c =
+    let the-eval = c .before .before .before .before .before .before .before .before .before .before .before .before .before .before .before .before .before .before .before .before .before .before .before .before .before .eval in
+    let the-eval2 = c .before .before .before .before .before .before .before .before .before .before .before .before .eval2 in
+    omega (arith, the-eval .kept, the-eval2 .kept, c .before .before .put-binary .kept)
 
 binary-same-length-3 : (t : ℕ) → binary-lts.Need-same-length-3 (binary-calls t) (binary-at t) binary.Post
-binary-same-length-3 t c = omega (arith, c .before .before .before .before .before .before .before .before .before .before .before .before .before .before .before .before .before .before .before .before .before .before .before .before .before .eval .kept, c .before .before .before .before .before .before .before .before .before .before .before .before .eval2 .kept, c .before .before .put-binary .kept)
+binary-same-length-3 t c =
+    let the-eval = c .before .before .before .before .before .before .before .before .before .before .before .before .before .before .before .before .before .before .before .before .before .before .before .before .before .eval in
+    let the-eval2 = c .before .before .before .before .before .before .before .before .before .before .before .before .eval2 in
+    omega (arith, the-eval .kept, the-eval2 .kept, c .before .before .put-binary .kept)
 
 binary-returns : (t : ℕ) → binary-lts.Need-returns (binary-calls t) (binary-at t) binary.Post
-binary-returns t c = let a = c .before .before .before .before .before .before .before .before .before .before .before .before .before .before .before .before .before .before .before .before .before .before .before .before .before .before .before .before .before .before .before .before .before .before .before .before .args in let p = c .before .before .before .before .before .before .before .before .before .before .before .before .before .before .before .before .before .before .before .before .before .before .before .before .before .before .before .before .before .before .before .before .before .before .before .before .pre .1 in let d₁ = c .before .before .before .before .before .before .before .before .before .before .before .before .before .before .before .before .before .before .before .before .before .before .before .before .before .eval .ensures in let e₁ = c .before .before .before .before .before .before .before .before .before .before .before .before .before .before .before .before .before .before .before .before .before .before .before .before .before .eval .last .1 .1 .1 in let e = c .before .before .before .before .before .before .before .before .before .before .before .before .eval2 .last .1 .1 .1 in
-    let S = a .table .now in let P = has (c .before .before .before .before .before .before .before .before .before .before .before .before .before .before .before .before .before .load .result) in let Q = has (c .before .before .before .before .load2 .result) in let M = siteOf (a .site .now) in
-    let d : Done (a .site .now) S (a .env .now) (e .0) (e .1 .0) (e .1 .1 .0) (c .before .before .before .before .before .before .before .before .before .before .before .before .before .before .before .before .right-child .result) =
-    since (a .site .now) S (a .free .now) (a .env .now) (e₁ .0) (a .fresh .now) (e₁ .1 .0) (a .work .now) (e₁ .1 .1 .0) (c .before .before .before .before .before .before .before .before .before .before .before .before .before .before .before .before .before .before .before .before .before .before .before .before .before .before .before .before .before .left-child .result) (p .0) d₁ (e .0) (e .1 .0) (e .1 .1 .0) (c .before .before .before .before .before .before .before .before .before .before .before .before .before .before .before .before .right-child .result) (c .before .before .before .before .before .before .before .before .before .before .before .before .eval2 .ensures) in
+binary-returns t c =
+    let the-load = c .before .before .before .before .before .before .before .before .before .before .before .before .before .before .before .before .before .load in
+    let the-right-child = c .before .before .before .before .before .before .before .before .before .before .before .before .before .before .before .before .right-child in
+    let the-left-child = c .before .before .before .before .before .before .before .before .before .before .before .before .before .before .before .before .before .before .before .before .before .before .before .before .before .before .before .before .before .left-child in
+    let the-eval2 = c .before .before .before .before .before .before .before .before .before .before .before .before .eval2 in
+    let a = c .before .before .before .before .before .before .before .before .before .before .before .before .before .before .before .before .before .before .before .before .before .before .before .before .before .before .before .before .before .before .before .before .before .before .before .before .args in let p = c .before .before .before .before .before .before .before .before .before .before .before .before .before .before .before .before .before .before .before .before .before .before .before .before .before .before .before .before .before .before .before .before .before .before .before .before .pre .1 in let d₁ = c .before .before .before .before .before .before .before .before .before .before .before .before .before .before .before .before .before .before .before .before .before .before .before .before .before .eval .ensures in let e₁ = c .before .before .before .before .before .before .before .before .before .before .before .before .before .before .before .before .before .before .before .before .before .before .before .before .before .eval .last .1 .1 .1 in let e = c .before .before .before .before .before .before .before .before .before .before .before .before .eval2 .last .1 .1 .1 in
+    let S = a .table .now in let P = has (the-load .result) in let Q = has (c .before .before .before .before .load2 .result) in let M = siteOf (a .site .now) in
+    let d : Done (a .site .now) S (a .env .now) (e .0) (e .1 .0) (e .1 .1 .0) (the-right-child .result) =
+    since (a .site .now) S (a .free .now) (a .env .now) (e₁ .0) (a .fresh .now) (e₁ .1 .0) (a .work .now) (e₁ .1 .1 .0) (the-left-child .result) (p .0) d₁ (e .0) (e .1 .0) (e .1 .1 .0) (the-right-child .result) (the-eval2 .ensures) in
     finish (a .site .now) S (a .env .now) (e .0) (e .1 .0) (e .1 .1 .0) (c .before .before .put-binary .last .1 .0) (a .i) _ (d .kept) (d .good) (c .before .before .put-binary .ensures M)
     (is-binary S (p .0 .fits) (a .i) (p .1 .0) M (setAt (a .env .now)) P Q
-    (child (a .site .now) S (a .env .now) (e₁ .0) (e₁ .1 .0) (e₁ .1 .1 .0) (c .before .before .before .before .before .before .before .before .before .before .before .before .before .before .before .before .before .before .before .before .before .before .before .before .before .before .before .before .before .left-child .result) (nodeAt S (a .i) .left) P d₁ (c .before .before .before .before .before .before .before .before .before .before .before .before .before .before .before .before .before .load .ensures) (c .before .before .before .before .before .before .before .before .before .before .before .before .before .before .before .before .before .before .before .before .before .before .before .before .before .before .before .before .before .left-child .ensures .0))
+    (child (a .site .now) S (a .env .now) (e₁ .0) (e₁ .1 .0) (e₁ .1 .1 .0) (the-left-child .result) (nodeAt S (a .i) .left) P d₁ (the-load .ensures) (the-left-child .ensures .0))
     (p .1 .1 .0) (p .1 .1 .1)
-    (child (a .site .now) S (a .env .now) (e .0) (e .1 .0) (e .1 .1 .0) (c .before .before .before .before .before .before .before .before .before .before .before .before .before .before .before .before .right-child .result) (nodeAt S (a .i) .right) Q d (c .before .before .before .before .load2 .ensures) (c .before .before .before .before .before .before .before .before .before .before .before .before .before .before .before .before .right-child .ensures .0)))
+    (child (a .site .now) S (a .env .now) (e .0) (e .1 .0) (e .1 .1 .0) (the-right-child .result) (nodeAt S (a .i) .right) Q d (c .before .before .before .before .load2 .ensures) (the-right-child .ensures .0)))
 
 abbrev compute-calls : ℕ → compute-lts.Claims
 compute-calls t = (kind-reads.Asked, kind-reads.Learnt, binary-below t, binary.Post, fixpoint-below t, fixpoint.Post, put-leaf-reads.Asked, put-leaf-reads.Learnt, unary-below t, unary.Post)
@@ -154,30 +185,38 @@ compute-kind-requires : (t : ℕ) → compute-lts.Need-kind-requires (compute-ca
 compute-kind-requires t c κs = c .before .before .before .before .before .before .pre .1 .1
 
 compute-binary-requires : (t : ℕ) → compute-lts.Need-binary-requires (compute-calls t) (compute-at t) compute.Post
-compute-binary-requires t c κs = let p = c .before .before .before .before .before .before .before .before .before .before .before .before .before .pre .1 in (omega (arith, c .before .before .before .before .before .before .before .before .before .before .before .before .before .pre), (p .0, (p .1, (omega (arith, c .before .before .before .before .before .before .kind .ensures, c .before .before .before .before .before .match .rest .1, c .before .before .before .before .if1 .left), omega (arith, c .before .before .before .before .before .before .kind .ensures, c .before .before .before .if2 .taken)))))
+compute-binary-requires t c κs =
+    let the-pre = c .before .before .before .before .before .before .before .before .before .before .before .before .before .pre in
+    let p = c .before .before .before .before .before .before .before .before .before .before .before .before .before .pre .1 in (omega (arith, the-pre), (p .0, (p .1, (omega (arith, c .before .before .before .before .before .before .kind .ensures, c .before .before .before .before .before .match .rest .1, c .before .before .before .before .if1 .left), omega (arith, c .before .before .before .before .before .before .kind .ensures, c .before .before .before .if2 .taken)))))
 
 compute-fixpoint-requires : (t : ℕ) → compute-lts.Need-fixpoint-requires (compute-calls t) (compute-at t) compute.Post
-compute-fixpoint-requires t c κs = let p = c .before .before .before .before .before .before .before .before .before .before .before .before .before .before .before .pre .1 in (omega (arith, c .before .before .before .before .before .before .before .before .before .before .before .before .before .before .before .pre), (p .0, (p .1, (omega (arith, c .before .before .before .before .before .before .before .before .kind .ensures, c .before .before .before .before .if3 .left), omega (arith, c .before .before .before .before .before .before .before .before .kind .ensures, c .before .before .before .if4 .taken)))))
+compute-fixpoint-requires t c κs =
+    let the-pre = c .before .before .before .before .before .before .before .before .before .before .before .before .before .before .before .pre in
+    let p = c .before .before .before .before .before .before .before .before .before .before .before .before .before .before .before .pre .1 in (omega (arith, the-pre), (p .0, (p .1, (omega (arith, c .before .before .before .before .before .before .before .before .kind .ensures, c .before .before .before .before .if3 .left), omega (arith, c .before .before .before .before .before .before .before .before .kind .ensures, c .before .before .before .if4 .taken)))))
 
 compute-put-leaf-requires : (t : ℕ) → compute-lts.Need-put-leaf-requires (compute-calls t) (compute-at t) compute.Post
-compute-put-leaf-requires t c κs = let p = c .before .before .before .before .before .before .before .before .before .before .before .pre .1 in (
-  (p .0 .site-size, p .0 .env-size, omega (arith, c .before .before .before .before .before .before .before .before .before .before .before .pre)),
-  (
-    p .0 .fits,
-    (
-      p .1,
-      λ h l.
-          either (c .before .before .if1 .came) (λ u. omega (arith, c .before .before .before .before .kind .ensures, u .taken)) (λ u. omega (arith, c .before .before .before .before .kind .ensures, u .3 .left)),
-    ),
-  ),
-)
+compute-put-leaf-requires t c κs =
+    let the-pre = c .before .before .before .before .before .before .before .before .before .before .before .pre in
+    let p = c .before .before .before .before .before .before .before .before .before .before .before .pre .1 in (
+      (p .0 .site-size, p .0 .env-size, omega (arith, the-pre)),
+      (
+        p .0 .fits,
+        (
+          p .1,
+          λ h l.
+              either (c .before .before .if1 .came) (λ u. omega (arith, c .before .before .before .before .kind .ensures, u .taken)) (λ u. omega (arith, c .before .before .before .before .kind .ensures, u .3 .left)),
+        ),
+      ),
+    )
 
 compute-unary-requires : (t : ℕ) → compute-lts.Need-unary-requires (compute-calls t) (compute-at t) compute.Post
-compute-unary-requires t c κs = let a = c .before .before .before .before .before .before .before .before .before .before .before .args in let p = c .before .before .before .before .before .before .before .before .before .before .before .pre .1 in
+compute-unary-requires t c κs =
+    let the-pre = c .before .before .before .before .before .before .before .before .before .before .before .pre in
+    let a = c .before .before .before .before .before .before .before .before .before .before .before .args in let p = c .before .before .before .before .before .before .before .before .before .before .before .pre .1 in
     let k : ℕ = nodeAt (a .table .now) (a .i) .kind in
-    let q : (k ≡ 5) ⊎ ((k ≡ 8) ⊎ (k ≡ 9)) =
+    let q : (k ≡ notNo) ⊎ ((k ≡ diaNo) ⊎ (k ≡ boxNo)) =
     either (c .before .before .before .match .came) (λ u. inl (sym (c .before .before .before .before .kind .ensures) ∙ u .keys1)) (λ u. inr (modal-in k (omega (arith, c .before .before .before .before .kind .ensures, u .2)) (omega (arith, c .before .before .before .before .kind .ensures, u .3)))) in
-    (omega (arith, c .before .before .before .before .before .before .before .before .before .before .before .pre), (p .0, (p .1, q)))
+    (omega (arith, the-pre), (p .0, (p .1, q)))
 
 compute-same-length : (t : ℕ) → compute-lts.Need-same-length (compute-calls t) (compute-at t) compute.Post
 compute-same-length t c = omega (arith, c .before .before .before .before .before .before .binary .kept)
@@ -211,8 +250,9 @@ compute-same-length-8 t c = omega (arith, c .before .before .put-leaf .kept)
 
 compute-returns-3 : (t : ℕ) → compute-lts.Need-returns-3 (compute-calls t) (compute-at t) compute.Post
 compute-returns-3 t c =
+    let the-pre = c .before .before .before .before .before .before .before .before .before .before .before .before .before .before .pre in
     let a = c .before .before .before .before .before .before .before .before .before .before .before .before .before .before .args in
-    leaf-done (a .site .now) (a .table .now) (a .free .now) (a .env .now) (a .fresh .now) (a .work .now) (c .before .before .put-leaf .last .1 .1 .1 .0) (a .i) (c .before .before .before .before .before .before .before .before .before .before .before .before .before .before .pre .1 .0) (c .before .before .put-leaf .ensures)
+    leaf-done (a .site .now) (a .table .now) (a .free .now) (a .env .now) (a .fresh .now) (a .work .now) (c .before .before .put-leaf .last .1 .1 .1 .0) (a .i) (the-pre .1 .0) (c .before .before .put-leaf .ensures)
 
 compute-same-length-9 : (t : ℕ) → compute-lts.Need-same-length-9 (compute-calls t) (compute-at t) compute.Post
 compute-same-length-9 t c = omega (arith, c .before .before .before .before .before .before .unary .kept)
@@ -239,12 +279,16 @@ eval-returns t c = let a = c .before .before .before .before .before .before .be
 
 eval-compute-requires :
     (t : ℕ) → eval-lts.Need-compute-requires (eval-calls t) (eval-at t) eval.Post
-eval-compute-requires t c κs = (omega (arith, c .before .before .before .before .before .before .before .before .before .before .before .pre), c .before .before .before .before .before .before .before .before .before .before .before .pre .1)
+eval-compute-requires t c κs =
+    let the-pre = c .before .before .before .before .before .before .before .before .before .before .before .pre in
+    (omega (arith, the-pre), the-pre .1)
 
 eval-slice-write-fresh :
     (t : ℕ) →
     eval-lts.Need-slice-write-fresh (eval-calls t) (eval-at t) eval.Post
-eval-slice-write-fresh t c = omega (arith, c .before .before .before .before .before .before .before .before .before .before .before .before .before .before .before .before .before .before .pre, c .before .before .before .before .before .before .compute .kept)
+eval-slice-write-fresh t c =
+    let the-pre = c .before .before .before .before .before .before .before .before .before .before .before .before .before .before .before .before .before .before .pre in
+    omega (arith, the-pre, c .before .before .before .before .before .before .compute .kept)
 
 eval-same-length :
     (t : ℕ) → eval-lts.Need-same-length (eval-calls t) (eval-at t) eval.Post
@@ -272,16 +316,20 @@ abbrev fixpoint-μ-loop : fixpoint-lts.MeasureT-loop
 fixpoint-μ-loop site table free env₀ fresh₀ work₀ i x b n old set₀ rounds₀ moved₀ env fresh work set rounds moved = setSlots - rounds
 
 fixpoint-number-requires : (t : ℕ) → fixpoint-lts.Need-number-requires (fixpoint-calls t) (fixpoint-at t) fixpoint.Post fixpoint-Inv-loop fixpoint-μ-loop
-fixpoint-number-requires t c κs = let a = c .before .before .before .before .before .before .args in let p = c .before .before .before .before .before .before .pre .1 in (p .0 .fits, (p .1 .0, limit-loop (nodeAt (a .table .now) (a .i) .kind) (p .1 .1 .0) (omega (arith, p .1 .1))))
+fixpoint-number-requires t c κs = let p = c .before .before .before .before .before .before .pre .1 in (p .0 .fits, p .1 .0)
 
 fixpoint-left-child-requires : (t : ℕ) → fixpoint-lts.Need-left-child-requires (fixpoint-calls t) (fixpoint-at t) fixpoint.Post fixpoint-Inv-loop fixpoint-μ-loop
 fixpoint-left-child-requires t c κs = let p = c .before .before .before .before .before .before .before .pre .1 in (p .0 .fits, (p .1 .0, omega (arith, p .1 .1)))
 
 fixpoint-load-requires : (t : ℕ) → fixpoint-lts.Need-load-requires (fixpoint-calls t) (fixpoint-at t) fixpoint.Post fixpoint-Inv-loop fixpoint-μ-loop
-fixpoint-load-requires t c κs = omega (arith, c .before .before .before .before .before .before .before .before .before .pre, c .before .before .number .ensures)
+fixpoint-load-requires t c κs =
+    let the-pre = c .before .before .before .before .before .before .before .before .before .pre in
+    omega (arith, the-pre, loop-variable (the-pre .1 .1 .1) (c .before .before .number .ensures .1))
 
 fixpoint-kind-requires : (t : ℕ) → fixpoint-lts.Need-kind-requires (fixpoint-calls t) (fixpoint-at t) fixpoint.Post fixpoint-Inv-loop fixpoint-μ-loop
-fixpoint-kind-requires t c κs = c .before .before .before .before .before .before .before .before .before .before .pre .1 .1 .0
+fixpoint-kind-requires t c κs =
+    let the-pre = c .before .before .before .before .before .before .before .before .before .before .pre in
+    the-pre .1 .1 .0
 
 fixpoint-start-requires : (t : ℕ) → fixpoint-lts.Need-start-requires (fixpoint-calls t) (fixpoint-at t) fixpoint.Post fixpoint-Inv-loop fixpoint-μ-loop
 fixpoint-start-requires t c κs = tt
@@ -292,62 +340,104 @@ fixpoint-loop-holds t c = let a = c .before .before .before .before .before .bef
     (subst (λ (k : ℕ). has (c .start .result) ≐ startOf k) (c .before .kind .ensures) (c .start .ensures))
 
 fixpoint-assign-requires : (t : ℕ) → fixpoint-lts.Need-assign-requires (fixpoint-calls t) (fixpoint-at t) fixpoint.Post fixpoint-Inv-loop fixpoint-μ-loop
-fixpoint-assign-requires t c κs = omega (arith, c .before .before .before .before .before .before .before .before .before .before .before .before .before .before .before .before .before .pre, c .before .before .before .before .before .before .before .before .before .before .number .ensures, c .before .before .before .before .loop .inv)
+fixpoint-assign-requires t c κs =
+    let the-pre = c .before .before .before .before .before .before .before .before .before .before .before .before .before .before .before .before .before .pre in
+    let the-number = c .before .before .before .before .before .before .before .before .before .before .number in
+    omega (arith, the-pre, loop-variable (the-pre .1 .1 .1) (the-number .ensures .1), c .before .before .before .before .loop .inv)
 
 fixpoint-eval-requires : (t : ℕ) → fixpoint-lts.Need-eval-requires (fixpoint-calls t) (fixpoint-at t) fixpoint.Post fixpoint-Inv-loop fixpoint-μ-loop
-fixpoint-eval-requires t c κs = let a = c .before .before .before .before .before .before .before .before .before .before .before .before .before .before .before .before .before .before .before .before .before .before .before .before .before .args in let p = c .before .before .before .before .before .before .before .before .before .before .before .before .before .before .before .before .before .before .before .before .before .before .before .before .before .pre .1 in let l = c .before .before .before .before .before .before .before .before .before .before .before .before .loop in (
-  omega (arith, c .before .before .before .before .before .before .before .before .before .before .before .before .before .before .before .before .before .before .before .before .before .before .before .before .before .pre, c .before .before .before .before .before .before .before .before .before .before .before .before .before .before .before .before .before .left-child .ensures),
-  (
-    assigned (a .site .now) (a .table .now) (a .env .now) (l .env) (l .fresh) (l .work) (nodeAt (a .table .now) (a .i) .kind) (c .before .before .before .before .before .before .before .before .before .before .before .before .before .before .before .before .before .before .number .result) (c .before .before .before .before .before .before .before .before .before .before .before .before .before .before .before .before .before .left-child .result) (l .set) (l .rounds) (l .moved) (l .inv)
-        (c .before .before .before .before .before .before .before .assign .last .1 .0) (c .before .before .before .before .before .before .before .assign .ensures .0) (a .free .now) (a .fresh .now) (a .work .now) (c .before .before .before .before .before .before .before .assign .last .1 .1 .0) (length (a .table .now) / 6) (p .0) (c .before .before .before .before .before .before .before .before .before .before .before .before .before .before .before .before .before .before .number .ensures .1) (omega arith) (c .before .before .before .before .before .before .before .assign .kept .1 .0) (c .before .before .before .before .before .before .before .assign .ensures .1) (c .before .before .before .before .before .before .before .assign .kept .1 .1 .0),
-    omega (arith, p .1 .0, c .before .before .before .before .before .before .before .before .before .before .before .before .before .before .before .before .before .left-child .ensures),
-  ),
-)
+fixpoint-eval-requires t c κs =
+    let the-pre = c .before .before .before .before .before .before .before .before .before .before .before .before .before .before .before .before .before .before .before .before .before .before .before .before .before .pre in
+    let the-left-child = c .before .before .before .before .before .before .before .before .before .before .before .before .before .before .before .before .before .left-child in
+    let the-number = c .before .before .before .before .before .before .before .before .before .before .before .before .before .before .before .before .before .before .number in
+    let a = c .before .before .before .before .before .before .before .before .before .before .before .before .before .before .before .before .before .before .before .before .before .before .before .before .before .args in let p = c .before .before .before .before .before .before .before .before .before .before .before .before .before .before .before .before .before .before .before .before .before .before .before .before .before .pre .1 in let l = c .before .before .before .before .before .before .before .before .before .before .before .before .loop in (
+      omega (arith, the-pre, the-left-child .ensures),
+      (
+        assigned (a .site .now) (a .table .now) (a .env .now) (l .env) (l .fresh) (l .work) (nodeAt (a .table .now) (a .i) .kind) (the-number .result) (the-left-child .result) (l .set) (l .rounds) (l .moved) (l .inv)
+            (c .before .before .before .before .before .before .before .assign .last .1 .0) (c .before .before .before .before .before .before .before .assign .ensures .0) (a .free .now) (a .fresh .now) (a .work .now) (c .before .before .before .before .before .before .before .assign .last .1 .1 .0) (length (a .table .now) / 6) (p .0) (loop-variable (p .1 .1) (the-number .ensures .1)) (omega arith) (c .before .before .before .before .before .before .before .assign .kept .1 .0) (c .before .before .before .before .before .before .before .assign .ensures .1) (c .before .before .before .before .before .before .before .assign .kept .1 .1 .0),
+        omega (arith, p .1 .0, the-left-child .ensures),
+      ),
+    )
 
 fixpoint-load-requires-2 : (t : ℕ) → fixpoint-lts.Need-load-requires-2 (fixpoint-calls t) (fixpoint-at t) fixpoint.Post fixpoint-Inv-loop fixpoint-μ-loop
-fixpoint-load-requires-2 t c κs = omega (arith, c .before .before .before .before .before .before .before .before .before .before .before .before .before .before .before .before .before .before .before .before .before .before .before .before .before .before .before .before .before .before .before .before .before .pre, c .before .before .before .before .before .before .before .before .before .before .before .before .before .before .before .before .before .before .before .before .before .before .before .before .before .left-child .ensures, c .before .before .before .before .before .before .before .before .before .before .before .before .before .before .before .before .before .before .before .before .loop .inv, c .before .before .before .before .before .before .before .eval .kept)
+fixpoint-load-requires-2 t c κs =
+    let the-pre = c .before .before .before .before .before .before .before .before .before .before .before .before .before .before .before .before .before .before .before .before .before .before .before .before .before .before .before .before .before .before .before .before .before .pre in
+    let the-left-child = c .before .before .before .before .before .before .before .before .before .before .before .before .before .before .before .before .before .before .before .before .before .before .before .before .before .left-child in
+    let the-loop = c .before .before .before .before .before .before .before .before .before .before .before .before .before .before .before .before .before .before .before .before .loop in
+    omega (arith, the-pre, the-left-child .ensures, the-loop .inv, c .before .before .before .before .before .before .before .eval .kept)
 
 fixpoint-same-set-requires : (t : ℕ) → fixpoint-lts.Need-same-set-requires (fixpoint-calls t) (fixpoint-at t) fixpoint.Post fixpoint-Inv-loop fixpoint-μ-loop
 fixpoint-same-set-requires t c κs = tt
 
 fixpoint-add-rounds : (t : ℕ) → fixpoint-lts.Need-add-rounds (fixpoint-calls t) (fixpoint-at t) fixpoint.Post fixpoint-Inv-loop fixpoint-μ-loop
-fixpoint-add-rounds t c = omega (arith, c .before .before .before .before .before .before .before .before .before .before .before .before .before .before .before .before .before .before .before .before .before .before .loop .inv)
+fixpoint-add-rounds t c =
+    let the-loop = c .before .before .before .before .before .before .before .before .before .before .before .before .before .before .before .before .before .before .before .before .before .before .loop in
+    omega (arith, the-loop .inv)
 
 fixpoint-loop-less : (t : ℕ) → fixpoint-lts.Need-loop-less (fixpoint-calls t) (fixpoint-at t) fixpoint.Post fixpoint-Inv-loop fixpoint-μ-loop
-fixpoint-loop-less t c = omega (arith, c .before .before .before .before .before .before .before .before .before .before .before .before .before .before .before .before .before .before .before .before .before .before .loop .inv, ltb-true (c .before .before .before .before .before .before .before .before .before .before .before .before .before .before .before .before .before .before .before .before .before .before .loop .rounds) setSlots (c .before .before .before .before .before .before .before .before .before .before .before .before .before .before .before .before .before .before .before .before .if1 .taken))
+fixpoint-loop-less t c =
+    let the-loop = c .before .before .before .before .before .before .before .before .before .before .before .before .before .before .before .before .before .before .before .before .before .before .loop in
+    let the-if1 = c .before .before .before .before .before .before .before .before .before .before .before .before .before .before .before .before .before .before .before .before .if1 in
+    omega (arith, the-loop .inv, ltb-true (the-loop .rounds) setSlots (the-if1 .taken))
 
 fixpoint-loop-again : (t : ℕ) → fixpoint-lts.Need-loop-again (fixpoint-calls t) (fixpoint-at t) fixpoint.Post fixpoint-Inv-loop fixpoint-μ-loop
-fixpoint-loop-again t c = let a = c .before .before .before .before .before .before .before .before .before .before .before .before .before .before .before .before .before .before .before .before .before .before .before .before .before .before .before .before .before .before .before .before .before .before .before .args in let l = c .before .before .before .before .before .before .before .before .before .before .before .before .before .before .before .before .before .before .before .before .before .before .loop in let e = c .before .before .before .before .before .before .before .before .before .eval .last .1 .1 .1 in
-    rounds-more (a .site .now) (a .table .now) (a .env .now) (l .env) (l .fresh) (l .work) (nodeAt (a .table .now) (a .i) .kind) (c .before .before .before .before .before .before .before .before .before .before .before .before .before .before .before .before .before .before .before .before .before .before .before .before .before .before .before .before .number .result) (c .before .before .before .before .before .before .before .before .before .before .before .before .before .before .before .before .before .before .before .before .before .before .before .before .before .before .before .left-child .result) (l .set) (l .rounds) (l .moved) (l .inv)
-    (c .before .before .before .before .before .before .before .before .before .before .before .before .before .before .before .before .before .assign .last .1 .0) (c .before .before .before .before .before .before .before .before .before .before .before .before .before .before .before .before .before .assign .ensures .0) (e .0) (e .1 .0) (e .1 .1 .0) (c .before .load2 .result) (c .same-set .result) (ltb-true (l .rounds) setSlots (c .before .before .before .before .before .before .before .before .before .before .before .before .before .before .before .before .before .before .before .before .if1 .taken)) (c .before .before .before .before .before .before .before .before .before .eval .ensures) (c .before .load2 .ensures) (c .same-set .ensures .0)
-    (omega (arith, l .inv .env-size, c .before .before .before .before .before .before .before .before .before .before .before .before .before .before .before .before .before .assign .kept, c .before .before .before .before .before .before .before .before .before .eval .kept)) (omega (arith, l .inv .fresh-size, c .before .before .before .before .before .before .before .before .before .before .before .before .before .before .before .before .before .assign .kept, c .before .before .before .before .before .before .before .before .before .eval .kept)) (omega (arith, l .inv .work-size, c .before .before .before .before .before .before .before .before .before .eval .kept))
+fixpoint-loop-again t c =
+    let the-number = c .before .before .before .before .before .before .before .before .before .before .before .before .before .before .before .before .before .before .before .before .before .before .before .before .before .before .before .before .number in
+    let the-left-child = c .before .before .before .before .before .before .before .before .before .before .before .before .before .before .before .before .before .before .before .before .before .before .before .before .before .before .before .left-child in
+    let the-assign = c .before .before .before .before .before .before .before .before .before .before .before .before .before .before .before .before .before .assign in
+    let the-if1 = c .before .before .before .before .before .before .before .before .before .before .before .before .before .before .before .before .before .before .before .before .if1 in
+    let the-eval = c .before .before .before .before .before .before .before .before .before .eval in
+    let a = c .before .before .before .before .before .before .before .before .before .before .before .before .before .before .before .before .before .before .before .before .before .before .before .before .before .before .before .before .before .before .before .before .before .before .before .args in let l = c .before .before .before .before .before .before .before .before .before .before .before .before .before .before .before .before .before .before .before .before .before .before .loop in let e = c .before .before .before .before .before .before .before .before .before .eval .last .1 .1 .1 in
+    rounds-more (a .site .now) (a .table .now) (a .env .now) (l .env) (l .fresh) (l .work) (nodeAt (a .table .now) (a .i) .kind) (the-number .result) (the-left-child .result) (l .set) (l .rounds) (l .moved) (l .inv)
+    (the-assign .last .1 .0) (the-assign .ensures .0) (e .0) (e .1 .0) (e .1 .1 .0) (c .before .load2 .result) (c .same-set .result) (ltb-true (l .rounds) setSlots (the-if1 .taken)) (the-eval .ensures) (c .before .load2 .ensures) (c .same-set .ensures .0)
+    (omega (arith, l .inv .env-size, the-assign .kept, the-eval .kept)) (omega (arith, l .inv .fresh-size, the-assign .kept, the-eval .kept)) (omega (arith, l .inv .work-size, the-eval .kept))
 
 fixpoint-assign-requires-2 : (t : ℕ) → fixpoint-lts.Need-assign-requires-2 (fixpoint-calls t) (fixpoint-at t) fixpoint.Post fixpoint-Inv-loop fixpoint-μ-loop
-fixpoint-assign-requires-2 t c κs = omega (arith, c .before .before .before .before .before .before .before .before .before .before .before .before .before .before .before .before .pre, c .before .before .before .before .before .before .before .before .before .number .ensures, c .before .before .before .loop .inv)
+fixpoint-assign-requires-2 t c κs =
+    let the-pre = c .before .before .before .before .before .before .before .before .before .before .before .before .before .before .before .before .pre in
+    let the-number = c .before .before .before .before .before .before .before .before .before .number in
+    omega (arith, the-pre, loop-variable (the-pre .1 .1 .1) (the-number .ensures .1), c .before .before .before .loop .inv)
 
 fixpoint-store-requires : (t : ℕ) → fixpoint-lts.Need-store-requires (fixpoint-calls t) (fixpoint-at t) fixpoint.Post fixpoint-Inv-loop fixpoint-μ-loop
-fixpoint-store-requires t c κs = omega (arith, c .before .before .before .before .before .before .before .before .before .before .before .before .before .before .before .before .before .before .before .before .before .before .pre, c .before .before .before .before .before .before .before .before .before .loop .inv)
+fixpoint-store-requires t c κs =
+    let the-pre = c .before .before .before .before .before .before .before .before .before .before .before .before .before .before .before .before .before .before .before .before .before .before .pre in
+    let the-loop = c .before .before .before .before .before .before .before .before .before .loop in
+    omega (arith, the-pre, the-loop .inv)
 
 fixpoint-same-length : (t : ℕ) → fixpoint-lts.Need-same-length (fixpoint-calls t) (fixpoint-at t) fixpoint.Post fixpoint-Inv-loop fixpoint-μ-loop
-fixpoint-same-length t c = omega (arith, c .before .before .before .before .before .before .before .before .before .before .before .before .before .before .before .before .before .before .before .before .before .before .before .before .before .pre, c .before .before .before .before .before .before .before .before .before .before .before .before .loop .inv, c .before .before .before .before .before .before .before .before .assign2 .kept)
+fixpoint-same-length t c =
+    let the-pre = c .before .before .before .before .before .before .before .before .before .before .before .before .before .before .before .before .before .before .before .before .before .before .before .before .before .pre in
+    let the-loop = c .before .before .before .before .before .before .before .before .before .before .before .before .loop in
+    omega (arith, the-pre, the-loop .inv, c .before .before .before .before .before .before .before .before .assign2 .kept)
 
 fixpoint-same-length-2 : (t : ℕ) → fixpoint-lts.Need-same-length-2 (fixpoint-calls t) (fixpoint-at t) fixpoint.Post fixpoint-Inv-loop fixpoint-μ-loop
-fixpoint-same-length-2 t c = omega (arith, c .before .before .before .before .before .before .before .before .before .before .before .before .before .before .before .before .before .before .before .before .before .before .before .before .before .pre, c .before .before .before .before .before .before .before .before .before .before .before .before .loop .inv, c .before .before .before .before .before .before .before .before .assign2 .kept)
+fixpoint-same-length-2 t c =
+    let the-pre = c .before .before .before .before .before .before .before .before .before .before .before .before .before .before .before .before .before .before .before .before .before .before .before .before .before .pre in
+    let the-loop = c .before .before .before .before .before .before .before .before .before .before .before .before .loop in
+    omega (arith, the-pre, the-loop .inv, c .before .before .before .before .before .before .before .before .assign2 .kept)
 
 fixpoint-same-length-3 : (t : ℕ) → fixpoint-lts.Need-same-length-3 (fixpoint-calls t) (fixpoint-at t) fixpoint.Post fixpoint-Inv-loop fixpoint-μ-loop
-fixpoint-same-length-3 t c = omega (arith, c .before .before .before .before .before .before .before .before .before .before .before .before .before .before .before .before .before .before .before .before .before .before .before .before .before .pre, c .before .before .before .before .before .before .before .before .before .before .before .before .loop .inv, c .before .before .store .kept)
+fixpoint-same-length-3 t c =
+    let the-pre = c .before .before .before .before .before .before .before .before .before .before .before .before .before .before .before .before .before .before .before .before .before .before .before .before .before .pre in
+    let the-loop = c .before .before .before .before .before .before .before .before .before .before .before .before .loop in
+    omega (arith, the-pre, the-loop .inv, c .before .before .store .kept)
 
 fixpoint-returns : (t : ℕ) → fixpoint-lts.Need-returns (fixpoint-calls t) (fixpoint-at t) fixpoint.Post fixpoint-Inv-loop fixpoint-μ-loop
-fixpoint-returns t c = let a = c .before .before .before .before .before .before .before .before .before .before .before .before .before .before .before .before .before .before .before .before .before .before .before .before .before .args in let p = c .before .before .before .before .before .before .before .before .before .before .before .before .before .before .before .before .before .before .before .before .before .before .before .before .before .pre .1 in let l = c .before .before .before .before .before .before .before .before .before .before .before .before .loop in
-    let S = a .table .now in let k : ℕ = nodeAt S (a .i) .kind in let x : ℕ = c .before .before .before .before .before .before .before .before .before .before .before .before .before .before .before .before .before .before .number .result in let b : ℕ = c .before .before .before .before .before .before .before .before .before .before .before .before .before .before .before .before .before .left-child .result in
+fixpoint-returns t c =
+    let the-number = c .before .before .before .before .before .before .before .before .before .before .before .before .before .before .before .before .before .before .number in
+    let the-left-child = c .before .before .before .before .before .before .before .before .before .before .before .before .before .before .before .before .before .left-child in
+    let the-loop-test = c .before .before .before .before .before .before .before .before .before .before .before .loop-test in
+    let the-load = c .before .before .before .before .before .before .before .before .before .before .before .before .before .before .before .load in
+    let a = c .before .before .before .before .before .before .before .before .before .before .before .before .before .before .before .before .before .before .before .before .before .before .before .before .before .args in let p = c .before .before .before .before .before .before .before .before .before .before .before .before .before .before .before .before .before .before .before .before .before .before .before .before .before .pre .1 in let l = c .before .before .before .before .before .before .before .before .before .before .before .before .loop in
+    let S = a .table .now in let k : ℕ = nodeAt S (a .i) .kind in let x : ℕ = the-number .result in let b : ℕ = the-left-child .result in
     let env₁ = c .before .before .before .before .before .before .before .before .assign2 .last .1 .0 in let fresh₁ = c .before .before .before .before .before .before .before .before .assign2 .last .1 .1 .0 in
-    let out : (l .moved ≡ false) ⊎ (setSlots ≤ l .rounds) = ⊎-elim (λ u. inr (ltb-false (l .rounds) setSlots (u .1 .left))) (λ u. inl (u .left)) (c .before .before .before .before .before .before .before .before .before .before .before .loop-test .came) in
-    let kept = restored (a .site .now) S (a .env .now) (l .env) (l .fresh) (l .work) k x b (l .set) (l .rounds) (l .moved) (l .inv) env₁ (c .before .before .before .before .before .before .before .before .before .before .before .before .before .before .before .load .result) (c .before .before .before .before .before .before .before .before .assign2 .ensures .0) (c .before .before .before .before .before .before .before .before .before .before .before .before .before .before .before .load .ensures) in
+    let out : (l .moved ≡ false) ⊎ (setSlots ≤ l .rounds) = ⊎-elim (λ u. inr (ltb-false (l .rounds) setSlots (u .1 .left))) (λ u. inl (u .left)) (the-loop-test .came) in
+    let kept = restored (a .site .now) S (a .env .now) (l .env) (l .fresh) (l .work) k x b (l .set) (l .rounds) (l .moved) (l .inv) env₁ (the-load .result) (c .before .before .before .before .before .before .before .before .assign2 .ensures .0) (the-load .ensures) in
     let value = rounds-done (a .site .now) S (a .env .now) (l .env) (l .fresh) (l .work) k x b (l .set) (l .rounds) (l .moved) (l .inv) out in
     finish (a .site .now) S (a .env .now) env₁ fresh₁ (l .work) (c .before .before .store .last .0) (a .i) _ kept
-    (good-moved (a .site .now) S (a .free .now) (l .env) env₁ (l .fresh) fresh₁ (l .work) (length S / 6) x (has (c .before .before .before .before .before .before .before .before .before .before .before .before .before .before .before .load .result)) (p .0 .rows) (c .before .before .before .before .before .before .before .before .before .before .before .before .before .before .before .before .before .before .number .ensures .1) (omega arith) (l .inv .good) (c .before .before .before .before .before .before .before .before .assign2 .ensures .0) (c .before .before .before .before .before .before .before .before .assign2 .ensures .1))
+    (good-moved (a .site .now) S (a .free .now) (l .env) env₁ (l .fresh) fresh₁ (l .work) (length S / 6) x (has (the-load .result)) (p .0 .rows) (loop-variable (p .1 .1) (the-number .ensures .1)) (omega arith) (l .inv .good) (c .before .before .before .before .before .before .before .before .assign2 .ensures .0) (c .before .before .before .before .before .before .before .before .assign2 .ensures .1))
     (c .before .before .store .ensures)
-    (λ s h. value s h ∙ sym (is-loop S (p .0 .fits) (a .i) (p .1 .0) (siteOf (a .site .now)) (setAt (a .env .now)) x b (c .before .before .before .before .before .before .before .before .before .before .before .before .before .before .before .before .before .before .number .ensures .0) (c .before .before .before .before .before .before .before .before .before .before .before .before .before .before .before .before .before .left-child .ensures .0) (p .1 .1 .0) (p .1 .1 .1) s h))
+    (λ s h. value s h ∙ sym (is-loop S (p .0 .fits) (a .i) (p .1 .0) (siteOf (a .site .now)) (setAt (a .env .now)) x b (the-number .ensures .0) (the-left-child .ensures .0) (p .1 .1 .0) (p .1 .1 .1) s h))
 
 abbrev unary-calls : ℕ → unary-lts.Claims
 unary-calls t = (left-child-reads.Asked, left-child-reads.Learnt, eval-below t, eval.Post, load-reads.Asked, load-reads.Learnt, put-unary-reads.Asked, put-unary-reads.Learnt)
@@ -356,29 +446,45 @@ unary-left-child-requires : (t : ℕ) → unary-lts.Need-left-child-requires (un
 unary-left-child-requires t c κs = let p = c .before .before .before .before .before .before .pre .1 in (p .0 .fits, (p .1 .0, unary-left _ (p .1 .1)))
 
 unary-eval-requires : (t : ℕ) → unary-lts.Need-eval-requires (unary-calls t) (unary-at t) unary.Post
-unary-eval-requires t c κs = let p = c .before .before .before .before .before .before .before .before .before .before .pre .1 in (omega (arith, c .before .before .before .before .before .before .before .before .before .before .pre, c .before .before .before .left-child .ensures), (p .0, omega (arith, p .1 .0, c .before .before .before .left-child .ensures)))
+unary-eval-requires t c κs =
+    let the-pre = c .before .before .before .before .before .before .before .before .before .before .pre in
+    let p = c .before .before .before .before .before .before .before .before .before .before .pre .1 in (omega (arith, the-pre, c .before .before .before .left-child .ensures), (p .0, omega (arith, p .1 .0, c .before .before .before .left-child .ensures)))
 
 unary-load-requires : (t : ℕ) → unary-lts.Need-load-requires (unary-calls t) (unary-at t) unary.Post
-unary-load-requires t c κs = omega (arith, c .before .before .before .before .before .before .before .before .before .before .before .before .before .before .before .before .before .before .pre, c .before .before .before .before .before .before .before .before .before .before .before .left-child .ensures, c .before .before .before .before .before .before .before .eval .kept)
+unary-load-requires t c κs =
+    let the-pre = c .before .before .before .before .before .before .before .before .before .before .before .before .before .before .before .before .before .before .pre in
+    let the-left-child = c .before .before .before .before .before .before .before .before .before .before .before .left-child in
+    omega (arith, the-pre, the-left-child .ensures, c .before .before .before .before .before .before .before .eval .kept)
 
 unary-put-unary-requires : (t : ℕ) → unary-lts.Need-put-unary-requires (unary-calls t) (unary-at t) unary.Post
-unary-put-unary-requires t c κs = let p = c .before .before .before .before .before .before .before .before .before .before .before .before .before .before .before .before .before .before .before .before .pre .1 in (p .0 .site-size, (p .1 .0, (omega (arith, c .before .before .before .before .before .before .before .before .before .before .before .before .before .before .before .before .before .before .before .before .pre, c .before .before .before .before .before .before .before .before .before .eval .kept), p .1 .1)))
+unary-put-unary-requires t c κs =
+    let the-pre = c .before .before .before .before .before .before .before .before .before .before .before .before .before .before .before .before .before .before .before .before .pre in
+    let the-eval = c .before .before .before .before .before .before .before .before .before .eval in
+    let p = c .before .before .before .before .before .before .before .before .before .before .before .before .before .before .before .before .before .before .before .before .pre .1 in (p .0 .site-size, (p .1 .0, (omega (arith, the-pre, the-eval .kept), p .1 .1)))
 
 unary-same-length : (t : ℕ) → unary-lts.Need-same-length (unary-calls t) (unary-at t) unary.Post
-unary-same-length t c = omega (arith, c .before .before .before .before .before .before .before .before .before .before .before .before .eval .kept, c .before .before .put-unary .kept)
+unary-same-length t c =
+    let the-eval = c .before .before .before .before .before .before .before .before .before .before .before .before .eval in
+    omega (arith, the-eval .kept, c .before .before .put-unary .kept)
 
 unary-same-length-2 : (t : ℕ) → unary-lts.Need-same-length-2 (unary-calls t) (unary-at t) unary.Post
-unary-same-length-2 t c = omega (arith, c .before .before .before .before .before .before .before .before .before .before .before .before .eval .kept, c .before .before .put-unary .kept)
+unary-same-length-2 t c =
+    let the-eval = c .before .before .before .before .before .before .before .before .before .before .before .before .eval in
+    omega (arith, the-eval .kept, c .before .before .put-unary .kept)
 
 unary-same-length-3 : (t : ℕ) → unary-lts.Need-same-length-3 (unary-calls t) (unary-at t) unary.Post
-unary-same-length-3 t c = omega (arith, c .before .before .before .before .before .before .before .before .before .before .before .before .eval .kept, c .before .before .put-unary .kept)
+unary-same-length-3 t c =
+    let the-eval = c .before .before .before .before .before .before .before .before .before .before .before .before .eval in
+    omega (arith, the-eval .kept, c .before .before .put-unary .kept)
 
 unary-returns : (t : ℕ) → unary-lts.Need-returns (unary-calls t) (unary-at t) unary.Post
-unary-returns t c = let a = c .before .before .before .before .before .before .before .before .before .before .before .before .before .before .before .before .before .before .before .before .before .before .before .args in let p = c .before .before .before .before .before .before .before .before .before .before .before .before .before .before .before .before .before .before .before .before .before .before .before .pre .1 in let d = c .before .before .before .before .before .before .before .before .before .before .before .before .eval .ensures in let e = c .before .before .before .before .before .before .before .before .before .before .before .before .eval .last .1 .1 .1 in
+unary-returns t c =
+    let the-left-child = c .before .before .before .before .before .before .before .before .before .before .before .before .before .before .before .before .left-child in
+    let a = c .before .before .before .before .before .before .before .before .before .before .before .before .before .before .before .before .before .before .before .before .before .before .before .args in let p = c .before .before .before .before .before .before .before .before .before .before .before .before .before .before .before .before .before .before .before .before .before .before .before .pre .1 in let d = c .before .before .before .before .before .before .before .before .before .before .before .before .eval .ensures in let e = c .before .before .before .before .before .before .before .before .before .before .before .before .eval .last .1 .1 .1 in
     let S = a .table .now in let P = has (c .before .before .before .before .load .result) in
     finish (a .site .now) S (a .env .now) (e .0) (e .1 .0) (e .1 .1 .0) (c .before .before .put-unary .last .1 .1 .0) (a .i) (applied (siteOf (a .site .now)) (nodeAt S (a .i)) P P) (d .kept) (d .good) (c .before .before .put-unary .ensures)
     (is-unary S (p .0 .fits) (a .i) (p .1 .0) (siteOf (a .site .now)) (setAt (a .env .now)) P P
-    (child (a .site .now) S (a .env .now) (e .0) (e .1 .0) (e .1 .1 .0) (c .before .before .before .before .before .before .before .before .before .before .before .before .before .before .before .before .left-child .result) (nodeAt S (a .i) .left) P d (c .before .before .before .before .load .ensures) (c .before .before .before .before .before .before .before .before .before .before .before .before .before .before .before .before .left-child .ensures .0)) (p .1 .1))
+    (child (a .site .now) S (a .env .now) (e .0) (e .1 .0) (e .1 .1 .0) (the-left-child .result) (nodeAt S (a .i) .left) P d (c .before .before .before .before .load .ensures) (the-left-child .ensures .0)) (p .1 .1))
 
 pub +binary+compute+eval+fixpoint+unary-spec : {M : Type 1} → statement M
 +binary+compute+eval+fixpoint+unary-spec =

@@ -23,7 +23,7 @@ use Rattle.condition.specs.Bytes.{tableOf}
 use Rattle.condition.specs.Laws.Bytes.{length-table}
 use Rattle.condition.specs.Laws.Verdict.{Sound}
 use Rattle.even_rule.specs.Free.{FreeRows}
-use Rattle.listing_sets.specs.Places.{setAt, Written}
+use Rattle.listing_sets.specs.Places.{envBytes, setAt, Written}
 use Rattle.listing.specs.Listed.{workBytes}
 use Rattle.listing.specs.State.{Good, Ready, Done}
 
@@ -58,7 +58,7 @@ closed-eval φ k c M ρ σ =
 
 -- at the start no flag is set
 pub none-known : (site S rows work : List ℕ) → length site ≡ siteBytes → Sound S → FreeRows S rows → length rows ≡ tableNodes → length work ≡ workBytes
-    → Ready site S rows (replicate 512 0) (replicate tableNodes 0) work
+    → Ready site S rows (replicate envBytes 0) (replicate tableNodes 0) work
 unfolding Good
 none-known site S rows work hs sound f hr hw =
     record {
@@ -67,7 +67,7 @@ none-known site S rows work hs sound f hr hw =
       fits = sound .fits;
       rows = f;
       free-size = hr;
-      env-size = length-replicate {A = ℕ} 512 0;
+      env-size = length-replicate {A = ℕ} envBytes 0;
       fresh-size = length-replicate {A = ℕ} tableNodes 0;
       work-size = hw;
       good = λ j h e.

@@ -3,12 +3,20 @@ use mathlib.Core.Path.{_≡_}
 use mathlib.Core.Logic.{_⊎_, inl, inr}
 use Prim.Native.Nat.{ℕ, _≤_, _<_}
 use native.Mathlib.Omega.{arith}
+use Rattle.limits.specs.Limits.{variables, notNo, diaNo, boxNo, muNo, nuNo}
 use Rattle.finite.specs.Laws.Bools.{either}
 use Rattle.finite.specs.Laws.Below.{equal?}
+use Rattle.semantics.specs.Table.{kindOf}
+use Rattle.condition.specs.Limits.{paramLimit}
+use Rattle.condition.specs.Laws.Limits.{limit-loop}
 
 -- a not, diamond or box has a left child
-pub unary-left : (k : ℕ) → (k ≡ 5) ⊎ ((k ≡ 8) ⊎ (k ≡ 9)) → (5 ≤ k) × (k ≤ 11)
+pub unary-left : (k : ℕ) → (k ≡ notNo) ⊎ ((k ≡ diaNo) ⊎ (k ≡ boxNo)) → (notNo ≤ k) × (k ≤ nuNo)
 unary-left k q = either q (λ e. omega arith) (λ r. either r (λ e. omega arith) (λ e. omega arith))
 
-pub modal-in : (k : ℕ) → 8 ≤ k → k < 10 → (k ≡ 8) ⊎ (k ≡ 9)
-modal-in k h l = either (equal? k 8) inl (λ n. inr (omega arith))
+pub modal-in : (k : ℕ) → diaNo ≤ k → k < muNo → (k ≡ diaNo) ⊎ (k ≡ boxNo)
+modal-in k h l = either (equal? k diaNo) inl (λ n. inr (omega arith))
+
+-- the variable of a loop is one
+pub loop-variable : {k x : ℕ} → (muNo ≤ k) × (k ≤ nuNo) → x < paramLimit (kindOf k) → x < variables
+loop-variable {k} h l = rw (limit-loop k (h .0) (h .1)) at l

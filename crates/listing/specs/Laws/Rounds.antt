@@ -19,7 +19,7 @@ use Rattle.semantics.specs.Laws.FixedPoint.{iter}
 use Rattle.semantics.specs.Laws.Agree.{_≐_, eval-agree, eval-put, iter-rest}
 use Rattle.site.specs.Site.{siteOf}
 use Rattle.condition.specs.Bytes.{tableOf}
-use Rattle.listing_sets.specs.Places.{setAt, Written, Cleared}
+use Rattle.listing_sets.specs.Places.{envBytes, setAt, Written, Cleared}
 use Rattle.listing_sets.specs.Nodes.{startOf}
 use Rattle.listing.specs.Listed.{workBytes}
 use Rattle.listing.specs.State.{nodeSet, Good, Ready, Done}
@@ -36,7 +36,7 @@ round-same site S env x b P Q e = eval-put (siteOf site) (treeAt (tableOf S) b) 
 -- after some rounds: of the environment only x has moved; the set is that of the rounds, and if it did not move, a further round gives it back
 pub record Rounds (site S env₀ env fresh work : List ℕ) (k x b : ℕ) (set : List ℕ) (rounds : ℕ) (moved : Bool) : Type 0 where
   pub few : rounds ≤ setSlots
-  pub env-size : length env ≡ 512
+  pub env-size : length env ≡ envBytes
   pub fresh-size : length fresh ≡ tableNodes
   pub work-size : length work ≡ workBytes
   pub rest : (v : ℕ) → v ≢ x → setAt env v ≐ setAt env₀ v
@@ -87,7 +87,7 @@ module _ (site S env₀ env fresh work : List ℕ) (k x b : ℕ) (set : List ℕ
 
     -- one more round
     pub rounds-more : (env₂ fresh₂ work₂ next : List ℕ) (q : Bool) → rounds < setSlots → Done site S env₁ env₂ fresh₂ work₂ b
-        → has next ≐ setAt work₂ b → (q ≡ true → set ≡ next) → length env₂ ≡ 512 → length fresh₂ ≡ tableNodes → length work₂ ≡ workBytes
+        → has next ≐ setAt work₂ b → (q ≡ true → set ≡ next) → length env₂ ≡ envBytes → length fresh₂ ≡ tableNodes → length work₂ ≡ workBytes
         → Rounds site S env₀ env₂ fresh₂ work₂ k x b next (rounds + 1) (not q)
     unfolding iter
     rounds-more env₂ fresh₂ work₂ next q lt d en eq he hf hw =

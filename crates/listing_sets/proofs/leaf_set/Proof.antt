@@ -1,13 +1,13 @@
 -- Each kind of leaf by the law of its set.
-use mathlib.Core.Path.{sym, _∙_, ap}
+use mathlib.Core.Path.{_≡_, sym, _∙_, ap}
 use Prim.Native.Nat.{ℕ, _<_}
 use native.Mathlib.Omega.{arith}
 use borrow.Author.Needs.{needs}
 use Rattle.finite.specs.Tests.{same}
 use Rattle.semantics.specs.Laws.FixedPoint.{full}
-use Rattle.limits.specs.Limits.{slots}
+use Rattle.limits.specs.Limits.{slots, labelNo, nameNo, varNo, slotNo}
 use Rattle.site.specs.Site.{siteOf}
-use Rattle.condition.specs.Laws.Limits.{limit-name}
+use Rattle.condition.specs.Laws.Limits.{limit-label, limit-name, limit-variable}
 use Rattle.condition.specs.Bytes.{nodeAt}
 use Rattle.listing_sets.specs.Laws.Nodes.{here-set, label-set, is-true, is-here, is-label, is-name, is-variable, is-slot}
 use Rattle.listing_sets.specs.Places.{setAt}
@@ -24,28 +24,46 @@ load-requires : tie.Need-load-requires
 load-requires c κs = search needs
 
 number-requires : tie.Need-number-requires
-number-requires c κs = let a = c .before .before .before .before .before .args in let p = c .before .before .before .before .before .pre in (p .1 .0, (p .1 .1 .0, limit-name (nodeAt (a .table .now) (a .i) .kind) (omega arith) (omega arith)))
+number-requires c κs = let p = c .before .before .before .before .before .pre in (p .1 .0, p .1 .1 .0)
 
 add-load : tie.Need-add-load
-add-load c = omega arith
+add-load c =
+    let a = c .before .before .before .before .before .before .args in
+    let e : nodeAt (a .table .now) (a .i) .kind ≡ labelNo = omega arith in
+    let few = rw (limit-label e) at (c .number .ensures .1) in
+    omega (arith, few)
 
 load-requires-2 : tie.Need-load-requires-2
-load-requires-2 c κs = search needs
+load-requires-2 c κs =
+    let a = c .before .before .before .before .before .before .args in
+    let p = c .before .before .before .before .before .before .pre in
+    let e : nodeAt (a .table .now) (a .i) .kind ≡ labelNo = omega arith in
+    let few = rw (limit-label e) at (c .number .ensures .1) in
+    omega (arith, few, p)
 
 number-requires-2 : tie.Need-number-requires-2
-number-requires-2 c κs = let a = c .before .before .before .before .before .args in let p = c .before .before .before .before .before .pre in (p .1 .0, (p .1 .1 .0, limit-name (nodeAt (a .table .now) (a .i) .kind) (omega arith) (omega arith)))
+number-requires-2 c κs = let p = c .before .before .before .before .before .pre in (p .1 .0, p .1 .1 .0)
 
 place-requires : tie.Need-place-requires
-place-requires c κs = search needs
+place-requires c κs =
+    let a = c .before .before .before .before .before .before .args in
+    let p = c .before .before .before .before .before .before .pre in
+    let e : nodeAt (a .table .now) (a .i) .kind ≡ nameNo = omega arith in
+    (p .0 .0, rw (limit-name e) at (c .number2 .ensures .1))
 
 single-requires : tie.Need-single-requires
 single-requires c κs = search needs
 
 number-requires-3 : tie.Need-number-requires-3
-number-requires-3 c κs = let a = c .before .before .before .before .before .args in let p = c .before .before .before .before .before .pre in (p .1 .0, (p .1 .1 .0, limit-name (nodeAt (a .table .now) (a .i) .kind) (omega arith) (omega arith)))
+number-requires-3 c κs = let p = c .before .before .before .before .before .pre in (p .1 .0, p .1 .1 .0)
 
 load-requires-3 : tie.Need-load-requires-3
-load-requires-3 c κs = search needs
+load-requires-3 c κs =
+    let a = c .before .before .before .before .before .before .args in
+    let p = c .before .before .before .before .before .before .pre in
+    let e : nodeAt (a .table .now) (a .i) .kind ≡ varNo = omega arith in
+    let few = rw (limit-variable e) at (c .number3 .ensures .1) in
+    omega (arith, few, p)
 
 param-requires : tie.Need-param-requires
 param-requires c κs = search needs
@@ -67,7 +85,8 @@ returns-2 c = λ s h. let a = c .before .before .before .before .before .before 
 
 returns-3 : tie.Need-returns-3
 returns-3 c = λ s h. let a = c .before .before .before .before .before .before .before .args in let p = c .before .before .before .before .before .before .before .pre in
-    c .load2 .ensures s h ∙ label-set (a .site .now) (c .before .number .result) (c .before .number .ensures .1) s h ∙ ap (λ (n : ℕ). siteOf (a .site .now) .marked n s) (c .before .number .ensures .0)
+    let e : nodeAt (a .table .now) (a .i) .kind ≡ labelNo = omega arith in
+    c .load2 .ensures s h ∙ label-set (a .site .now) (c .before .number .result) (rw (limit-label e) at (c .before .number .ensures .1)) s h ∙ ap (λ (n : ℕ). siteOf (a .site .now) .marked n s) (c .before .number .ensures .0)
     ∙ sym (is-label (a .table .now) (p .1 .0) (a .i) (p .1 .1 .0) (siteOf (a .site .now)) (setAt (a .env .now)) s (omega arith))
 
 returns-4 : tie.Need-returns-4
@@ -84,7 +103,7 @@ returns-5 c = λ s h. let a = c .before .before .before .before .before .before 
 returns-6 : tie.Need-returns-6
 unfolding slots
 returns-6 c = λ s h. let a = c .before .before .before .before .before .before .before .before .args in let p = c .before .before .before .before .before .before .before .before .pre in let k = c .before .before .before .before .kind .ensures in let no = c .before .before .before .match .rest in
-    let past : ¬ (nodeAt (a .table .now) (a .i) .kind < 12) = λ l. p .1 .1 .1 (omega (arith, no .0 .0 .0 .0 .1, no .0 .0 .0 .1, no .0 .0 .1, no .0 .1, no .1)) (omega arith) in
+    let past : ¬ (nodeAt (a .table .now) (a .i) .kind < slotNo) = λ l. p .1 .1 .1 (omega (arith, no .0 .0 .0 .0 .1, no .0 .0 .0 .1, no .0 .0 .1, no .0 .1, no .1)) (omega arith) in
     c .single2 .ensures s h ∙ ap (same s) (c .before .wide .ensures .0 ∙ c .before .before .param .ensures)
     ∙ sym (is-slot (a .table .now) (p .1 .0) (a .i) (p .1 .1 .0) (siteOf (a .site .now)) (setAt (a .env .now)) s (omega arith))
 

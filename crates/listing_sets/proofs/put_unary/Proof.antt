@@ -9,7 +9,7 @@ use Rattle.finite.specs.Tests.{any, all}
 use Rattle.bitset.specs.Set.{has}
 use Rattle.semantics.specs.Table.{wayOf}
 use Rattle.semantics.specs.Holds.{step}
-use Rattle.limits.specs.Limits.{slots}
+use Rattle.limits.specs.Limits.{slots, boxNo}
 use Rattle.site.specs.Site.{siteOf}
 use Rattle.condition.specs.Bytes.{nodeAt}
 use Rattle.listing_sets.specs.Laws.Nodes.{makes-not, makes-diamond, makes-box}
@@ -68,9 +68,11 @@ same-length-3 : tie.Need-same-length-3
 same-length-3 c = search needs
 
 returns-3 : tie.Need-returns-3
-returns-3 c = let a = c .before .before .before .before .before .before .before .before .before .before .before .before .args in let M = siteOf (a .site .now) in
-    let e : nodeAt (a .table .now) (a .i) .kind ≡ 9 =
-    either (c .before .before .before .before .before .before .before .before .before .before .before .before .pre .1 .1 .1) (λ p. absurd (c .before .before .before .before .before .before .before .if1 .left (c .before .before .before .before .before .before .before .before .kind .ensures ∙ p))) (λ q. either q (λ p. absurd (c .before .before .before .before .before .if2 .left (c .before .before .before .before .before .before .before .before .kind .ensures ∙ p))) (λ p. p)) in
+returns-3 c =
+    let the-pre = c .before .before .before .before .before .before .before .before .before .before .before .before .pre in
+    let a = c .before .before .before .before .before .before .before .before .before .before .before .before .args in let M = siteOf (a .site .now) in
+    let e : nodeAt (a .table .now) (a .i) .kind ≡ boxNo =
+    either (the-pre .1 .1 .1) (λ p. absurd (c .before .before .before .before .before .before .before .if1 .left (c .before .before .before .before .before .before .before .before .kind .ensures ∙ p))) (λ q. either q (λ p. absurd (c .before .before .before .before .before .if2 .left (c .before .before .before .before .before .before .before .before .kind .ensures ∙ p))) (λ p. p)) in
     record {
       here = λ s h. c .before .before .store3 .ensures .here s h ∙ c .before .before .before .before .boxed .ensures s (slot-in h)
           ∙ ap (λ (w : ℕ). all slots (λ t. not (step M (wayOf w) s t) || has (a .set) t)) (c .before .before .before .before .before .before .param .ensures)

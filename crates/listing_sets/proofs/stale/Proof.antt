@@ -4,13 +4,14 @@ use mathlib.Core.Logic.{⊎-elim}
 use Prim.Native.Nat.{_-_, _≤_}
 use native.Mathlib.Omega.{arith}
 use lib.ListN.{length, length-set}
+use Rattle.limits.specs.Limits.{tableNodes}
 use Rattle.listing_sets.specs.Laws.Places.{cleared-none, cleared-node, cleared-other}
 use Rattle.listing_sets.specs.Places.{Cleared}
 use Rattle.listing_sets.proofs.stale.Statement.{statement}
 use Rattle.listing_sets.proofs.stale.Tie as tie
 
 abbrev Inv-loop : tie.InvT-loop
-Inv-loop free fresh₀ n x j₀ fresh j = (j ≤ n) × (length fresh ≡ 2048) × Cleared free fresh₀ fresh j x
+Inv-loop free fresh₀ n x j₀ fresh j = (j ≤ n) × (length fresh ≡ tableNodes) × Cleared free fresh₀ fresh j x
 
 abbrev μ-loop : tie.MeasureT-loop
 μ-loop free fresh₀ n x j₀ fresh j = n - j

@@ -10,7 +10,7 @@ use Rattle.finite.specs.Tests.{same, any, all}
 use Rattle.finite.specs.Laws.Bools.{either}
 use Rattle.finite.specs.Laws.Below.{equal?, eq-same, ne-same, any-cong, all-cong}
 use Rattle.bitset.specs.Set.{setSlots, has}
-use Rattle.limits.specs.Limits.{slots, labels}
+use Rattle.limits.specs.Limits.{slots, labels, trueNo, hereNo, labelNo, nameNo, varNo, notNo, orNo, andNo, diaNo, boxNo, muNo, nuNo, slotNo}
 use Rattle.semantics.specs.Form.{Form, var}
 use Rattle.semantics.specs.Holds.{Set, Env, put, Model, step}
 use Rattle.semantics.specs.Table.{kTrue, kHere, kLabel, kName, kVar, kSlot, kNot, kDia, kBox, kMu, kNu, kOr, kAnd, Kind, leaf, unary, binary, kindOf, wayOf, Node, atom, one, two, build, treeAt, nodesFit}
@@ -47,27 +47,27 @@ module _ (S : List ℕ) (f : nodesFit 0 (tableOf S) ≡ true) (i : ℕ) (h : 6 *
 
   -- leaves, by the kind's number
   module _ (s : ℕ) where
-    pub is-true : nodeAt S i .kind ≡ 0 → eval M ρ (treeAt (tableOf S) i) s ≡ true
+    pub is-true : nodeAt S i .kind ≡ trueNo → eval M ρ (treeAt (tableOf S) i) s ≡ true
     unfolding eval build atom kindOf
     is-true e = node-eval (leaf kTrue) (ap kindOf e) s
 
-    pub is-here : nodeAt S i .kind ≡ 1 → eval M ρ (treeAt (tableOf S) i) s ≡ M .present s
+    pub is-here : nodeAt S i .kind ≡ hereNo → eval M ρ (treeAt (tableOf S) i) s ≡ M .present s
     unfolding eval build atom kindOf
     is-here e = node-eval (leaf kHere) (ap kindOf e) s
 
-    pub is-label : nodeAt S i .kind ≡ 2 → eval M ρ (treeAt (tableOf S) i) s ≡ M .marked (nodeAt S i .param) s
+    pub is-label : nodeAt S i .kind ≡ labelNo → eval M ρ (treeAt (tableOf S) i) s ≡ M .marked (nodeAt S i .param) s
     unfolding eval build atom kindOf
     is-label e = node-eval (leaf kLabel) (ap kindOf e) s
 
-    pub is-name : nodeAt S i .kind ≡ 3 → eval M ρ (treeAt (tableOf S) i) s ≡ same s (M .place (nodeAt S i .param))
+    pub is-name : nodeAt S i .kind ≡ nameNo → eval M ρ (treeAt (tableOf S) i) s ≡ same s (M .place (nodeAt S i .param))
     unfolding eval build atom kindOf
     is-name e = node-eval (leaf kName) (ap kindOf e) s
 
-    pub is-variable : nodeAt S i .kind ≡ 4 → eval M ρ (treeAt (tableOf S) i) s ≡ ρ (nodeAt S i .param) s
+    pub is-variable : nodeAt S i .kind ≡ varNo → eval M ρ (treeAt (tableOf S) i) s ≡ ρ (nodeAt S i .param) s
     unfolding eval build atom kindOf
     is-variable e = node-eval (leaf kVar) (ap kindOf e) s
 
-    pub is-slot : 12 ≤ nodeAt S i .kind → eval M ρ (treeAt (tableOf S) i) s ≡ same s (nodeAt S i .param)
+    pub is-slot : slotNo ≤ nodeAt S i .kind → eval M ρ (treeAt (tableOf S) i) s ≡ same s (nodeAt S i .param)
     unfolding eval build atom
     is-slot l = node-eval (leaf kSlot) (kind-past (nodeAt S i .kind) l) s
 
@@ -78,30 +78,30 @@ module _ (M : Model) (x : Node) (P Q : Set) (s : ℕ) where
   unfolding applied
   applied-kind k e = ap (λ (j : Kind). eval M (λ v. cond (same v 0) P Q) (build j (x .param) (var 0) (var 1)) s) e
 
-  pub makes-not : x .kind ≡ 5 → applied M x P Q s ≡ not (P s)
+  pub makes-not : x .kind ≡ notNo → applied M x P Q s ≡ not (P s)
   unfolding eval build one kindOf same
   makes-not e = applied-kind (unary kNot) (ap kindOf e)
 
-  pub makes-or : x .kind ≡ 6 → applied M x P Q s ≡ (P s || Q s)
+  pub makes-or : x .kind ≡ orNo → applied M x P Q s ≡ (P s || Q s)
   unfolding eval build two kindOf same
   makes-or e = applied-kind (binary kOr) (ap kindOf e)
 
-  pub makes-and : x .kind ≡ 7 → applied M x P Q s ≡ (P s && Q s)
+  pub makes-and : x .kind ≡ andNo → applied M x P Q s ≡ (P s && Q s)
   unfolding eval build two kindOf same
   makes-and e = applied-kind (binary kAnd) (ap kindOf e)
 
-  pub makes-diamond : x .kind ≡ 8 → applied M x P Q s ≡ any slots (λ t. step M (wayOf (x .param)) s t && P t)
+  pub makes-diamond : x .kind ≡ diaNo → applied M x P Q s ≡ any slots (λ t. step M (wayOf (x .param)) s t && P t)
   unfolding eval build one kindOf same
   makes-diamond e = applied-kind (unary kDia) (ap kindOf e)
 
-  pub makes-box : x .kind ≡ 9 → applied M x P Q s ≡ all slots (λ t. not (step M (wayOf (x .param)) s t) || P t)
+  pub makes-box : x .kind ≡ boxNo → applied M x P Q s ≡ all slots (λ t. not (step M (wayOf (x .param)) s t) || P t)
   unfolding eval build one kindOf same
   makes-box e = applied-kind (unary kBox) (ap kindOf e)
 
 -- so the set of a node that is no loop is what it makes of its children's sets
 module _ (S : List ℕ) (f : nodesFit 0 (tableOf S) ≡ true) (i : ℕ) (h : 6 * i + 6 ≤ length S) (M : Model) (ρ : Env) (P Q : Set)
     (l : P ≐ eval M ρ (treeAt (tableOf S) (nodeAt S i .left))) where
-  pub is-unary : (nodeAt S i .kind ≡ 5) ⊎ ((nodeAt S i .kind ≡ 8) ⊎ (nodeAt S i .kind ≡ 9)) → applied M (nodeAt S i) P Q ≐ eval M ρ (treeAt (tableOf S) i)
+  pub is-unary : (nodeAt S i .kind ≡ notNo) ⊎ ((nodeAt S i .kind ≡ diaNo) ⊎ (nodeAt S i .kind ≡ boxNo)) → applied M (nodeAt S i) P Q ≐ eval M ρ (treeAt (tableOf S) i)
   unfolding eval build one kindOf
   is-unary (inl e) s k = makes-not M (nodeAt S i) P Q s e ∙ ap not (l s k) ∙ sym (node-eval S f i h M ρ (unary kNot) (ap kindOf e) s)
   is-unary (inr (inl e)) s k =
@@ -113,36 +113,36 @@ module _ (S : List ℕ) (f : nodesFit 0 (tableOf S) ≡ true) (i : ℕ) (h : 6 *
       ∙ all-cong slots _ _ (λ t q. ap (_||_ (not (step M (wayOf (nodeAt S i .param)) s t))) (l t q))
       ∙ sym (node-eval S f i h M ρ (unary kBox) (ap kindOf e) s)
 
-  pub is-binary : 6 ≤ nodeAt S i .kind → nodeAt S i .kind ≤ 7 → Q ≐ eval M ρ (treeAt (tableOf S) (nodeAt S i .right))
+  pub is-binary : orNo ≤ nodeAt S i .kind → nodeAt S i .kind ≤ andNo → Q ≐ eval M ρ (treeAt (tableOf S) (nodeAt S i .right))
       → applied M (nodeAt S i) P Q ≐ eval M ρ (treeAt (tableOf S) i)
   unfolding eval build two kindOf
   is-binary a b r s k =
       either
-      (equal? (nodeAt S i .kind) 6)
+      (equal? (nodeAt S i .kind) orNo)
       (λ e. makes-or M (nodeAt S i) P Q s e ∙ ap₂ _||_ (l s k) (r s k) ∙ sym (node-eval S f i h M ρ (binary kOr) (ap kindOf e) s))
       (λ n.
-      let e : nodeAt S i .kind ≡ 7 = omega arith in
+      let e : nodeAt S i .kind ≡ andNo = omega arith in
       makes-and M (nodeAt S i) P Q s e ∙ ap₂ _&&_ (l s k) (r s k) ∙ sym (node-eval S f i h M ρ (binary kAnd) (ap kindOf e) s))
 
 -- the rounds' start, by the kind's number
-pub mu-start : (k : ℕ) → k ≡ 10 → startOf k ≡ none
+pub mu-start : (k : ℕ) → k ≡ muNo → startOf k ≡ none
 unfolding startOf
 mu-start k e = rw (eq-same e)
 
-pub nu-start : (k : ℕ) → k ≢ 10 → startOf k ≡ full
+pub nu-start : (k : ℕ) → k ≢ muNo → startOf k ≡ full
 unfolding startOf
 nu-start k n = rw (ne-same n)
 
 -- and that of a mu or nu of the variable x and the body b is what the rounds come to
 module _ (S : List ℕ) (f : nodesFit 0 (tableOf S) ≡ true) (i : ℕ) (h : 6 * i + 6 ≤ length S) (M : Model) (ρ : Env) (x b : ℕ)
     (ex : x ≡ nodeAt S i .param) (eb : b ≡ nodeAt S i .left) where
-  pub is-loop : 10 ≤ nodeAt S i .kind → nodeAt S i .kind ≤ 11
+  pub is-loop : muNo ≤ nodeAt S i .kind → nodeAt S i .kind ≤ nuNo
       → eval M ρ (treeAt (tableOf S) i) ≐ iter slots (λ P. eval M (put ρ x P) (treeAt (tableOf S) b)) (startOf (nodeAt S i .kind))
   unfolding eval build one kindOf
   is-loop l u s k =
       either
-      (equal? (nodeAt S i .kind) 10)
+      (equal? (nodeAt S i .kind) muNo)
       (λ e. rw (ex, eb, mu-start _ e) (node-eval S f i h M ρ (unary kMu) (ap kindOf e) s))
       (λ n.
-      let e : nodeAt S i .kind ≡ 11 = omega arith in
+      let e : nodeAt S i .kind ≡ nuNo = omega arith in
       rw (ex, eb, nu-start _ n) (node-eval S f i h M ρ (unary kNu) (ap kindOf e) s))

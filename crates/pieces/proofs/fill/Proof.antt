@@ -4,11 +4,12 @@ use Prim.Native.Nat.{_≤_, _-_}
 use native.Mathlib.Omega.{arith}
 use borrow.Author.Needs.{needs}
 use lib.ListN.{length}
+use Rattle.pieces.specs.Room.{room}
 use Rattle.pieces.proofs.fill.Statement.{statement}
 use Rattle.pieces.proofs.fill.Tie as tie
 
 abbrev Inv-loop : tie.InvT-loop
-Inv-loop piece₀ count k₀ piece k = (length piece ≡ 65536) × (k ≤ count)
+Inv-loop piece₀ count k₀ piece k = (length piece ≡ room) × (k ≤ count)
 
 abbrev μ-loop : tie.MeasureT-loop
 μ-loop piece₀ count k₀ piece k = count - k

@@ -28,7 +28,7 @@ use Rattle.rewriting.specs.Laws.Double.{total, meets, cost, nodes-through}
 use Rattle.refusals.specs.Laws.Items.{buffer-in}
 use Rattle.rewrite_entry.specs.Refusal.{rewriteVerdict}
 use Rattle.rewriting.specs.Rewriting.{TableAfter}
-use Rattle.desk.specs.Demands.{RewriteCall}
+use Rattle.demands.specs.Demands.{RewriteCall}
 use Rattle.sample_bytes.specs.Doubled.{cuts, Doubles}
 use Rattle.sample_bytes.specs.Refused.{NotRewritten}
 use Rattle.sample_bytes.specs.Laws.Refused.{not-rewritten}

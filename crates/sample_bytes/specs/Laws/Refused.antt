@@ -11,7 +11,7 @@ use Rattle.apply_entry.specs.Refusal.{applyVerdict}
 use Rattle.apply_entry.specs.Applying.{SiteAfter}
 use Rattle.rewrite_entry.specs.Refusal.{rewriteVerdict}
 use Rattle.rewriting.specs.Rewriting.{TableAfter}
-use Rattle.desk.specs.Demands.{ApplyCall, RewriteCall, ListCall}
+use Rattle.demands.specs.Demands.{ApplyCall, RewriteCall, ListCall}
 use Rattle.sample_bytes.specs.Refused.{NotApplied, NotRewritten, NotListed}
 
 pub not-applied : {site sheet : List ℕ} (call : ApplyCall site sheet) (item w : ℕ) → applyVerdict (length (call .result)) site sheet ≡ Refused item w

@@ -8,7 +8,7 @@ use lib.ListN.{length}
 use Rattle.finite.specs.Tests.{same, below}
 use Rattle.finite.specs.Laws.Bools.{either, look, and-l, and-r}
 use Rattle.finite.specs.Laws.Below.{same-eq, below-out}
-use Rattle.limits.specs.Limits.{labels, names, links}
+use Rattle.limits.specs.Limits.{labels, names, links, tableNodes}
 use Rattle.samples.specs.Site.{each, Small, nameAt, model, siteA, ring}
 use Rattle.samples.specs.Rows.{Expected, lists, stuckAt, oddAt, Row, tableR, tableName, tableLoop, rows}
 use Rattle.samples.specs.Laws.Site.{some-each}
@@ -30,14 +30,14 @@ bytes = each (λ b. below b 256)
 
 -- the table that is expected fits its buffer
 unfoldable pub expectedFits : Expected → Bool
-expectedFits (lists S c k) = below k 2049
+expectedFits (lists S c k) = below k (suc tableNodes)
 expectedFits (stuckAt w) = true
 expectedFits (oddAt w) = true
 
 unfoldable pub rowFits : Row → Bool
 rowFits r =
     (inRange (r .site) && (bytes (tableIn r) && bytes (sheetIn r)))
-    && ((below (length (r .table)) 2049 && below (length (r .edits)) 65) && expectedFits (r .expected))
+    && ((below (length (r .table)) (suc tableNodes) && below (length (r .edits)) 65) && expectedFits (r .expected))
 
 pub rows-fit : each rowFits rows ≡ true
 unfolding each rowFits inRange bytes expectedFits below rows siteA ring tableR tableName tableLoop condition.bytesOf condition.nodeBytes sheet.bytesOf sheet.editBytes
@@ -78,7 +78,7 @@ pub record Fits (r : Row) : Type 0 where
   pub range : InRange (model (r .site))
   pub table-bytes : AreBytes (tableIn r)
   pub sheet-bytes : AreBytes (sheetIn r)
-  pub few-nodes : length (r .table) ≤ 2048
+  pub few-nodes : length (r .table) ≤ tableNodes
   pub few-edits : length (r .edits) ≤ 64
   pub as-expected : expectedFits (r .expected) ≡ true
 
@@ -88,13 +88,13 @@ fits-out r p =
     let a = and-l _ _ p in
     let b = and-r (inRange (r .site) && (bytes (tableIn r) && bytes (sheetIn r))) _ p in
     let c = and-r (inRange (r .site)) _ a in
-    let n = below-out (length (r .table)) 2049 (and-l _ _ (and-l _ _ b)) in
-    let m = below-out (length (r .edits)) 65 (and-r (below (length (r .table)) 2049) _ (and-l _ _ b)) in
+    let n = below-out (length (r .table)) (suc tableNodes) (and-l _ _ (and-l _ _ b)) in
+    let m = below-out (length (r .edits)) 65 (and-r (below (length (r .table)) (suc tableNodes)) _ (and-l _ _ b)) in
     record {
       range = range-out (r .site) (and-l _ _ a);
       table-bytes = bytes-out (tableIn r) (and-l _ _ c);
       sheet-bytes = bytes-out (sheetIn r) (and-r (bytes (tableIn r)) _ c);
       few-nodes = omega arith;
       few-edits = omega arith;
-      as-expected = and-r (below (length (r .table)) 2049 && below (length (r .edits)) 65) _ b;
+      as-expected = and-r (below (length (r .table)) (suc tableNodes) && below (length (r .edits)) 65) _ b;
     }

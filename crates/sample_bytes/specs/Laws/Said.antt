@@ -3,7 +3,7 @@ use mathlib.Core.Path.{_≡_, refl, sym, _∙_}
 use mathlib.Core.Logic.{_↔_}
 use mathlib.Core.List.{List, [], _∷_}
 use mathlib.Core.Bool.{true, false}
-use Prim.Native.Nat.{ℕ, _<_, _≤_}
+use Prim.Native.Nat.{ℕ, suc, _<_, _≤_}
 use native.Mathlib.Omega.{arith}
 use lib.ListN.{length}
 use Rattle.finite.specs.Tests.{same, count}
@@ -31,8 +31,8 @@ use Rattle.apply_entry.specs.Refusal.{applyVerdict}
 use Rattle.rewrite_entry.specs.Refusal.{rewriteVerdict}
 use Rattle.rewriting.specs.Rewriting.{TableAfter}
 use Rattle.rewrite_entry.specs.Laws.Refusal.{rewrite-reason}
-use Rattle.desk.specs.Demands.{Runnable, ApplyCall, RewriteCall, ListCall, rewrittenTable, Demand2}
-use Rattle.desk.specs.Laws.Demands.{demand-2}
+use Rattle.demands.specs.Demands.{Runnable, ApplyCall, RewriteCall, ListCall, rewrittenTable, Demand2}
+use Rattle.demands.specs.Laws.Demands.{demand-2}
 use Rattle.sample_bytes.specs.Said.{siteIn, tableIn, sheetIn, Lists, Answers, Written, Returns, AllReturned}
 use Rattle.sample_bytes.specs.Refused.{NotApplied, NotRewritten, NotListed}
 use Rattle.sample_bytes.specs.Laws.Write.{bytes-lt}
@@ -124,7 +124,7 @@ module _ (r : Row) (o : Sound r) (f : Fits r) where
 
   returns : (x : Expected) → expectedFits x ≡ true → Says r x → Returns r x
   unfolding expectedFits
-  returns (lists S c k) e l = let h = below-out k 2049 e in answers S c k l (omega arith)
+  returns (lists S c k) e l = let h = below-out k (suc tableNodes) e in answers S c k l (omega arith)
   returns (stuckAt w) e s = stuck w s
   returns (oddAt w) e d = (unlisted w d, unwritten w d)
 

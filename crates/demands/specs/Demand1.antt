@@ -1,0 +1,83 @@
+-- Demand 1: a planner who hands in a job, of whatever bytes, gets the full answer or one numbered refusal of document 01, and a refusal
+-- leaves zeros in all result and work buffers. Said of the job first, then of each entry point; for all inputs: nothing is asked of bytes
+-- or lengths. That a call returns as `Returned..` says is the contract of its export. A buffer is named twice: as it was, and as it is at
+-- return (′).
+use mathlib.Core.Path.{_≡_}
+use mathlib.Core.Logic.{_≢_}
+use mathlib.Core.List.{List}
+use Prim.Native.Nat.{ℕ, _≤_}
+use lib.ListN.{length, replicate}
+use Rattle.verdict.specs.declared.Verdict.the-variants.{Accepted}
+use Rattle.list_entry.specs.Listing.{SetAfter}
+use Rattle.apply_entry.specs.Applying.{SiteAfter}
+use Rattle.rewriting.specs.Rewriting.{TableAfter}
+use Rattle.classes_entry.specs.Classing.{ClassesAfter}
+use Rattle.trailer.specs.Pieces.{siteIn, conditionIn, sheetIn}
+use Rattle.job_entry.specs.Buffers.{Buffers}
+use Rattle.job_entry.specs.Job.{Left}
+use Rattle.desk.specs.Returned.{ReturnedList, ReturnedApply, ReturnedRewrite, ReturnedClasses, ReturnedJob}
+
+-- the full answer where the reason is 0, and W is then 0; else one of the items 1 to 14, and zeros
+pub record Answers (reason w : ℕ) (Full Zeros : Type 0) : Type 0 where
+  pub numbered : reason ≤ 14
+  pub full : reason ≡ 0 → (w ≡ 0) × Full
+  pub sent-back : reason ≢ 0 → Zeros
+
+-- a buffer is zeros, at the length it had
+abbrev pub Zeroed : (b b′ : List ℕ) → Type 0
+Zeroed b b′ = b′ ≡ replicate (length b) 0
+
+-- ---- the job
+
+-- the site after, the rewritten table, both lists and the classes after, with their counts, from the three pieces of the file
+abbrev pub FullJob : (file : List ℕ) (b b′ : Buffers) (after today nodes classes : ℕ) → Type 0
+FullJob file b b′ after today nodes classes = Left Accepted (siteIn file) (conditionIn file) (sheetIn file) b b′ after today nodes classes
+
+-- the five result buffers and the work buffer are zeros, and the four counts are 0
+pub record ZeroJob (b b′ : Buffers) (after today nodes classes : ℕ) : Type 0 where
+  pub site-zero : Zeroed (b .site) (b′ .site)
+  pub table-zero : Zeroed (b .table) (b′ .table)
+  pub after-zero : Zeroed (b .after) (b′ .after)
+  pub today-zero : Zeroed (b .today) (b′ .today)
+  pub classes-zero : Zeroed (b .classes) (b′ .classes)
+  pub work-zero : Zeroed (b .work) (b′ .work)
+  pub none-after : after ≡ 0
+  pub none-today : today ≡ 0
+  pub no-nodes : nodes ≡ 0
+  pub no-classes : classes ≡ 0
+
+unfoldable pub Demand1Job : Type 0
+Demand1Job =
+    (file : List ℕ) (b b′ : Buffers) (reason w after today nodes classes : ℕ) → ReturnedJob file b b′ reason w after today nodes classes
+    → Answers reason w (FullJob file b b′ after today nodes classes) (ZeroJob b b′ after today nodes classes)
+
+-- ---- the four functions, one by one: what each leaves after the verdict Accepted, or zeros
+
+unfoldable pub Demand1List : Type 0
+Demand1List =
+    (site table set set′ work work′ : List ℕ) (reason w n : ℕ) → ReturnedList site table set set′ work work′ reason w n
+    → Answers reason w (SetAfter Accepted site table set set′ n × Zeroed work work′) (Zeroed set set′ × (Zeroed work work′ × (n ≡ 0)))
+
+unfoldable pub Demand1Apply : Type 0
+Demand1Apply =
+    (site sheet result result′ : List ℕ) (reason w : ℕ) → ReturnedApply site sheet result result′ reason w
+    → Answers reason w (SiteAfter Accepted site sheet result result′) (Zeroed result result′)
+
+unfoldable pub Demand1Rewrite : Type 0
+Demand1Rewrite =
+    (table sheet result result′ : List ℕ) (reason w n : ℕ) → ReturnedRewrite table sheet result result′ reason w n
+    → Answers reason w (TableAfter Accepted table sheet result result′ n) (Zeroed result result′ × (n ≡ 0))
+
+unfoldable pub Demand1Classes : Type 0
+Demand1Classes =
+    (site classes classes′ : List ℕ) (reason w n : ℕ) → ReturnedClasses site classes classes′ reason w n
+    → Answers reason w (ClassesAfter Accepted site classes classes′ n) (Zeroed classes classes′ × (n ≡ 0))
+
+-- ---- all five
+
+pub record Demand1 : Type 0 where
+  pub job : Demand1Job
+  pub listing : Demand1List
+  pub applying : Demand1Apply
+  pub rewriting : Demand1Rewrite
+  pub classes : Demand1Classes

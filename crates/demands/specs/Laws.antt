@@ -1,0 +1,5 @@
+-- The demands, proved.
+pub mod Accepted
+pub mod Demand1
+pub mod Demands
+pub mod Job

@@ -1,0 +1,171 @@
+-- The demands are met.
+use mathlib.Core.Path.{_≡_, _∙_, ap}
+use mathlib.Core.Logic.{Iff·trans}
+use mathlib.Core.Bool.{true}
+use mathlib.Core.List.{List, _++_}
+use Prim.Native.Nat.{ℕ, _*_, _-_, _<_}
+use native.Mathlib.Omega.{arith}
+use lib.ListN.{length, getD, replicate}
+use Rattle.verdict.specs.Verdict.{reasonOf}
+use Rattle.verdict.specs.declared.Verdict.the-variants.{Accepted}
+use Rattle.limits.specs.Limits.{slots, tableBytes}
+use Rattle.semantics.specs.Table.{formOf}
+use Rattle.semantics.specs.Edit as edits
+use Rattle.semantics.specs.Bisimulation.{IsClass}
+use Rattle.semantics.specs.Laws.Demands.{class-undistinguished}
+use Rattle.site.specs.Layout.{siteBytes}
+use Rattle.site.specs.Site.{siteOf}
+use Rattle.site.specs.Refusal.{siteVerdict}
+use Rattle.site.specs.Laws.Valid.{site-valid}
+use Rattle.condition.specs.Bytes.{tableOf, bytesOf}
+use Rattle.condition.specs.Refusal.{conditionVerdict}
+use Rattle.condition.specs.Laws.Bytes.{length-table}
+use Rattle.condition.specs.Laws.Verdict.{accepted-sound}
+use Rattle.sheet.specs.Bytes.{editsOf}
+use Rattle.sheet.specs.Laws.Accepted.{accepted-sheet}
+use Rattle.applying.specs.Laws.After.{after-accepted}
+use Rattle.classes_entry.specs.Refusal.{classesVerdict}
+use Rattle.classes_entry.specs.Classing.{ClassesAfter}
+use Rattle.rewriting.specs.Laws.Accepted.{taken-table, rewritten-accepted}
+use Rattle.listing.specs.Listed.{Listed}
+use Rattle.listing.specs.Laws.Same.{same-lists}
+use Rattle.list_entry.specs.Refusal.{listVerdict}
+use Rattle.list_entry.specs.Listing.{SetAfter}
+use Rattle.apply_entry.specs.Refusal.{applyVerdict}
+use Rattle.apply_entry.specs.Applying.{SiteAfter}
+use Rattle.rewrite_entry.specs.Refusal.{rewriteVerdict}
+use Rattle.rewriting.specs.Rewriting.{TableAfter, rewritten}
+use Rattle.demands.specs.Demands.{ApplyCall, RewriteCall, ListCall, rewrittenTable, Runnable, SameLists, Demand2, Going, Demand3, ClassCall, SameClasses}
+use Rattle.demands.specs.Laws.Accepted.{list-accepted, apply-accepted, rewrite-accepted, classes-accepted}
+
+-- ---- listing an accepted condition on an accepted site
+
+module _ {site table : List ℕ} (a : siteVerdict site ≡ Accepted) (b : conditionVerdict table ≡ Accepted) (c : ListCall site table) where
+  list-goes : listVerdict (length (c .set)) (length (c .work)) site table ≡ Accepted
+  list-goes =
+      list-accepted (length (c .set)) (length (c .work)) site table
+      (record { set-size = c .set-size; work-size = c .work-size; site-accepted = a; table-accepted = b })
+
+  list-reason : c .reason ≡ 0
+  list-reason = c .returned .reason-is ∙ ap reasonOf list-goes
+
+  listed : Listed (siteOf site) (formOf (tableOf table)) (c .set′) (c .count)
+  unfolding SetAfter
+  listed = rw list-goes at (c .returned .set-after)
+
+-- ---- a sheet that goes through
+
+module _ {site sheet : List ℕ} (j : Going site sheet) where
+  legal : edits.sheetLegal (editsOf sheet) ≡ true
+  legal = accepted-sheet sheet (j .sheet-accepted) .are-legal
+
+  valid : edits.Valid (siteOf site)
+  valid = site-valid site .0 (j .site-accepted) .1
+
+  module _ (c : ApplyCall site sheet) where
+    apply-goes : applyVerdict (length (c .result)) site sheet ≡ Accepted
+    apply-goes =
+        apply-accepted (length (c .result)) site sheet
+        (record {
+          result-size = c .result-size;
+          site-accepted = j .site-accepted;
+          sheet-accepted = j .sheet-accepted;
+          goes = j .goes-through;
+        })
+
+    apply-reason : c .reason ≡ 0
+    apply-reason = c .returned .reason-is ∙ ap reasonOf apply-goes
+
+    left : (length (c .result′) ≡ siteBytes) × (siteOf (c .result′) ≡ edits.sheet (editsOf sheet) (siteOf site))
+    unfolding SiteAfter
+    left = rw apply-goes at (c .returned .site-after)
+
+    pub left-accepted : siteVerdict (c .result′) ≡ Accepted
+    left-accepted =
+        after-accepted site sheet (c .result′) (j .site-accepted) (j .sheet-accepted) (j .goes-through) (left .0) (left .1)
+
+module _ {site table sheet : List ℕ} (j : Runnable site table sheet) where
+  -- ---- rewriting
+
+  module _ (c : RewriteCall table sheet) where
+    rewrite-goes : rewriteVerdict (length (c .result)) table sheet ≡ Accepted
+    rewrite-goes =
+        rewrite-accepted (length (c .result)) table sheet
+        (record {
+          result-size = c .result-size;
+          table-accepted = j .table-accepted;
+          sheet-accepted = j .going .sheet-accepted;
+          short = j .table-fits;
+        })
+
+    rewrite-reason : c .reason ≡ 0
+    rewrite-reason = c .returned .reason-is ∙ ap reasonOf rewrite-goes
+
+    written : (c .nodes ≡ length (rewritten table sheet)) × (c .result′ ≡ bytesOf (rewritten table sheet) ++ replicate (tableBytes - 6 * c .nodes) 0)
+    unfolding TableAfter
+    written = rw rewrite-goes at (c .returned .table-after)
+
+    pub table-accepted : conditionVerdict (rewrittenTable c) ≡ Accepted
+    table-accepted =
+        rewritten-accepted table sheet (j .table-accepted) (j .going .sheet-accepted) (j .table-fits) _ (c .result′) (c .nodes) (written .0) (written .1)
+
+    is-rewritten : tableOf (rewrittenTable c) ≡ rewritten table sheet
+    is-rewritten = taken-table (rewritten table sheet) _ (c .result′) (c .nodes) (written .0) (written .1)
+
+  -- ---- both lists
+
+  both-lists : (a : ApplyCall site sheet) (r : RewriteCall table sheet) (t : ListCall site (rewrittenTable r)) (u : ListCall (a .result′) table)
+      → SameLists a r t u
+  both-lists a r t u =
+      let p = listed (j .going .site-accepted) (table-accepted r) t in
+      let q = listed (left-accepted (j .going) a) (j .table-accepted) u in
+      let s = accepted-sound table (j .table-accepted) in
+      let e =
+      same-lists (t .set-bytes) (u .set-bytes)
+      (editsOf sheet) (legal (j .going)) (siteOf site) (valid (j .going)) (j .going .goes-through)
+      (tableOf table) (s .fits) (omega (arith, s .some, length-table table))
+      (rw (is-rewritten r) at p) (rw (left (j .going) a .1) at q)
+      in
+      record {
+        applies = apply-reason (j .going) a;
+        rewrites = rewrite-reason r;
+        lists-today = list-reason (j .going .site-accepted) (table-accepted r) t;
+        lists-after = list-reason (left-accepted (j .going) a) (j .table-accepted) u;
+        same-set = e .0;
+        same-count = e .1;
+        today-listed = p;
+        after-listed = q;
+        blocks = is-rewritten r;
+        effects = left (j .going) a .1;
+      }
+
+pub demand-2 : Demand2
+unfolding Demand2
+demand-2 site table sheet j a r t u = both-lists j a r t u
+
+-- ---- classes
+
+module _ {site sheet : List ℕ} (j : Going site sheet) (a : ApplyCall site sheet) (n : ClassCall (a .result′)) where
+  numbered : classesVerdict (length (n .classes)) (a .result′) ≡ Accepted
+  numbered = classes-accepted (length (n .classes)) (a .result′) (record { classes-size = n .classes-size; site-accepted = left-accepted j a })
+
+  classes-left : (x : ℕ) → x < slots → IsClass (edits.sheet (editsOf sheet) (siteOf site)) x (getD (n .classes′) x 0)
+  unfolding ClassesAfter
+  classes-left x l = let c = rw numbered at (n .returned .classes-after) in rw (left j a .1) at (c .0 .each x l)
+
+  same-classes : SameClasses a n
+  same-classes =
+      record {
+        applies = apply-reason j a;
+        numbers = n .returned .reason-is ∙ ap reasonOf numbered;
+        same-number = λ ρ s t h k.
+            Iff·trans
+            (class-undistinguished
+            (editsOf sheet) (legal j) (siteOf site) (valid j) (j .goes-through) ρ s t (getD (n .classes′) s 0) (getD (n .classes′) t 0) h k
+            (classes-left s h) (classes-left t k))
+            (λ n z. n (z .table, z .is-closed, z .tells), λ n z. n (record { table = z .0; is-closed = z .1; tells = z .2 }));
+      }
+
+pub demand-3 : Demand3
+unfolding Demand3
+demand-3 site sheet j a n = same-classes j a n

@@ -1,0 +1,2 @@
+-- Pieces of jobs, as the test programs read them.
+pub mod Room

@@ -1,0 +1,177 @@
+/* A cooperative plans to pull a probe. Which places still have a chain of uplinks to a gateway afterwards, and which fans does no connected
+ * probe drive then? All that it uses is explained in docs/SPEC.md and include/desk.h. It prints examples/plan.out, and returns 1 if a call
+ * is refused.
+ *
+ *     rt staticlib desk
+ *     gcc -std=c11 -Iinclude examples/plan.c target/staticlib/libdesk.a -o plan && ./plan
+ */
+#include "desk.h"
+
+#include <limits.h>
+#include <stdio.h>
+#include <string.h>
+
+/* ---- what our numbers stand for */
+
+enum { GATEWAY, RELAY, PROBE, FAN };                            /* labels */
+enum { DRIVES, UPLINK = DESK_GENERAL_LINKS };                   /* links: a probe drives any number of fans; one uplink a place */
+enum { PULLED = 1 };                                            /* names: the probe to be pulled; name 0 is nil's */
+enum { CONNECTED };                                             /* variables */
+enum { OFF_SITE = DESK_NIL, OFFICE, HILL, BARN, ORCHARD, BIN_1, BIN_2, HAY, SEED, FAN_1, FAN_2, FAN_3, FAN_4, PLACES }; /* slots */
+
+struct place {
+    const char *name;
+    int label, uplink, drives[2]; /* OFF_SITE for none */
+};
+
+static const struct place places[PLACES] = {
+    {"off-site", 0, OFF_SITE, {OFF_SITE, OFF_SITE}},
+    {"gateway, office", GATEWAY, OFF_SITE, {OFF_SITE, OFF_SITE}},
+    {"relay, hill", RELAY, OFFICE, {OFF_SITE, OFF_SITE}},
+    {"relay, barn", RELAY, HILL, {OFF_SITE, OFF_SITE}},
+    {"relay, orchard", RELAY, OFF_SITE, {OFF_SITE, OFF_SITE}},
+    {"probe, grain bin 1", PROBE, HILL, {FAN_1, OFF_SITE}},
+    {"probe, grain bin 2", PROBE, BIN_1, {FAN_1, FAN_2}},
+    {"probe, hay", PROBE, BARN, {FAN_3, OFF_SITE}},
+    {"probe, seed store", PROBE, BIN_2, {FAN_2, OFF_SITE}},
+    {"fan 1, grain bins", FAN, HILL, {OFF_SITE, OFF_SITE}},
+    {"fan 2, seed store", FAN, BIN_2, {OFF_SITE, OFF_SITE}},
+    {"fan 3, hay", FAN, BARN, {OFF_SITE, OFF_SITE}},
+    {"fan 4, orchard", FAN, ORCHARD, {OFF_SITE, OFF_SITE}},
+};
+
+/* An uplink chain leads to a gateway: mu CONNECTED (label GATEWAY or diamond UPLINK CONNECTED). */
+#define CHAIN_TO_GATEWAY                                                                            \
+    DESK_NODE_INIT(DESK_KIND_LABEL, GATEWAY, 0, 0),            /* 0 */                              \
+        DESK_NODE_INIT(DESK_KIND_VARIABLE, CONNECTED, 0, 0),   /* 1 */                              \
+        DESK_NODE_INIT(DESK_KIND_DIAMOND, UPLINK, 1, 0),       /* 2: the uplink's target is in 1 */ \
+        DESK_NODE_INIT(DESK_KIND_OR, 0, 0, 2),                 /* 3 */                              \
+        DESK_NODE_INIT(DESK_KIND_MU, CONNECTED, 3, 0)          /* 4 */
+
+static const uint8_t chain[] = {CHAIN_TO_GATEWAY};
+
+/* A fan, and all that drive it are without such a chain. */
+static const uint8_t idle_fan[] = {
+    CHAIN_TO_GATEWAY,
+    DESK_NODE_INIT(DESK_KIND_NOT, 0, 4, 0),                    /* 5 */
+    DESK_NODE_INIT(DESK_KIND_BOX, DESK_REVERSE(DRIVES), 5, 0), /* 6: each that drives it is in 5 */
+    DESK_NODE_INIT(DESK_KIND_LABEL, FAN, 0, 0),                /* 7 */
+    DESK_NODE_INIT(DESK_KIND_AND, 0, 6, 7),                    /* 8 */
+};
+
+static const uint8_t pull[] = {DESK_EDIT_INIT(DESK_OP_DS, PULLED, 0, 0)};
+
+/* ---- building */
+
+static void put_slot(uint8_t *set, int slot)
+{
+    set[DESK_SET_BYTE(slot)] |= (uint8_t)DESK_SET_WEIGHT(slot);
+}
+
+static int has_slot(const uint8_t *set, int slot)
+{
+    return (set[DESK_SET_BYTE(slot)] & DESK_SET_WEIGHT(slot)) != 0;
+}
+
+static void build_site(uint8_t *site, int pulled)
+{
+    memset(site, 0, DESK_SITE_BYTES);
+    put_slot(site + DESK_PRESENT_AT, OFF_SITE);
+    for (int slot = OFFICE; slot < PLACES; slot++) {
+        put_slot(site + DESK_PRESENT_AT, slot);
+        put_slot(site + DESK_LABEL_AT(places[slot].label), slot);
+        site[DESK_TARGET_AT(UPLINK, slot)] = (uint8_t)places[slot].uplink;
+        for (int k = 0; k < 2; k++)
+            if (places[slot].drives[k] != OFF_SITE)
+                put_slot(site + DESK_ROW_AT(DRIVES, slot), places[slot].drives[k]);
+    }
+    site[DESK_NAME_AT(PULLED)] = (uint8_t)pulled;
+}
+
+static void put_distance(uint8_t *at, size_t distance)
+{
+    for (int k = 0; k < DESK_DISTANCE_BYTES; k++)
+        at[k] = (uint8_t)(distance >> k * CHAR_BIT);
+}
+
+/* The file of a job; gives its length. */
+static size_t build_file(uint8_t *file, const uint8_t *site, const uint8_t *cond, size_t cond_len, const uint8_t *sheet, size_t sheet_len)
+{
+    uint8_t *cond_at = file + DESK_SITE_BYTES, *sheet_at = cond_at + cond_len, *trailer = sheet_at + sheet_len;
+    memcpy(file, site, DESK_SITE_BYTES);
+    memcpy(cond_at, cond, cond_len);
+    memcpy(sheet_at, sheet, sheet_len);
+    put_distance(trailer + DESK_TO_SHEET_AT, sheet_len);
+    put_distance(trailer + DESK_TO_CONDITION_AT, cond_len + sheet_len);
+    put_distance(trailer + DESK_TO_SITE_AT, DESK_SITE_BYTES + cond_len + sheet_len);
+    return DESK_SITE_BYTES + cond_len + sheet_len + DESK_TRAILER_BYTES;
+}
+
+/* ---- asking */
+
+struct plan {
+    uint8_t before[DESK_SET_BYTES], after[DESK_SET_BYTES], today[DESK_SET_BYTES]; /* of the condition twice, and of the rewritten one */
+    uint8_t site_after[DESK_SITE_BYTES];
+    struct desk_listed listed;
+    struct desk_done done;
+};
+
+static int refused(uint32_t reason, uint32_t where)
+{
+    if (reason != DESK_OK)
+        fprintf(stderr, "plan: refused %u %u\n", (unsigned)reason, (unsigned)where);
+    return reason != DESK_OK;
+}
+
+/* Lists a condition before and after the probe is pulled; 0 if neither call was refused. */
+static int ask(struct plan *plan, const uint8_t *site, const uint8_t *cond, size_t cond_len)
+{
+    static uint8_t file[DESK_FILE_BYTES_MAX], table[DESK_TABLE_BYTES], classes[DESK_CLASSES_BYTES], work[DESK_WORK_BYTES];
+    size_t length = build_file(file, site, cond, cond_len, pull, sizeof pull);
+    plan->listed = desk_list(site, DESK_SITE_BYTES, cond, cond_len, plan->before, sizeof plan->before, work, sizeof work);
+    plan->done = desk_job(file, length, plan->site_after, sizeof plan->site_after, table, sizeof table, plan->after, sizeof plan->after,
+                          plan->today, sizeof plan->today, classes, sizeof classes, work, sizeof work);
+    return refused(plan->listed.reason, plan->listed.where) || refused(plan->done.reason, plan->done.where);
+}
+
+/* ---- printing */
+
+static void print_places(const struct plan *plan)
+{
+    printf("%-20s %-7s %s\n", "place", "before", "after");
+    for (int slot = OFFICE; slot < PLACES; slot++) {
+        int gone = !has_slot(plan->site_after + DESK_PRESENT_AT, slot);
+        printf("%-20s %-7s %s\n", places[slot].name, has_slot(plan->before, slot) ? "yes" : "no",
+               gone ? "pulled" : has_slot(plan->after, slot) ? "yes" : "no");
+    }
+}
+
+static void print_set(const char *when, const uint8_t *set)
+{
+    const char *between = "";
+    printf("  %s: ", when);
+    for (int slot = OFFICE; slot < PLACES; slot++)
+        if (has_slot(set, slot)) {
+            printf("%s%s", between, places[slot].name);
+            between = "; ";
+        }
+    printf("%s\n", *between ? "" : "none");
+}
+
+int main(void)
+{
+    static uint8_t site[DESK_SITE_BYTES];
+    static struct plan chains, fans;
+    build_site(site, BIN_2);
+    if (ask(&chains, site, chain, sizeof chain) || ask(&fans, site, idle_fan, sizeof idle_fan))
+        return 1;
+    printf("To be pulled: %s\n\nAn uplink chain leads to a gateway:\n\n", places[BIN_2].name);
+    print_places(&chains);
+    printf("\n%u places before, %u after\n", (unsigned)chains.listed.count, (unsigned)chains.done.after);
+    printf("rewritten to %u nodes, the condition lists %u places today: %s\n", (unsigned)chains.done.nodes, (unsigned)chains.done.today,
+           memcmp(chains.after, chains.today, sizeof chains.after) == 0 ? "the same" : "OTHERS");
+    printf("\nFans that no connected probe drives:\n");
+    print_set("before", fans.before);
+    print_set("after", fans.after);
+    return 0;
+}

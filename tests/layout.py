@@ -1,0 +1,42 @@
+"""The numbers of document 01: how many of each thing there are, and where the parts of a site stand."""
+SLOTS = 256
+LABELS = 16
+NAMES = 16
+VARIABLES = 16
+GENERAL = 4  # links 0 to 3, with a set of targets for each slot
+FUNCTIONAL = 4  # links 4 to 7, with one target for each slot
+LINKS = GENERAL + FUNCTIONAL
+EVERYWHERE = 2 * LINKS  # the way behind the links and their reverses
+WAYS = EVERYWHERE + 1
+
+SET_BYTES = SLOTS // 8
+LINK_BYTES = SLOTS * SET_BYTES
+LABELS_AT = SET_BYTES
+NAMES_AT = LABELS_AT + LABELS * SET_BYTES
+TARGETS_AT = NAMES_AT + NAMES
+ROWS_AT = TARGETS_AT + FUNCTIONAL * SLOTS
+SITE_BYTES = ROWS_AT + GENERAL * LINK_BYTES
+
+NODE_BYTES = 6
+NODES = 2048
+TABLE_BYTES = NODES * NODE_BYTES
+EDIT_BYTES = 4
+EDITS = 64
+SHEET_BYTES = EDITS * EDIT_BYTES
+OPERATIONS = 9
+TRAILER_BYTES = 12
+FILE_BYTES = 65536
+
+
+def label_at(label):
+    return LABELS_AT + SET_BYTES * label
+
+
+def row_at(link, slot):
+    """Where the targets of a slot stand for a link 0 to 3."""
+    return ROWS_AT + LINK_BYTES * link + SET_BYTES * slot
+
+
+def target_at(link, slot):
+    """Where the target of a slot stands for a link 4 to 7."""
+    return TARGETS_AT + SLOTS * (link - GENERAL) + slot

@@ -1,0 +1,525 @@
+/* Random sites, conditions and sheets that fit each other for the most part, and damage to them. */
+#include "random_jobs.h"
+
+#include <string.h>
+
+/* ---- random numbers */
+
+static uint64_t state;
+
+static uint64_t random_64(void)
+{
+    uint64_t x = state += 0x9e3779b97f4a7c15u;
+    x = (x ^ x >> 30) * 0xbf58476d1ce4e5b9u;
+    x = (x ^ x >> 27) * 0x94d049bb133111ebu;
+    return x ^ x >> 31;
+}
+
+int below(int limit)
+{
+    return (int)(random_64() % (uint64_t)limit);
+}
+
+bool one_in(int n)
+{
+    return below(n) == 0;
+}
+
+static int between(int low, int high)
+{
+    return low + below(high - low + 1);
+}
+
+/* ---- the job at hand */
+
+struct bytes site, cond, sheet, file;
+
+static struct model model; /* the site, as the edits made so far leave it */
+
+void append(struct bytes *to, const uint8_t *from, size_t length)
+{
+    memcpy(to->at + to->length, from, length);
+    to->length += length;
+}
+
+static int node_count(void)
+{
+    return (int)(cond.length / DESK_NODE_BYTES);
+}
+
+/* ---- random sites */
+
+struct shape {
+    int count, slots[SLOTS]; /* the present slots but 0 */
+    int links, labels;       /* how many of each are used */
+    int arcs;                /* arcs of each link in use */
+};
+
+static struct shape random_shape(void)
+{
+    struct shape shape = {.links = between(1, LINKS), .labels = between(0, 4)};
+    int most = one_in(40) ? SLOTS - 1 : one_in(4) ? 40 : 6, taken[SLOTS], count = between(0, most);
+    bool low = !one_in(3);
+    for (int s = 1; s < SLOTS; s++)
+        taken[s - 1] = s;
+    for (int k = 0; k < count; k++) {
+        int other = low ? k : between(k, SLOTS - 2), s = taken[other];
+        taken[other] = taken[k];
+        shape.slots[k] = s;
+    }
+    shape.count = count;
+    shape.arcs = one_in(3) ? count * count / 2 : between(0, 2 * count);
+    if (count > 60 && shape.arcs > 600 && !one_in(8))
+        shape.arcs = 600;
+    return shape;
+}
+
+static int random_slot(const struct shape *shape)
+{
+    return shape->count == 0 ? 0 : shape->slots[below(shape->count)];
+}
+
+static void random_arcs(const struct shape *shape)
+{
+    int m = below(LINKS);
+    for (int k = 0; k < shape->arcs; k++) {
+        int from = random_slot(shape), to = random_slot(shape);
+        if (m < GENERAL)
+            put_slot(site.at + row_at(m, from), to);
+        else
+            site.at[target_at(m, from)] = (uint8_t)to;
+    }
+}
+
+static void random_site(void)
+{
+    struct shape shape = random_shape();
+    site.length = DESK_SITE_BYTES;
+    memset(site.at, 0, site.length);
+    put_slot(site.at, 0);
+    for (int k = 0; k < shape.count; k++)
+        put_slot(site.at, shape.slots[k]);
+    for (int l = 0; l < shape.labels; l++) {
+        uint8_t *label = site.at + label_at(one_in(4) ? below(LABELS) : l);
+        for (int k = between(0, shape.count); k > 0; k--)
+            put_slot(label, one_in(12) ? 0 : random_slot(&shape));
+    }
+    for (int n = 1; n < NAMES; n++)
+        if (n < 5 || one_in(4))
+            site.at[NAMES_AT + n] = (uint8_t)(one_in(8) ? 0 : random_slot(&shape));
+    for (int l = 0; l < shape.links && shape.count > 0; l++)
+        random_arcs(&shape);
+}
+
+/* ---- random conditions */
+
+enum { NODES_MOST = 60 };
+
+/* The free variables of each node, under an even and under an odd number of nots. */
+struct variables {
+    unsigned even, odd;
+};
+
+static struct variables variables[DESK_NODES_MAX];
+
+static struct variables free_variables(int kind, int param, struct variables l, struct variables r)
+{
+    switch (kind) {
+    case VARIABLE:
+        return (struct variables){1u << param, 0};
+    case NOT:
+        return (struct variables){l.odd, l.even};
+    case OR:
+    case AND:
+        return (struct variables){l.even | r.even, l.odd | r.odd};
+    case DIAMOND:
+    case BOX:
+        return l;
+    case MU:
+    case NU:
+        return (struct variables){l.even & ~(1u << param), l.odd & ~(1u << param)};
+    }
+    return (struct variables){0, 0};
+}
+
+void add_node(int kind, int param, int left, int right)
+{
+    const uint8_t node[DESK_NODE_BYTES] = {(uint8_t)kind, (uint8_t)param, (uint8_t)left, (uint8_t)(left >> 8),
+                                           (uint8_t)right, (uint8_t)(right >> 8)};
+    if (node_count() < DESK_NODES_MAX)
+        variables[node_count()] = free_variables(kind, param, variables[left], variables[right]);
+    append(&cond, node, sizeof node);
+}
+
+static int recent(int count)
+{
+    return one_in(3) ? below(count) : count - 1 - below(count < 3 ? count : 3);
+}
+
+static void add_leaf(void)
+{
+    switch (below(8)) {
+    case 0:
+        add_node(one_in(2) ? HERE : TRUE, 0, 0, 0);
+        break;
+    case 1:
+    case 2:
+        add_node(LABEL, one_in(4) ? below(LABELS) : below(3), 0, 0);
+        break;
+    case 3:
+    case 4:
+        add_node(NAME, one_in(4) ? below(NAMES) : below(4), 0, 0);
+        break;
+    case 5:
+        add_node(SLOT, one_in(2) ? below(SLOTS) : below(6), 0, 0);
+        break;
+    default:
+        add_node(VARIABLE, one_in(6) ? below(VARIABLES) : below(2), 0, 0);
+    }
+}
+
+/* A way, of a link that the site has for the most part. */
+static int some_way(void)
+{
+    int link = below(LINKS);
+    for (int tries = 0; tries < 6 && model.link[link].count == 0; tries++)
+        link = below(LINKS);
+    return one_in(8) ? EVERYWHERE : one_in(3) ? link + LINKS : link;
+}
+
+static void add_inner(int count, int *loops)
+{
+    int left = recent(count), choice = below(10);
+    if (choice < 4) {
+        add_node(one_in(2) ? DIAMOND : BOX, some_way(), left, 0);
+    } else if (choice < 7) {
+        add_node(one_in(2) ? OR : AND, 0, left, recent(count));
+    } else if (choice < 8 && (one_in(8) || (variables[left].even | variables[left].odd) == 0)) {
+        add_node(NOT, 0, left, 0);
+    } else if (choice < 9 && *loops > 0) {
+        int v = one_in(6) ? below(VARIABLES) : below(2);
+        if (one_in(30) || !(variables[left].odd >> v & 1)) {
+            add_node(one_in(2) ? MU : NU, v, left, 0);
+            --*loops;
+        }
+    } else {
+        add_leaf();
+    }
+}
+
+/* Loops in loops, each variable under a way: (leaf and way 0) or (way 1) or .., closed from the last variable to the first. */
+static void random_nest(void)
+{
+    int depth = one_in(5) ? 3 : 2, last = 0;
+    cond.length = 0;
+    for (int v = 0; v < depth; v++) {
+        int before = last;
+        add_leaf();
+        int leaf = node_count() - 1;
+        if (variables[leaf].even == 0 && one_in(3))
+            add_node(NOT, 0, leaf++, 0);
+        add_node(VARIABLE, v, 0, 0);
+        add_node(one_in(3) ? BOX : DIAMOND, some_way(), leaf + 1, 0);
+        add_node(one_in(2) ? OR : AND, 0, leaf, leaf + 2);
+        last = leaf + 3;
+        if (v > 0)
+            add_node(one_in(3) ? AND : OR, 0, before, last++);
+    }
+    for (int v = depth - 1; v >= 0; v--) {
+        add_node(one_in(2) ? MU : NU, v, last++, 0);
+        if (one_in(4))
+            add_node(one_in(2) ? DIAMOND : BOX, some_way(), last++, 0);
+    }
+}
+
+static void random_table(void)
+{
+    int wanted = one_in(6) ? between(1, NODES_MOST) : between(1, 14), loops = between(0, 3);
+    cond.length = 0;
+    add_leaf();
+    for (int tries = 0; tries < 200 && node_count() < wanted; tries++)
+        if (one_in(4))
+            add_leaf();
+        else
+            add_inner(node_count(), &loops);
+}
+
+static void random_condition(void)
+{
+    if (one_in(4))
+        random_nest();
+    else
+        random_table();
+    for (int v = 0; v < VARIABLES && !one_in(60); v++) {
+        int last = node_count() - 1;
+        if (variables[last].odd >> v & 1 && !(variables[last].even >> v & 1))
+            add_node(NOT, 0, last++, 0);
+        if (variables[last].even >> v & 1)
+            add_node(one_in(2) ? MU : NU, v, last, 0);
+    }
+}
+
+/* ---- random sheets */
+
+static int some_name(void)
+{
+    return one_in(5) ? below(NAMES) : below(5);
+}
+
+static int some_moved_name(void)
+{
+    return one_in(5) ? between(1, NAMES - 1) : between(1, 4);
+}
+
+static void random_edit(uint8_t *edit)
+{
+    const int link = one_in(2) ? below(LINKS) : one_in(2) ? GENERAL : 0, functional = between(GENERAL, LINKS - 1);
+    const int label = one_in(3) ? below(LABELS) : below(3);
+    const int forms[OPERATIONS][3] = {
+        {some_moved_name(), some_name(), 0}, {some_moved_name(), some_name(), functional}, {some_name(), label, 0},
+        {some_name(), label, 0},             {link, some_name(), some_name()},             {link, some_name(), some_name()},
+        {functional, some_name(), 0},        {some_moved_name(), below(SLOTS), 0},         {some_name(), 0, 0},
+    };
+    edit[0] = (uint8_t)below(OPERATIONS);
+    for (int k = 0; k < 3; k++)
+        edit[k + 1] = (uint8_t)forms[edit[0]][k];
+}
+
+/* Edits that go through, for the most part. */
+static void random_sheet(void)
+{
+    int wanted = one_in(30) ? between(7, DESK_EDITS_MAX) : one_in(3) ? between(0, 6) : between(0, 3);
+    uint8_t edit[DESK_EDIT_BYTES];
+    sheet.length = 0;
+    for (int tries = 0; tries < 20 * wanted && (int)sheet.length / DESK_EDIT_BYTES < wanted; tries++) {
+        random_edit(edit);
+        if (model_edit(&model, edit) || one_in(100))
+            append(&sheet, edit, sizeof edit);
+    }
+}
+
+/* ---- damage to a piece */
+
+static void damage_length(struct bytes *piece, int unit)
+{
+    int change = one_in(2) ? unit * between(-2, 2) : between(-5, 5);
+    if (one_in(8))
+        piece->length = 0;
+    else if ((int)piece->length + change >= 0)
+        piece->length = (size_t)((int)piece->length + change);
+    if (one_in(10) && piece == &cond)
+        piece->length = DESK_TABLE_BYTES + (one_in(2) ? 0 : DESK_NODE_BYTES);
+    if (one_in(10) && piece == &sheet)
+        piece->length = SHEET_BYTES + (one_in(2) ? 0 : DESK_EDIT_BYTES);
+}
+
+static void damage_bit(struct bytes *piece)
+{
+    if (piece->length > 0)
+        piece->at[below((int)piece->length)] ^= (uint8_t)(1 << below(8));
+}
+
+static void damage_site(void)
+{
+    const int s = one_in(2) ? below(8) : below(SLOTS), t = one_in(2) ? below(8) : below(SLOTS);
+    if (site.length != DESK_SITE_BYTES)
+        return;
+    switch (below(9)) {
+    case 0:
+        site.at[s / 8] &= (uint8_t)~(1 << s % 8);
+        break;
+    case 1:
+        site.at[0] &= 0xfe;
+        break;
+    case 2:
+        site.at[NAMES_AT] = (uint8_t)s;
+        break;
+    case 3:
+        site.at[NAMES_AT + below(NAMES)] = (uint8_t)s;
+        break;
+    case 4:
+    case 5:
+        put_slot(site.at + label_at(below(LABELS)), s);
+        break;
+    case 6:
+        site.at[target_at(GENERAL + below(FUNCTIONAL), one_in(4) ? 0 : s)] = (uint8_t)t;
+        break;
+    case 7:
+        put_slot(site.at + row_at(below(GENERAL), one_in(4) ? 0 : s), one_in(4) ? 0 : t);
+        break;
+    default:
+        damage_bit(&site);
+    }
+}
+
+/* A variable is left free, or a not stands above it; more may follow, so that these nodes are not reached. */
+static void add_free_variable(int count)
+{
+    add_node(VARIABLE, below(2), 0, 0);
+    if (one_in(2))
+        add_node(NOT, 0, count, 0);
+    for (int loops = below(4), last = node_count() - 1; loops > 0; loops--)
+        add_node(between(MU, NU), below(2), last, 0);
+    if (one_in(2))
+        add_node(NOT, 0, count - 1, 0);
+}
+
+/* An operator for another of its shape. */
+static void exchange_operator(uint8_t *node)
+{
+    if (node[0] == DIAMOND || node[0] == BOX) {
+        node[0] ^= DIAMOND ^ BOX;
+    } else if (node[0] == NOT) {
+        node[0] = MU;
+    } else if (node[0] == MU || node[0] == NU) {
+        node[0] = NOT;
+        node[1] = 0;
+    }
+}
+
+static void damage_condition(void)
+{
+    int count = node_count();
+    if (count == 0)
+        return;
+    int number = below(count);
+    uint8_t *node = cond.at + DESK_NODE_BYTES * number;
+    switch (below(7)) {
+    case 0:
+        node[0] = (uint8_t)(one_in(4) ? below(256) : below(KINDS + 1));
+        break;
+    case 1:
+        node[1] = (uint8_t)(one_in(2) ? below(WAYS + 1) : below(256));
+        break;
+    case 2:
+        node[2 + 2 * below(2)] = (uint8_t)(one_in(2) ? below(count + 1) : number);
+        break;
+    case 3:
+        node[3 + 2 * below(2)] = (uint8_t)one_in(2);
+        break;
+    case 4:
+        add_free_variable(count);
+        break;
+    case 5:
+        exchange_operator(node);
+        break;
+    default:
+        damage_bit(&cond);
+    }
+}
+
+static void damage_sheet(void)
+{
+    static const uint8_t bounds[] = {0, GENERAL - 1, GENERAL, LINKS - 1, LINKS, OPERATIONS, LABELS - 1, LABELS, NAMES - 1, NAMES, 255};
+    uint8_t edit[DESK_EDIT_BYTES];
+    random_edit(edit);
+    if (one_in(2))
+        edit[below(DESK_EDIT_BYTES)] = one_in(4) ? (uint8_t)below(256) : bounds[below(sizeof bounds)];
+    if (one_in(2) && sheet.length >= DESK_EDIT_BYTES)
+        memcpy(sheet.at + DESK_EDIT_BYTES * below((int)sheet.length / DESK_EDIT_BYTES), edit, sizeof edit);
+    else if (one_in(2) && sheet.length < SHEET_BYTES)
+        append(&sheet, edit, sizeof edit);
+    else
+        damage_bit(&sheet);
+}
+
+/* Before the pieces are put together. */
+static void damage_pieces(void)
+{
+    for (int k = one_in(2) ? between(2, 4) : 1; k > 0; k--) {
+        int part = below(10);
+        if (part == 0)
+            damage_length(one_in(3) ? &site : one_in(2) ? &cond : &sheet, one_in(2) ? DESK_NODE_BYTES : DESK_EDIT_BYTES);
+        else if (part <= 3)
+            damage_site();
+        else if (part >= 7)
+            damage_sheet();
+        else if (node_count() < NODES_MOST)
+            damage_condition();
+    }
+}
+
+/* ---- the file, and damage to it */
+
+static void put_distance(uint8_t *at, size_t distance)
+{
+    for (int k = 0; k < 4; k++)
+        at[k] = (uint8_t)(distance >> 8 * k);
+}
+
+/* A length at the bounds, with pieces that fill it. */
+static void bound_file(void)
+{
+    static const size_t bounds[] = {DESK_TRAILER_BYTES, DESK_FILE_MAX_BYTES};
+    file.length = bounds[below(2)] + (size_t)below(3) - 1;
+    if (file.length < DESK_TRAILER_BYTES)
+        return;
+    size_t room = file.length - DESK_TRAILER_BYTES, back = (size_t)below((int)room + 1);
+    put_distance(file.at + room, one_in(2) ? back : (size_t)below((int)back + 1));
+    put_distance(file.at + room + 4, back);
+    put_distance(file.at + room + 8, room);
+}
+
+static void damage_file(void)
+{
+    uint8_t *trailer = file.at + file.length - DESK_TRAILER_BYTES, keep[4];
+    int which = below(3);
+    switch (below(9)) {
+    case 0:
+        file.length = (size_t)below(one_in(2) ? DESK_TRAILER_BYTES + 4 : (int)file.length);
+        break;
+    case 1:
+        file.length = (size_t)between((int)file.length, PIECE_MAX);
+        break;
+    case 2: /* two distances exchanged */
+        memcpy(keep, trailer, 4);
+        memcpy(trailer, trailer + 4 + 4 * below(2), 4);
+        memcpy(trailer + 4, keep, 4);
+        break;
+    case 3:
+        memset(trailer + 4 * which, 0xff, 4);
+        break;
+    case 4:
+        trailer[4 * which]++;
+        break;
+    case 5: /* the pieces meet elsewhere */
+        put_distance(trailer, (size_t)below(300));
+        break;
+    case 6:
+        memset(trailer, 0, 4 + 4 * (size_t)which);
+        break;
+    case 7:
+        bound_file();
+        break;
+    default:
+        trailer[below(DESK_TRAILER_BYTES)] ^= (uint8_t)(1 << below(8));
+    }
+}
+
+void build_file(void)
+{
+    uint8_t trailer[DESK_TRAILER_BYTES];
+    file.length = 0;
+    append(&file, site.at, site.length);
+    append(&file, cond.at, cond.length);
+    append(&file, sheet.at, sheet.length);
+    put_distance(trailer, sheet.length);
+    put_distance(trailer + 4, sheet.length + cond.length);
+    put_distance(trailer + 8, file.length);
+    append(&file, trailer, sizeof trailer);
+}
+
+void build_job(uint64_t seed, int job)
+{
+    state = seed * 0x100000001b3u + (uint64_t)job;
+    bool damaged = job % 2 == 1, in_file = one_in(6);
+    random_site();
+    model_read(&model, site.at);
+    random_condition();
+    random_sheet();
+    if (damaged && !in_file)
+        damage_pieces();
+    build_file();
+    if (damaged && in_file)
+        damage_file();
+}

@@ -1,0 +1,30 @@
+/* Random jobs, half of them damaged: the pieces of the job at hand, and how it is made. */
+#ifndef RANDOM_JOBS_H
+#define RANDOM_JOBS_H
+
+#include "oracle.h"
+
+/* Room for the longest piece that is tried. */
+enum { PIECE_MAX = DESK_FILE_MAX_BYTES + 4096 };
+
+struct bytes {
+    size_t length;
+    uint8_t at[PIECE_MAX];
+};
+
+extern struct bytes site, cond, sheet, file;
+
+/* A number below the limit, and true once in so many times. */
+int below(int limit);
+bool one_in(int n);
+
+void append(struct bytes *to, const uint8_t *from, size_t length);
+void add_node(int kind, int param, int left, int right);
+
+/* Puts the pieces together, with the trailer. */
+void build_file(void);
+
+/* Makes the pieces and the file of a job. Odd jobs are damaged. */
+void build_job(uint64_t seed, int job);
+
+#endif

@@ -1,0 +1,250 @@
+#!/usr/bin/env python3
+"""Holds docs/SPEC.md to what is stored and to include/desk.h.
+
+- The worked job: its blocks of bytes against crates/job/stdin and stdout, and against the answers to the same job in crates/changes and
+  crates/jobs.
+- The blocks of rewriting: the table of SPEC, "Rewriting" is read and carried out on every condition and sheet of crates/changes.
+- The offsets of a site's parts and the numbers of kinds, operations and reasons against the header's constants.
+
+Prints what differs, and exits with 1 then. Run at the repository's top: tests/spec_job.py
+"""
+import re
+import sys
+
+NODE_BYTES, EDIT_BYTES, TABLE_NODES = 6, 4, 2048
+faults = []
+
+
+def compare(what, written, stored):
+    if written != stored:
+        faults.append(f"{what}: {written!r} in docs/SPEC.md, {stored!r} stored")
+
+
+def read(path):
+    with open(path, encoding="utf-8") as f:
+        return f.read()
+
+
+# ---- the worked job
+
+def block(spec, name):
+    """The lines of the fenced block with this name."""
+    return re.search(rf"(?ms)^```{name}\n(.*?)^```$", spec).group(1)
+
+
+def put_bytes(text, data):
+    """Writes a block's bytes over `data`: offset, bytes, perhaps xN for the last one N times; a comment behind `;`."""
+    for line in text.splitlines():
+        offset, *words = line.split(";")[0].split()
+        values = []
+        for word in words:
+            values += [values.pop()] * int(word[1:]) if word[0] == "x" else [int(word, 16)]
+        at = int(offset)
+        if at + len(values) > len(data):
+            faults.append(f"bytes past the end: {line}")
+        data[at:at + len(values)] = values
+    return data
+
+
+def listed(text):
+    data = put_bytes(text, bytearray(32))
+    return f"{sum(bin(b).count('1') for b in data)} {data.hex()}"
+
+
+def worked_job(spec, cases):
+    with open("crates/job/stdin", "rb") as f:
+        stored = f.read()
+    file = put_bytes(block(spec, "job-file"), bytearray(len(stored)))
+    compare("the job file", file.hex(), stored.hex())
+    compare("the print", block(spec, "print"), read("crates/job/stdout"))
+    end = len(file) - 12
+    near, middle, far = (int.from_bytes(file[end + k:end + k + 4], "little") for k in (0, 4, 8))
+    pieces = [bytes(file[end - far:end - middle]), bytes(file[end - middle:end - near]), bytes(file[end - near:end])]
+    answers = [answer for case, answer in cases if case == pieces]
+    if not answers:
+        faults.append("the worked job is no case of crates/changes")
+        return
+    applied, table, after = answers[0][:3]
+    site = put_bytes(block(spec, "site-after"), bytearray(pieces[0]))
+    changed = "".join(f" {k}:{b}" for k, b in enumerate(site) if b != pieces[0][k])
+    compare("the site after", "applied" + changed, applied)
+    text = block(spec, "rewritten-table")
+    count = len(text.splitlines())
+    compare("the rewritten table", f"{count} nodes {put_bytes(text, bytearray(NODE_BYTES * count)).hex()}", table)
+    compare("the list after", "after " + listed(block(spec, "after")), after)
+    numbers = put_bytes(block(spec, "classes"), bytearray(256)).hex()
+    compare("the class numbers", numbers, read("crates/jobs/stdout").splitlines()[4].split()[-1])
+
+
+# ---- the stored cases of crates/changes
+
+def stored_pieces():
+    """Each piece is a kind, its length and how many bytes are not 0 (2 bytes each), then each such byte as its place and its value."""
+    with open("crates/changes/stdin", "rb") as f:
+        data = f.read()
+    at = 0
+    while at < len(data):
+        length, count = int.from_bytes(data[at + 1:at + 3], "little"), int.from_bytes(data[at + 3:at + 5], "little")
+        piece = bytearray(length)
+        for k in range(at + 5, at + 5 + 3 * count, 3):
+            piece[int.from_bytes(data[k:k + 2], "little")] = data[k + 2]
+        yield bytes(piece)
+        at += 5 + 3 * count
+
+
+def stored_cases():
+    """Site, condition and sheet, with the lines of their answer: applying, rewriting, and both lists where neither was refused."""
+    pieces, lines, at = list(stored_pieces()), read("crates/changes/stdout").splitlines(), 0
+    for k in range(0, len(pieces), 3):
+        size = 4 if lines[at + 2:at + 3] and lines[at + 2].startswith("after ") else 2
+        yield pieces[k:k + 3], lines[at:at + size]
+        at += size
+
+
+# ---- rewriting, by the tables of the specification
+
+def rows(spec, section):
+    """The rows of the tables in a section, as lists of cells."""
+    text = re.search(rf"(?ms)^## \d+\. {section}\n(.*?)(?=^## |\Z)", spec).group(1)
+    for line in text.splitlines():
+        if line.startswith("|"):
+            yield [cell.strip().replace("\\|", "|") for cell in re.split(r"(?<!\\)\|", line)[1:-1]]
+
+
+def kinds_of(spec):
+    return {row[1]: int(row[0]) for row in rows(spec, "The condition") if row[0].isdigit() and len(row) == 5}
+
+
+def operations_of(spec):
+    return {row[1].split()[0]: (int(row[0]), row[1].split()[1:]) for row in rows(spec, "The sheet") if row[0].isdigit()}
+
+
+def blocks_of(spec, operations):
+    """For each operation the pairs of an old node and its block, as words."""
+    blocks, name = {}, None
+    for row in rows(spec, "Rewriting"):
+        if len(row) != 4 or not row[3].isdigit():
+            continue
+        name = row[0].split()[0] if row[0] else name
+        words = row[2].strip("`").split()
+        compare(f"the nodes of {row[2]}", row[3], str(sum(word != "T" for word in words)))
+        blocks.setdefault(operations[name][0], []).append((row[1].split(",")[0].split(), words))
+    return blocks
+
+
+def number_of(word, known):
+    return {"E": 16, "nil": 0}.get(word, known[word[0] + "-"] if word.endswith("-") else known.get(word))
+
+
+def block_for(blocks, operations, edit, node, kinds):
+    """The words of a node's block and what their letters stand for; None where the node is copied."""
+    names = next(operands for number, operands in operations.values() if number == edit[0])
+    known = dict(zip(names, edit[1:]))
+    for link in "mf":
+        if link in known:
+            known[link + "-"] = known[link] + 8
+    for old, words in blocks.get(edit[0], []):
+        if kinds[old[0]] != node[0]:
+            continue
+        own = old[1] if len(old) > 1 else None
+        if own is None or number_of(own, known) == node[1]:
+            return words, known
+        # "any p", "any y but 0", "any way w but E"
+        if own not in known and not (own == "y" and node[1] == 0) and not (own == "w" and node[1] == 16):
+            return words, {**known, own: node[1]}
+    return None
+
+
+def put_block(words, known, image, kinds, out):
+    stack = []
+    leaves = {"t": "true", "h": "here", "p": "label", "k": "slot"}
+    for word in words:
+        if word == "T":
+            stack.append(image)
+            continue
+        if word in "&|":
+            right, left = stack.pop(), stack.pop()
+            node = (kinds["and" if word == "&" else "or"], 0, left, right)
+        elif word == "!":
+            node = (kinds["not"], 0, stack.pop(), 0)
+        elif word[0] in "<[":
+            node = (kinds["diamond" if word[0] == "<" else "box"], number_of(word[1:-1], known), stack.pop(), 0)
+        else:
+            node = (kinds[leaves.get(word, "name")], 0 if word in "th" else number_of(word, known), 0, 0)
+        stack.append(len(out))
+        out.append(node)
+
+
+def rewritten(blocks, operations, kinds, condition, sheet):
+    """The nodes of the rewritten table; None where a table is too long."""
+    word = lambda k: int.from_bytes(condition[k:k + 2], "little")
+    table = [(condition[k], condition[k + 1], word(k + 2), word(k + 4)) for k in range(0, len(condition), NODE_BYTES)]
+    two, one = {kinds["or"], kinds["and"]}, {kinds[k] for k in ("not", "diamond", "box", "mu", "nu")}
+    for at in range(len(sheet) - EDIT_BYTES, -1, -EDIT_BYTES):
+        out, images = [], []
+        for kind, param, left, right in table:
+            found = block_for(blocks, operations, sheet[at:at + EDIT_BYTES], (kind, param), kinds)
+            if found:
+                put_block(*found, images[left] if kind in one else None, kinds, out)
+            else:
+                out.append((kind, param, images[left] if kind in one | two else 0, images[right] if kind in two else 0))
+            images.append(len(out) - 1)
+        table = out
+        if len(table) > TABLE_NODES:
+            return None
+    return b"".join(bytes((k, p)) + x.to_bytes(2, "little") + y.to_bytes(2, "little") for k, p, x, y in table)
+
+
+def rewriting(spec, cases):
+    kinds, operations = kinds_of(spec), operations_of(spec)
+    blocks = blocks_of(spec, operations)
+    for number, ((_, condition, sheet), answer) in enumerate(cases):
+        if answer[1].startswith("refused") and answer[1] != "refused 14 0":
+            continue
+        table = rewritten(blocks, operations, kinds, condition, sheet)
+        line = "refused 14 0" if table is None else f"{len(table) // NODE_BYTES} nodes {table.hex()}"
+        compare(f"case {number} of crates/changes, rewritten", line, answer[1])
+
+
+# ---- the header
+
+def plain(text):
+    return int(text.split()[0].replace(",", ""))
+
+
+def value(name, macros):
+    """The number of a macro without parameters."""
+    text = re.sub(r"DESK_\w+", lambda m: str(value(m.group(), macros)), macros[name])
+    return int(eval(text.replace("/", "//")))
+
+
+def header(spec):
+    macros = dict(re.findall(r"(?m)^#define (DESK_\w+) (.*?)\s*(?:/\*.*)?$", read("include/desk.h")))
+    for row in rows(spec, "The site"):
+        found = re.match(r"`(\w+)` = (.*)", row[3])
+        if found:
+            compare(f"{found.group(1)} in include/desk.h", plain(row[0]), value(found.group(1), macros))
+            compare(f"the sum {found.group(2)}", plain(row[0]), eval(found.group(2).replace(",", "").replace("·", "*")))
+    constants = dict(re.findall(r"(?m)^ +(DESK_\w+) = (\d+)", read("include/desk.h")))
+    for name, number in kinds_of(spec).items():
+        compare(f"kind {name} in include/desk.h", str(number), constants.get("DESK_KIND_" + name.upper()))
+    for name, (number, _) in operations_of(spec).items():
+        compare(f"operation {name} in include/desk.h", str(number), constants.get("DESK_OP_" + name))
+    for row in rows(spec, "Reasons"):
+        if row[0].isdigit():
+            compare(f"{row[1]} in include/desk.h", row[0], constants.get(row[1].strip("`")))
+
+
+def main():
+    spec, cases = read("docs/SPEC.md"), list(stored_cases())
+    header(spec)
+    worked_job(spec, cases)
+    rewriting(spec, cases)
+    for fault in faults:
+        print("spec:", fault[:500])
+    print("spec: ok" if not faults else f"spec: {len(faults)} faults")
+    return bool(faults)
+
+
+if __name__ == "__main__":
+    sys.exit(main())
