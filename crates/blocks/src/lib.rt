@@ -209,58 +209,103 @@ pub fn spell(e: Op, kind: u8, param: u8) -> Spelling
     }
 }
 
-// The text of a row, from the first that does not copy: how many nodes it has, and four letters for each: kind, parameter, left child, right child.
+// The texts of the rows that do not copy: how many nodes there are, and four letters for each node: kind, parameter, left child, right child.
 // Numbers above 9 go on with `:`, `;` and `<`; a blank is 0, or no child. Parameters: w, a and b; c, the reverse of the way b; E, the way that leads
 // everywhere. Children: a number is that node of the block itself; `@` is T, the image of the old node's child.
+
+// CN1, name n1: a
+const CN1_NAME_TEXT: [u8; 45] = *b"13a                                          ";
+
+// AS, name n: a
+const AS_NAME_TEXT: [u8; 45] = *b"1<a                                          ";
+
+// CN2, name n1: a <b-> nil a t <b> & <E> ! & |
+const CN2_NAME_TEXT: [u8; 45] = *b";3a  8c0 3   3a  0   8b4 7 358E6 5 7 7 286 19";
+
+// AP, label p: w a |
+const AP_LABEL_TEXT: [u8; 45] = *b"32w  3a  6 01                                ";
+
+// DP and DS, label: w a ! &
+const DP_LABEL_TEXT: [u8; 45] = *b"42w  3a  5 1 7 02                            ";
+
+// AS, here: h a |
+const AS_HERE_TEXT: [u8; 45] = *b"31w  <a  6 01                                ";
+
+// DS, here: h a ! &
+const DS_HERE_TEXT: [u8; 45] = *b"41w  3a  5 1 7 02                            ";
+
+// DS, name: w a ! & nil a w & <E> & |
+const DS_NAME_TEXT: [u8; 45] = *b";3w  3a  5 1 7 023   3a  3w  7 568E7 7 486 39";
+
+// AT <m>: T <w> a b T & <E> & |
+const AT_DIA_TEXT: [u8; 45] = *b"78w@ 3a  3b  7 2@8E3 7 146 05                ";
+
+// AT [m]: T [w] a ! b ! T | [E] | &
+const AT_BOX_TEXT: [u8; 45] = *b"99w@ 3a  5 1 3b  5 3 6 4@9E5 6 267 07        ";
+
+// AT <m->: T <w> b a T & <E> & |
+const AT_DIA_BACK_TEXT: [u8; 45] = *b"78w@ 3b  3a  7 2@8E3 7 146 05                ";
+
+// AT [m-]: T [w] b ! a ! T | [E] | &
+const AT_BOX_BACK_TEXT: [u8; 45] = *b"99w@ 3b  5 1 3a  5 3 6 4@9E5 6 267 07        ";
+
+// DT1 <m>: a ! T <w> & b ! T & <w> |
+const DT1_DIA_TEXT: [u8; 45] = *b"93a  5 0 8w@ 7 123b  5 4 7 5@8w6 6 37        ";
+
+// DT1 [m]: a T [w] | b T | [w] &
+const DT1_BOX_TEXT: [u8; 45] = *b"73a  9w@ 6 013b  6 3@9w4 7 25                ";
+
+// DT1 <m->: b ! T <w> & a ! T & <w> |
+const DT1_DIA_BACK_TEXT: [u8; 45] = *b"93b  5 0 8w@ 7 123a  5 4 7 5@8w6 6 37        ";
+
+// DT1 [m-]: b T [w] | a T | [w] &
+const DT1_BOX_BACK_TEXT: [u8; 45] = *b"73b  9w@ 6 013a  6 3@9w4 7 25                ";
+
+// DT2 <f>: a ! T <w> &
+const DT2_DIA_TEXT: [u8; 45] = *b"43a  5 0 8w@ 7 12                            ";
+
+// DT2 [f]: a T [w] |
+const DT2_BOX_TEXT: [u8; 45] = *b"33a  9w@ 6 01                                ";
+
+// DT2 <f->: a ! T & <w>
+const DT2_DIA_BACK_TEXT: [u8; 45] = *b"43a  5 0 7 1@8w2                             ";
+
+// DT2 [f-]: a T | [w]
+const DT2_BOX_BACK_TEXT: [u8; 45] = *b"33a  6 0@9w1                                 ";
+
+// DS <m>: a ! a ! T & <w> &
+const DS_DIA_TEXT: [u8; 45] = *b"73a  5 0 3a  5 2 7 3@8w4 7 15                ";
+
+// DS [m]: a a T | [w] |
+const DS_BOX_TEXT: [u8; 45] = *b"53a  3a  6 1@9w2 6 03                        ";
+
 fn text(row: u8) -> [u8; 45]
     requires { ⌜ (copyCount ≤ row) × (row < rowCount) ⌝ }
     ensures { λ r. ⌜ r ≡ textAt row ⌝ }
 {
     match row {
-        // CN1, name n1: a
-        13 => *b"13a                                          ",
-        // AS, name n: a
-        14 => *b"1<a                                          ",
-        // CN2, name n1: a <b-> nil a t <b> & <E> ! & |
-        15 => *b";3a  8c0 3   3a  0   8b4 7 358E6 5 7 7 286 19",
-        // AP, label p: w a |
-        16 => *b"32w  3a  6 01                                ",
-        // DP and DS, label: w a ! &
-        17 => *b"42w  3a  5 1 7 02                            ",
-        // AS, here: h a |
-        18 => *b"31w  <a  6 01                                ",
-        // DS, here: h a ! &
-        19 => *b"41w  3a  5 1 7 02                            ",
-        // DS, name: w a ! & nil a w & <E> & |
-        20 => *b";3w  3a  5 1 7 023   3a  3w  7 568E7 7 486 39",
-        // AT <m>: T <w> a b T & <E> & |
-        21 => *b"78w@ 3a  3b  7 2@8E3 7 146 05                ",
-        // AT [m]: T [w] a ! b ! T | [E] | &
-        22 => *b"99w@ 3a  5 1 3b  5 3 6 4@9E5 6 267 07        ",
-        // AT <m->: T <w> b a T & <E> & |
-        23 => *b"78w@ 3b  3a  7 2@8E3 7 146 05                ",
-        // AT [m-]: T [w] b ! a ! T | [E] | &
-        24 => *b"99w@ 3b  5 1 3a  5 3 6 4@9E5 6 267 07        ",
-        // DT1 <m>: a ! T <w> & b ! T & <w> |
-        25 => *b"93a  5 0 8w@ 7 123b  5 4 7 5@8w6 6 37        ",
-        // DT1 [m]: a T [w] | b T | [w] &
-        26 => *b"73a  9w@ 6 013b  6 3@9w4 7 25                ",
-        // DT1 <m->: b ! T <w> & a ! T & <w> |
-        27 => *b"93b  5 0 8w@ 7 123a  5 4 7 5@8w6 6 37        ",
-        // DT1 [m-]: b T [w] | a T | [w] &
-        28 => *b"73b  9w@ 6 013a  6 3@9w4 7 25                ",
-        // DT2 <f>: a ! T <w> &
-        29 => *b"43a  5 0 8w@ 7 12                            ",
-        // DT2 [f]: a T [w] |
-        30 => *b"33a  9w@ 6 01                                ",
-        // DT2 <f->: a ! T & <w>
-        31 => *b"43a  5 0 7 1@8w2                             ",
-        // DT2 [f-]: a T | [w]
-        32 => *b"33a  6 0@9w1                                 ",
-        // DS <m>: a ! a ! T & <w> &
-        33 => *b"73a  5 0 3a  5 2 7 3@8w4 7 15                ",
-        // DS [m]: a a T | [w] |
-        _ => *b"53a  3a  6 1@9w2 6 03                        ",
+        13 => CN1_NAME_TEXT,
+        14 => AS_NAME_TEXT,
+        15 => CN2_NAME_TEXT,
+        16 => AP_LABEL_TEXT,
+        17 => DP_LABEL_TEXT,
+        18 => AS_HERE_TEXT,
+        19 => DS_HERE_TEXT,
+        20 => DS_NAME_TEXT,
+        21 => AT_DIA_TEXT,
+        22 => AT_BOX_TEXT,
+        23 => AT_DIA_BACK_TEXT,
+        24 => AT_BOX_BACK_TEXT,
+        25 => DT1_DIA_TEXT,
+        26 => DT1_BOX_TEXT,
+        27 => DT1_DIA_BACK_TEXT,
+        28 => DT1_BOX_BACK_TEXT,
+        29 => DT2_DIA_TEXT,
+        30 => DT2_BOX_TEXT,
+        31 => DT2_DIA_BACK_TEXT,
+        32 => DT2_BOX_BACK_TEXT,
+        33 => DS_DIA_TEXT,
+        _ => DS_BOX_TEXT,
     }
 }
 
