@@ -21,7 +21,7 @@ ghost use Rattle.semantics.specs.Table.{wayOf};
 ghost use Rattle.semantics.specs.Block.{emit};
 ghost use Rattle.sheet.specs.Bytes.{editOf};
 ghost use Rattle.blocks.specs.Rows.{copyCount, rowCount, textAt, Small, childOf, decode};
-ghost use Rattle.blocks.specs.Spelling.{paramsOf, rowSpelled, spelled, Spells, Sized, keptBy, usedBy, copyOf, knownKind, onWay, leafRow, wayRow, asRow, dsRow, rowOf, firstOf, secondOf};
+ghost use Rattle.blocks.specs.Spelling.{paramsOf, rowSpelled, spelled, Spells, Sized, keptBy, usedBy, copyOf, knownKind, onWay, leafRow, wayRow, asRow, dsRow};
 ghost use Rattle.blocks.specs.Write.{put, puts};
 
 // The spelling of a block: a row of the table, the old node's parameter w, and the numbers a and b, which the edit gives.
@@ -146,66 +146,28 @@ fn ds_row(kind: u8, param: u8) -> u8
     kind
 }
 
-fn row_of(e: Op, kind: u8, param: u8) -> u8
-    ensures { λ r. ⌜ r ≡ rowOf (editOf e) kind param ⌝ }
+fn by_row(row: u8, w: u8, a: u8, b: u8) -> Spelling
+    ensures { λ r. ⌜ r ≡ record { row = row; w = w; a = a; b = b } ⌝ }
 {
-    match e {
-        Op::Cn1(n, _) => leaf_row(kind, param, NAME, n, CN1_NAME),
-        Op::Cn2(n, _, _) => leaf_row(kind, param, NAME, n, CN2_NAME),
-        Op::Ap(_, p) => leaf_row(kind, param, LABEL, p, AP_LABEL),
-        Op::Dp(_, p) => leaf_row(kind, param, LABEL, p, DP_LABEL),
-        Op::At(m, _, _) => way_row(kind, param, m, AT_WAYS),
-        Op::Dt1(m, _, _) => way_row(kind, param, m, DT1_WAYS),
-        Op::Dt2(f, _) => way_row(kind, param, f, DT2_WAYS),
-        Op::As(n, _) => as_row(kind, param, n),
-        Op::Ds(_) => ds_row(kind, param),
-    }
+    Spelling { row, w, a, b }
 }
 
-// The numbers a and b of an edit's rows.
-fn first(e: Op) -> u8
-    ensures { λ r. ⌜ r ≡ firstOf (editOf e) ⌝ }
-{
-    match e {
-        Op::Cn1(_, n2) => n2,
-        Op::Cn2(_, n2, _) => n2,
-        Op::Ap(n, _) => n,
-        Op::Dp(n, _) => n,
-        Op::At(_, n1, _) => n1,
-        Op::Dt1(_, n1, _) => n1,
-        Op::Dt2(_, n) => n,
-        Op::As(_, k) => k,
-        Op::Ds(n) => n,
-    }
-}
-
-fn second(e: Op) -> u8
-    ensures { λ r. ⌜ r ≡ secondOf (editOf e) ⌝ }
-{
-    match e {
-        Op::Cn1(_, _) => 0,
-        Op::Cn2(_, _, f) => f,
-        Op::Ap(_, _) => 0,
-        Op::Dp(_, _) => 0,
-        Op::At(_, _, n2) => n2,
-        Op::Dt1(_, _, n2) => n2,
-        Op::Dt2(_, _) => 0,
-        Op::As(_, _) => 0,
-        Op::Ds(_) => 0,
-    }
-}
-
-// The spelling of the block of a node with this kind and parameter, whatever its children.
+// The spelling of the block of a node with this kind and parameter, whatever its children: by the edit, its row and its numbers a and b.
 pub fn spell(e: Op, kind: u8, param: u8) -> Spelling
     requires { ⌜ legal (editOf e) ≡ true ⌝ }
     ensures { λ r. ⌜ Spells (editOf e) kind param r ⌝ }
 {
     let k = known(kind);
-    Spelling {
-        row: row_of(e, k, param),
-        w: param,
-        a: first(e),
-        b: second(e),
+    match e {
+        Op::Cn1(n1, n2) => by_row(leaf_row(k, param, NAME, n1, CN1_NAME), param, n2, 0),
+        Op::Cn2(n1, n2, f) => by_row(leaf_row(k, param, NAME, n1, CN2_NAME), param, n2, f),
+        Op::Ap(n, p) => by_row(leaf_row(k, param, LABEL, p, AP_LABEL), param, n, 0),
+        Op::Dp(n, p) => by_row(leaf_row(k, param, LABEL, p, DP_LABEL), param, n, 0),
+        Op::At(m, n1, n2) => by_row(way_row(k, param, m, AT_WAYS), param, n1, n2),
+        Op::Dt1(m, n1, n2) => by_row(way_row(k, param, m, DT1_WAYS), param, n1, n2),
+        Op::Dt2(f, n) => by_row(way_row(k, param, f, DT2_WAYS), param, n, 0),
+        Op::As(n, slot) => by_row(as_row(k, param, n), param, slot, 0),
+        Op::Ds(n) => by_row(ds_row(k, param), param, n, 0),
     }
 }
 
