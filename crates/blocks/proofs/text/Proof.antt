@@ -3,13 +3,13 @@ use mathlib.Core.Path.{refl}
 use native.Mathlib.Omega.{arith}
 use Rattle.semantics.specs.Table.{kindNo}
 use Rattle.semantics.specs.Block.{size, root, emit}
-use Rattle.blocks.specs.Rows.{rows, lettered, blank, lettersOf, textOf, textAt}
+use Rattle.blocks.specs.Rows.{rows, coded, codedAt, groupOf, groupsOf, wordOf, textOf, textAt}
 use Rattle.blocks.specs.Laws.Keys.{Others, last-key}
 use Rattle.blocks.proofs.text.Statement.{statement}
 use Rattle.blocks.proofs.text.Tie as tie
 
 pub text-spec : {M : Type 1} → statement M
-unfolding rows lettered blank lettersOf textOf textAt size root emit kindNo Others
+unfolding rows coded codedAt groupOf groupsOf wordOf textOf textAt size root emit kindNo Others
 text-spec =
     tie.close
     (tie.spec
