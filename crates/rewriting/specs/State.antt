@@ -48,9 +48,12 @@ leftAt s i = usedChild notNo slotNo (nodeAt s i .kind) (nodeAt s i .left) i
 unfoldable pub rightAt : List ℕ → ℕ → ℕ
 rightAt s i = usedChild orNo diaNo (nodeAt s i .kind) (nodeAt s i .right) i
 
--- the lower one of two numbers; the first one where they are the same
+-- the lower and the higher one of two numbers
 abbrev pub lowerOf : ℕ → ℕ → ℕ
 lowerOf x y = cond (ltb x y) x y
+
+abbrev pub higherOf : ℕ → ℕ → ℕ
+higherOf x y = cond (ltb x y) y x
 
 -- the number of the first node of node i's block
 unfoldable pub startOf : Edit → List ℕ → ℕ → ℕ

@@ -25,7 +25,7 @@ ghost use Rattle.sheet.specs.Bytes.{editOf, editsOf};
 ghost use Rattle.limits.specs.Limits.{nodeSize, tableNodes, tableBytes};
 ghost use Rattle.blocks.specs.Spelling.{firstOf, secondOf};
 ghost use Rattle.blocks.specs.Write.{Written};
-ghost use Rattle.rewriting.specs.State.{leftAt, rightAt, startOf, Numbered, imageIn, placedRow, Rowed, NonePlaced, Ready, Placing, lowerOf, Passed};
+ghost use Rattle.rewriting.specs.State.{leftAt, rightAt, startOf, Numbered, imageIn, placedRow, Rowed, NonePlaced, Ready, Placing, lowerOf, higherOf, Passed};
 ghost use Rattle.rewriting.specs.Answer.{verdictOf, nodesOf};
 ghost use Rattle.rewriting.specs.Rewriting.{Rewrote};
 
@@ -42,7 +42,7 @@ fn narrow(x: usize) -> u16
 }
 
 fn widen(x: u16) -> usize
-    ensures { λ r. ⌜ r ≡ x ⌝ }
+    ensures { λ r. ⌜ (r ≡ x) × (r < 65536) ⌝ }
 {
     x as usize
 }
@@ -200,8 +200,8 @@ fn place_two(
     ensures { λ r. ⌜ (2 ≤ r → lo < i) × (r ≡ 1 → hi < i) × (3 ≤ r → hi < i) ⌝ }
 {
     let mut c = lo;
-    let mut waiting = 0;
-    let mut turn = 0;
+    let mut waiting = 0u8;
+    let mut turn = 0usize;
     while turn < 2 {
         waiting = 2 * waiting + place_below(table, images, rows, out, e, a, b, i, c);
         c = hi;
@@ -220,7 +220,7 @@ fn lower(x: usize, y: usize) -> usize
 }
 
 fn higher(x: usize, y: usize) -> usize
-    ensures { λ r. ⌜ r ≡ lowerOf y x ⌝ }
+    ensures { λ r. ⌜ r ≡ higherOf x y ⌝ }
 {
     if x < y {
         return y;

@@ -109,14 +109,14 @@ ended {s} {e} {images} {i} {n} {next} q N h = subst (λ (m : ℕ). Numbered s e 
 -- ---- rows
 
 -- a spelling by its parts
-spells-by : {e : Edit} {k p : ℕ} {x : Spelling} {k′ p′ a b : ℕ} → k ≡ k′ → p ≡ p′ → x .w ≡ p → x .a ≡ a → x .b ≡ b → Spells e k p x
-    → Spells e k′ p′ (record { row = x .row; w = p′; a = a; b = b })
-spells-by {e} {k} {p} {x} {k′} {p′} {a} {b} ek ep ew ea eb S =
-    subst (λ (n : ℕ). Spells e n p′ (record { row = x .row; w = p′; a = a; b = b })) ek
-    (subst (λ (n : ℕ). Spells e k n (record { row = x .row; w = n; a = a; b = b })) ep
-    (subst (λ (n : ℕ). Spells e k p (record { row = x .row; w = n; a = a; b = b })) ew
-    (subst (λ (n : ℕ). Spells e k p (record { row = x .row; w = x .w; a = n; b = b })) ea
-    (subst (λ (n : ℕ). Spells e k p (record { row = x .row; w = x .w; a = x .a; b = n })) eb S))))
+spells-by : {e : Edit} {k p : ℕ} {x : Spelling} {k′ p′ : ℕ} → k ≡ k′ → p ≡ p′ → Spells e k p x
+    → Spells e k′ p′ (record { row = x .row; w = p′; a = firstOf e; b = secondOf e })
+spells-by {e} {k} {p} {x} {k′} {p′} ek ep S =
+    subst (λ (n : ℕ). Spells e n p′ (record { row = x .row; w = p′; a = firstOf e; b = secondOf e })) ek
+    (subst (λ (n : ℕ). Spells e k n (record { row = x .row; w = n; a = firstOf e; b = secondOf e })) ep
+    (subst (λ (n : ℕ). Spells e k p (record { row = x .row; w = n; a = firstOf e; b = secondOf e })) (S .own)
+    (subst (λ (n : ℕ). Spells e k p (record { row = x .row; w = x .w; a = n; b = secondOf e })) (S .first)
+    (subst (λ (n : ℕ). Spells e k p (record { row = x .row; w = x .w; a = x .a; b = n })) (S .second) S))))
 
 -- its size is the block's
 pub sized : {e : Edit} {k p : ℕ} {x : Spelling} {r : ℕ} → Spells e k p x → Sized x r → (t u : ℕ) → r ≡ size (block e (kindOf k) p (old t) (old u))
@@ -127,9 +127,9 @@ rowed-none s e rows h = (record { size = h; spells = λ j q. absurd (not-suc-le-
 
 -- one row more
 pub rowed-more : {s : List ℕ} {e : Edit} {rows : List ℕ} {n k p : ℕ} {x : Spelling} → Rowed s e rows n × NonePlaced rows n → n < tableNodes
-    → k ≡ nodeAt s n .kind → p ≡ nodeAt s n .param → Spells e k p x → (x .w ≡ p) × (x .a ≡ firstOf e) × (x .b ≡ secondOf e)
+    → k ≡ nodeAt s n .kind → p ≡ nodeAt s n .param → Spells e k p x
     → Rowed s e (set rows n (x .row)) (n + 1) × NonePlaced (set rows n (x .row)) (n + 1)
-rowed-more {s} {e} {rows} {n} {k} {p} {x} R b ek ep S q =
+rowed-more {s} {e} {rows} {n} {k} {p} {x} R b ek ep S =
     let row = x .row in
     let here : getD (set rows n row) n 0 ≡ row = getD-set-same rows n row 0 (omega (arith, R .0 .size)) in (
       record {
@@ -137,7 +137,7 @@ rowed-more {s} {e} {rows} {n} {k} {p} {x} R b ek ep S q =
         spells = λ j h ne.
             either
             (equal? j n)
-            (λ g. rw (g, here) (spells-by ek ep (q .0) (q .1) (q .2) S))
+            (λ g. rw (g, here) (spells-by ek ep S))
             (λ g. let o : getD (set rows n row) j 0 ≡ getD rows j 0 = getD-set-other rows n j row 0 g in
             rw o (R .0 .spells j (omega arith) (λ z. ne (o ∙ z))));
       },

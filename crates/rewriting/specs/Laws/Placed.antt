@@ -5,6 +5,7 @@ use Prim.Native.Nat.{ℕ, zero, suc, _+_, _*_, _-_, _≤_, _<_}
 use native.Mathlib.Omega.{arith}
 use native.Mathlib.Numerals.{add-one}
 use lib.ListN.{length, getD, set, take, length-set, List·getD-append}
+use lib.Dec.{ltb}
 use lib.Seq.{getD-take, getD-set-same, getD-set-other, getD-append-add, ext-getD, length-take-le}
 use Rattle.finite.specs.Tests.{below}
 use Rattle.finite.specs.Laws.Bools.{either, look}
@@ -21,7 +22,7 @@ use Rattle.blocks.specs.Rows.{rowCount}
 use Rattle.blocks.specs.Spelling.{spelled, Spells, Sized}
 use Rattle.blocks.specs.Write.{puts, Written}
 use Rattle.blocks.specs.Laws.Write.{length-puts}
-use Rattle.rewriting.specs.State.{blockIn, step, stateAt, leftAt, rightAt, startOf, Numbered, imageIn, placedRow, spellingBy, Rowed, NonePlaced, Ready, Stands, Placing}
+use Rattle.rewriting.specs.State.{blockIn, step, stateAt, leftAt, rightAt, startOf, Numbered, imageIn, placedRow, spellingBy, Rowed, NonePlaced, Ready, Stands, Placing, lowerOf, higherOf}
 use Rattle.rewriting.specs.Laws.State.{state-out, block-used}
 use Rattle.rewriting.specs.Laws.Numbered.{blockAt, start-more, starts-up, numbered-low, start-none, image-is, image-last, rowed-low}
 use Rattle.rewriting.specs.Laws.Puts.{puts-low, puts-high, puts-in, bytes-append}
@@ -164,6 +165,83 @@ module _ {s : List ℕ} {e : Edit} {images rows out : List ℕ} {a b : ℕ} (c :
 
       pub room-before : (n ≤ m + 1) × (m + 1 ≤ 22528)
       room-before = (omega (arith, ends), omega (arith, em, Y .numbered .imaged c (omega arith), image-last e s c, Y .numbered .few, ap (startOf e s) (add-one c)))
+
+-- ---- two nodes, one after the other
+
+-- after so many turns: c is the next node; lo and hi are placed in turn, and waiting tells whose children wait
+pub record Turned (s : List ℕ) (e : Edit) (rows out : List ℕ) (i lo hi : ℕ) (rows′ out′ : List ℕ) (c waiting turn : ℕ) : Type 0 where
+  pub few : turn ≤ 2
+  pub small : turn ≤ 1 → waiting ≤ turn
+  pub first : turn ≡ 0 → c ≡ lo
+  pub then : 1 ≤ turn → c ≡ hi
+  pub placing : Placing s e rows out rows′ out′
+  pub lo-placed : 1 ≤ turn → lo < i → getD rows′ lo 0 ≡ placedRow
+  pub hi-placed : 2 ≤ turn → hi < i → getD rows′ hi 0 ≡ placedRow
+  pub lo-next : turn ≡ 1 → 1 ≤ waiting → lo < i
+  pub lo-waits : 2 ≤ turn → 2 ≤ waiting → lo < i
+  pub hi-alone : 2 ≤ turn → waiting ≡ 1 → hi < i
+  pub hi-too : 2 ≤ turn → 3 ≤ waiting → hi < i
+
+pub turned-none : {s : List ℕ} {e : Edit} {rows out : List ℕ} {i lo hi : ℕ} → Turned s e rows out i lo hi rows out lo 0 0
+turned-none = record {
+  few = omega arith;
+  small = λ h. omega arith;
+  first = λ h. refl;
+  then = λ h. absurd (omega arith);
+  placing = placing-none;
+  lo-placed = λ h. absurd (omega arith);
+  hi-placed = λ h. absurd (omega arith);
+  lo-next = λ h. absurd (omega arith);
+  lo-waits = λ h. absurd (omega arith);
+  hi-alone = λ h. absurd (omega arith);
+  hi-too = λ h. absurd (omega arith);
+}
+
+pub turned-more : {s : List ℕ} {e : Edit} {rows out rows₁ out₁ rows₂ out₂ : List ℕ} {i lo hi c waiting turn r : ℕ}
+    → Turned s e rows out i lo hi rows₁ out₁ c waiting turn → turn < 2
+    → Placing s e rows₁ out₁ rows₂ out₂ × (c < i → getD rows₂ c 0 ≡ placedRow) → (r ≤ 1) × (r ≡ 1 → c < i)
+    → Turned s e rows out i lo hi rows₂ out₂ hi (2 * waiting + r) (turn + 1)
+turned-more {s} {e} {rows} {out} {rows₁} {out₁} {rows₂} {out₂} {i} {lo} {hi} {c} {waiting} {turn} {r} T b P q =
+    let small = T .small (omega arith) in
+    let at : turn ≡ 1 → c ≡ hi = λ h. T .then (omega arith) in
+    record {
+      few = omega arith;
+      small = λ h. omega (arith, q .0);
+      first = λ h. absurd (omega arith);
+      then = λ h. refl;
+      placing = placing-then (T .placing) (P .0);
+      lo-placed = λ h l.
+          either
+          (equal? turn 0)
+          (λ z. subst (λ (m : ℕ). getD rows₂ m 0 ≡ placedRow) (T .first z) (P .1 (omega (arith, T .first z))))
+          (λ z. P .0 .stays lo (T .lo-placed (omega arith) l));
+      hi-placed = λ h l.
+          let e₁ : turn ≡ 1 = omega arith in
+          subst (λ (m : ℕ). getD rows₂ m 0 ≡ placedRow) (at e₁) (P .1 (omega (arith, at e₁)));
+      lo-next = λ h g. let z : turn ≡ 0 = omega arith in omega (arith, T .first z, q .1 (omega (arith, q .0)));
+      lo-waits = λ h g. T .lo-next (omega arith) (omega (arith, q .0));
+      hi-alone = λ h g. let e₁ : turn ≡ 1 = omega arith in omega (arith, at e₁, q .1 (omega (arith, q .0)));
+      hi-too = λ h g. let e₁ : turn ≡ 1 = omega arith in omega (arith, at e₁, q .1 (omega (arith, q .0)));
+    }
+
+-- after both turns
+pub turned : {s : List ℕ} {e : Edit} {rows out rows′ out′ : List ℕ} {i lo hi c waiting turn : ℕ} → Turned s e rows out i lo hi rows′ out′ c waiting turn
+    → 2 ≤ turn → (Placing s e rows out rows′ out′ × (lo < i → getD rows′ lo 0 ≡ placedRow) × (hi < i → getD rows′ hi 0 ≡ placedRow))
+    × ((2 ≤ waiting → lo < i) × (waiting ≡ 1 → hi < i) × (3 ≤ waiting → hi < i))
+turned T h = ((T .placing, T .lo-placed (omega arith), T .hi-placed h), (T .lo-waits h, T .hi-alone h, T .hi-too h))
+
+-- both children are placed, whichever is the lower, and then more nodes
+pub children : {s : List ℕ} {e : Edit} {rows out rows₁ out₁ rows₂ out₂ : List ℕ} {i l r lo hi : ℕ} → lo ≡ lowerOf l r → hi ≡ higherOf l r
+    → Placing s e rows out rows₁ out₁ × (lo < i → getD rows₁ lo 0 ≡ placedRow) × (hi < i → getD rows₁ hi 0 ≡ placedRow)
+    → Placing s e rows₁ out₁ rows₂ out₂
+    → Placing s e rows out rows₂ out₂ × (l < i → getD rows₂ l 0 ≡ placedRow) × (r < i → getD rows₂ r 0 ≡ placedRow)
+children {s} {e} {rows} {out} {rows₁} {out₁} {rows₂} {out₂} {i} {l} {r} {lo} {hi} el eh P Q =
+    let at : (c x : ℕ) → c ≡ x → (c < i → getD rows₁ c 0 ≡ placedRow) → x < i → getD rows₂ x 0 ≡ placedRow =
+    λ c x q p h. Q .stays x (subst (λ (m : ℕ). m < i → getD rows₁ m 0 ≡ placedRow) q p h) in
+    either
+    (look (ltb l r))
+    (λ q. (placing-then (P .0) Q, at lo l (el ∙ rw q refl) (P .1), at hi r (eh ∙ rw q refl) (P .2)))
+    (λ q. (placing-then (P .0) Q, at hi l (eh ∙ rw q refl) (P .2), at lo r (el ∙ rw q refl) (P .1)))
 
 -- ---- all blocks
 
