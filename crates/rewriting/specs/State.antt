@@ -112,6 +112,10 @@ pub record Placing (s : List ℕ) (e : Edit) (rows out rows′ out′ : List ℕ
   pub stand : (j : ℕ) → (getD rows j 0 ≡ placedRow → ⊥) → getD rows′ j 0 ≡ placedRow → Stands s e out′ j
   pub keeps : (j : ℕ) → Stands s e out j → Stands s e out′ j
 
+-- each number is a byte
+abbrev pub Bytes : List ℕ → Type 0
+Bytes s = (i : ℕ) → getD s i 0 < 256
+
 -- all edits are done: a buffer starts with the rewritten table, which has r nodes; where the item is met, r is over 2,048
 pub record Passed (es : List Edit) (xs : List Node) (o : List ℕ) (r : ℕ) : Type 0 where
   pub right : tooLong es xs ≡ false

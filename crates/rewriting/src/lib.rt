@@ -25,7 +25,7 @@ ghost use Rattle.sheet.specs.Bytes.{editOf, editsOf};
 ghost use Rattle.limits.specs.Limits.{nodeSize, tableNodes, tableBytes};
 ghost use Rattle.blocks.specs.Spelling.{firstOf, secondOf};
 ghost use Rattle.blocks.specs.Write.{Written};
-ghost use Rattle.rewriting.specs.State.{leftAt, rightAt, startOf, Numbered, imageIn, placedRow, Rowed, NonePlaced, Ready, Placing, lowerOf, higherOf, Passed};
+ghost use Rattle.rewriting.specs.State.{leftAt, rightAt, startOf, Numbered, imageIn, placedRow, Rowed, NonePlaced, Ready, Placing, lowerOf, higherOf, Bytes, Passed};
 ghost use Rattle.rewriting.specs.Answer.{verdictOf, nodesOf};
 ghost use Rattle.rewriting.specs.Rewriting.{Rewrote};
 
@@ -315,6 +315,7 @@ fn place_down(
 )
     requires { ⌜ Ready (now table) (editOf e) (now images) (now rows) (now out) a b n × NonePlaced (now rows) n ⌝ }
     ensures { λ _. ⌜ Written (now (out .exit)) (rewriteTable (editOf e) (nodes (now (table .entry)) n)) ⌝ }
+    ensures { λ _. ⌜ (length (now (rows .exit)) ≡ tableNodes) × (length (now (out .exit)) ≡ tableBytes) ⌝ }
 {
     let mut top = n;
     while 0 < top {
@@ -364,6 +365,7 @@ fn passes(
     rows: &mut [u8; TABLE_NODES],
 ) -> usize
     requires { ⌜ (n ≤ tableNodes) × (length (now table) ≡ tableBytes) × (length (now spare) ≡ tableBytes) × (length (now images) ≡ tableNodes) × (length (now rows) ≡ tableNodes) ⌝ }
+    requires { ⌜ Bytes (now table) ⌝ }
     requires { ⌜ sheetLegal (editsOf (now sheet)) ≡ true ⌝ }
     ensures { λ r. ⌜ Passed (editsOf (now (sheet .entry))) (nodes (now (table .entry)) n) (now (table .exit)) r × (length (now (table .exit)) ≡ tableBytes) ⌝ }
 {
@@ -402,7 +404,7 @@ fn rewrite_with(
     rows: &mut [u8; TABLE_NODES],
 ) -> Rewriting
     requires { ⌜ (length (now table) ≤ tableBytes) × (length (now result) ≡ tableBytes) ⌝ }
-    requires { ⌜ (length (now work) ≡ tableBytes) × (length (now spare) ≡ tableBytes) × (length (now images) ≡ tableNodes) × (length (now rows) ≡ tableNodes) ⌝ }
+    requires { ⌜ Bytes (now work) × (length (now work) ≡ tableBytes) × (length (now spare) ≡ tableBytes) × (length (now images) ≡ tableNodes) × (length (now rows) ≡ tableNodes) ⌝ }
     requires { ⌜ sheetLegal (editsOf (now sheet)) ≡ true ⌝ }
     ensures { λ r. ⌜ Rewrote (now (table .entry)) (now (sheet .entry)) (now (result .entry)) (now (result .exit)) (verdictOf r) (nodesOf r) ⌝ }
 {

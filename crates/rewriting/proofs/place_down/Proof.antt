@@ -1,38 +1,40 @@
+-- The nodes from top on are placed.
+use mathlib.Core.Path.{_∙_}
+use Prim.Native.Nat.{_≤_}
+use native.Mathlib.Omega.{arith}
+use Rattle.sheet.specs.Bytes.{editOf}
+use Rattle.rewriting.specs.State.{Placing}
+use Rattle.rewriting.specs.Laws.Placed.{placing-none, placing-then, ready-then, ready-low, PlacedFrom, placed-more, all-written}
 use Rattle.rewriting.proofs.place_down.Statement.{statement}
 use Rattle.rewriting.proofs.place_down.Tie as tie
-use Rattle.rewriting.proofs.place_down.Reads as reads
-use Rattle.rewriting.proofs.place_down.Lts as lts
-use Rattle.rewriting.proofs.place_open.Reads as place-open-reads
 
 abbrev Inv-loop : tie.InvT-loop
-Inv-loop table images rows₀ out₀ e a b n top₀ rows out top = ?
+Inv-loop table images rows₀ out₀ e a b n top₀ rows out top = (top ≤ n) × Placing table (editOf e) rows₀ out₀ rows out × PlacedFrom rows top n
 
 abbrev μ-loop : tie.MeasureT-loop
-μ-loop table images rows₀ out₀ e a b n top₀ rows out top = ?
+μ-loop table images rows₀ out₀ e a b n top₀ rows out top = top
 
--- src/lib.rt:320:5
 loop-holds : tie.Need-loop-holds Inv-loop μ-loop
-loop-holds c = ?
+loop-holds c = (omega arith, placing-none, (λ j a b. absurd (omega arith)))
 
--- src/lib.rt:321:17
 sub-i : tie.Need-sub-i Inv-loop μ-loop
-sub-i c = ?
+sub-i c = omega arith
 
--- src/lib.rt:322:9
 place-open-requires : tie.Need-place-open-requires Inv-loop μ-loop
-place-open-requires c κs = ?
+place-open-requires c κs = let l = c .before .before .before in ready-low (ready-then (l .before .pre .0) (l .loop .inv .1)) _ (omega arith)
 
--- src/lib.rt:320:5
 loop-less : tie.Need-loop-less Inv-loop μ-loop
-loop-less c = ?
+loop-less c = omega arith
 
--- src/lib.rt:320:5
 loop-again : tie.Need-loop-again Inv-loop μ-loop
-loop-again c = ?
+loop-again c =
+    let l = c .before .before .before .before .loop .inv in let m = c .place-open .ensures in
+    (omega arith, placing-then (l .1) (m .0), placed-more (m .0) (omega arith) (m .1) (l .2))
 
--- src/lib.rt:306:1
 returns : tie.Need-returns Inv-loop μ-loop
-returns c = ?
+returns c =
+    let l = c .before .loop .inv in let s = c .before .before .pre in
+    (all-written (l .1) (s .1) (λ j a b. l .2 j (omega arith) b) (s .0 .room), (l .1 .size ∙ s .0 .rowed .size, l .1 .room ∙ s .0 .room))
 
 pub place-down-spec : {M : Type 1} → statement M
 place-down-spec =

@@ -1,29 +1,23 @@
-use borrow.Author.Needs.{needs}
+-- A node that is placed is left alone.
+use native.Mathlib.Omega.{arith}
+use Rattle.rewriting.specs.Laws.Placed.{placing-none}
 use Rattle.rewriting.proofs.place_open.Statement.{statement}
 use Rattle.rewriting.proofs.place_open.Tie as tie
-use Rattle.rewriting.proofs.place_open.Reads as reads
-use Rattle.rewriting.proofs.place_open.Lts as lts
-use Rattle.rewriting.proofs.place_children.Reads as place-children-reads
 
--- src/lib.rt:299:8
 element-copy-out-if1 : tie.Need-element-copy-out-if1
-element-copy-out-if1 c = search needs
+element-copy-out-if1 c = omega (arith, c .pre .numbered .most)
 
--- src/lib.rt:300:9
 returns : tie.Need-returns
-returns c = ?
+returns c = (placing-none, c .if1 .taken)
 
--- src/lib.rt:302:55
 add-place-children : tie.Need-add-place-children
-add-place-children c = search needs
+add-place-children c = omega (arith, c .before .before .before .before .pre .numbered .most)
 
--- src/lib.rt:302:5
 place-children-requires : tie.Need-place-children-requires
-place-children-requires c κs = search needs
+place-children-requires c κs = c .before .before .before .before .pre
 
--- src/lib.rt:286:1
 returns-2 : tie.Need-returns-2
-returns-2 c = ?
+returns-2 c = (c .place-children .ensures .0, c .place-children .ensures .1 (omega arith))
 
 pub place-open-spec : {M : Type 1} → statement M
 place-open-spec =
