@@ -1,3 +1,5 @@
 -- Laws of blocks, by topic.
+pub mod Keys
 pub mod Write
-pub mod Text
+pub mod Rows
+pub mod Spelling

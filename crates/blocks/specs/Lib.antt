@@ -1,5 +1,6 @@
--- Blocks of nodes, as texts, written into the buffer of a rewritten table.
-pub mod Text
+-- Blocks as rows, written into the buffer of a rewritten table.
+pub mod Rows
+pub mod Spelling
 pub mod Write
 -- what is proved of them
 pub mod Laws

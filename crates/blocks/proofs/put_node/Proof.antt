@@ -1,22 +1,25 @@
--- One node written: six bytes, or none past the last place.
-use mathlib.Core.Path.{refl}
-use Prim.Native.Nat.{_≤_, _<_}
+-- One node written: six bytes, or none where there is no room.
+use Prim.Native.Nat.{_+_, _*_, _<_}
 use native.Mathlib.Omega.{arith}
-use native.Mathlib.Numerals.{towards-suc}
-use lib.ListN.{length-set}
-use Rattle.finite.specs.Laws.Below.{below-in, below-not}
-use Rattle.condition.specs.Bytes.{nodeBytes}
-use Rattle.limits.specs.Limits.{tableNodes}
+use lib.ListN.{length, length-set}
+use Rattle.finite.specs.Laws.Below.{below-in}
+use Rattle.limits.specs.Limits.{nodeSize}
 use Rattle.blocks.specs.Write.{put}
+use Rattle.blocks.specs.Laws.Write.{put-room}
 use Rattle.blocks.proofs.put_node.Statement.{statement}
 use Rattle.blocks.proofs.put_node.Tie as tie
 
-add-result : tie.Need-add-result
-add-result c = omega arith
+mul-o : tie.Need-mul-o
+mul-o c = omega arith
+
+add-if1 : tie.Need-add-if1
+add-if1 c = omega arith
 
 returns : tie.Need-returns
 unfolding put
-returns c = let h : tableNodes ≤ c .before .before .args .at = omega arith in (simp (below-not _ _ h), refl)
+returns c =
+    let a = c .before .before .args in let h : length (a .out .now) < nodeSize * a .i + nodeSize = omega arith in
+    simp (below-in _ _ h)
 
 low-requires : tie.Need-low-requires
 low-requires c κs = tt
@@ -29,9 +32,6 @@ low-requires-2 c κs = tt
 
 high-requires-2 : tie.Need-high-requires-2
 high-requires-2 c κs = omega arith
-
-mul-o : tie.Need-mul-o
-mul-o c = omega arith
 
 slice-write-out : tie.Need-slice-write-out
 slice-write-out c = omega arith
@@ -66,28 +66,26 @@ add-out-5 c = omega arith
 slice-write-out-6 : tie.Need-slice-write-out-6
 slice-write-out-6 c = simp length-set (omega arith)
 
-add-result-2 : tie.Need-add-result-2
-add-result-2 c = omega arith
-
 same-length : tie.Need-same-length
 same-length c = simp length-set
 
 returns-2 : tie.Need-returns-2
-unfolding put nodeBytes
-returns-2 c = let h : c .before .before .before .before .before .before .args .at < tableNodes = omega arith in
-    (simp (below-in _ _ h, c .before .before .before .low .ensures, c .before .before .high .ensures, c .before .low2 .ensures, c .high2 .ensures, towards-suc), refl)
+returns-2 c =
+    let p = c .before .before .before in let a = p .before .before .before .args in
+    put-room _ (a .i) _ _ (a .left) (a .right) (omega arith) (p .low .ensures) (c .before .before .high .ensures) (c .before .low2 .ensures)
+    (c .high2 .ensures)
 
 pub put-node-spec : {M : Type 1} → statement M
 put-node-spec =
     tie.close
     (tie.spec
-    add-result
+    mul-o
+    add-if1
     returns
     low-requires
     high-requires
     low-requires-2
     high-requires-2
-    mul-o
     slice-write-out
     add-out
     slice-write-out-2
@@ -99,6 +97,5 @@ put-node-spec =
     slice-write-out-5
     add-out-5
     slice-write-out-6
-    add-result-2
     same-length
     returns-2)

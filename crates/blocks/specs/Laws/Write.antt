@@ -1,35 +1,39 @@
 -- Laws of writing nodes into a buffer.
-use mathlib.Core.Path.{_≡_, refl, sym, _∙_, ap, subst}
-use mathlib.Core.List.{List, [], _∷_, _++_, append-assoc, append-nil}
-use Prim.Native.Nat.{ℕ, suc, _+_, _*_, _<_}
+use mathlib.Core.Path.{_≡_, refl, _∙_, ap}
+use mathlib.Core.List.{List, [], _∷_, _++_}
+use Prim.Native.Nat.{ℕ, zero, suc, _+_, _*_, _/_, _%_, _≤_, _<_}
 use native.Mathlib.Omega.{arith}
-use lib.ListN.{length, take, drop, length-append}
-use lib.Seq.{length-sets, sets-eq, length-take-le, take-at, append-snoc}
+use native.Mathlib.Numerals.{add-one, towards-suc}
+use lib.ListN.{length, take, getD, set, length-append}
+use lib.Seq.{length-sets, take-suc, take-length}
 use Rattle.finite.specs.Tests.{below}
 use Rattle.finite.specs.Laws.Bools.{either, look}
-use Rattle.finite.specs.Laws.Below.{below-in}
+use Rattle.finite.specs.Laws.Below.{below-not}
+use Rattle.limits.specs.Limits.{nodeSize}
 use Rattle.semantics.specs.Table.{Node}
-use Rattle.condition.specs.Bytes.{nodeBytes, bytesOf}
-use Rattle.limits.specs.Limits.{tableNodes, tableBytes}
-use Rattle.blocks.specs.Write.{put, puts, Written}
-
-pub bytes-snoc : (xs : List Node) (x : Node) → bytesOf (xs ++ (x ∷ [])) ≡ bytesOf xs ++ nodeBytes x
-unfolding bytesOf
-bytes-snoc [] x = append-nil (nodeBytes x)
-bytes-snoc (y ∷ ys) x =
-    ap (λ (l : List ℕ). nodeBytes y ++ l) (bytes-snoc ys x) ∙ sym (append-assoc (nodeBytes y) (bytesOf ys) (nodeBytes x))
+use Rattle.condition.specs.Bytes.{nodeBytes}
+use Rattle.blocks.specs.Write.{put, puts}
 
 -- ---- the buffer's length stays
 
 pub length-put : (o : List ℕ) (i : ℕ) (x : Node) → length (put o i x) ≡ length o
 unfolding put
 length-put o i x =
-    either (look (below i tableNodes)) (λ e. rw (e, put) (length-sets o (6 * i) (nodeBytes x))) (λ e. rw (e, put) refl)
+    either (look (below (length o) (nodeSize * i + nodeSize))) (λ e. rw (e, put) refl) (λ e. rw (e, put) (length-sets o (nodeSize * i) (nodeBytes x)))
 
 pub length-puts : (o : List ℕ) (at j : ℕ) (xs : List Node) → length (puts o at j xs) ≡ length o
 unfolding puts
 length-puts o at j [] = refl
 length-puts o at j (x ∷ xs) = length-puts (put o (at + j) x) at (suc j) xs ∙ length-put o (at + j) x
+
+-- ---- a node that fits, byte by byte
+
+pub put-room : (o : List ℕ) (i k p l r : ℕ) {l0 l1 r0 r1 : ℕ} → nodeSize * i + nodeSize ≤ length o → l0 ≡ l % 256 → l1 ≡ l / 256
+    → r0 ≡ r % 256 → r1 ≡ r / 256
+    → set (set (set (set (set (set o (6 * i) k) (6 * i + 1) p) (6 * i + 2) l0) (6 * i + 3) l1) (6 * i + 4) r0) (6 * i + 5) r1
+    ≡ put o i (record { kind = k; param = p; left = l; right = r })
+unfolding put nodeBytes
+put-room o i k p l r h e0 e1 e2 e3 = rw (below-not (length o) (nodeSize * i + nodeSize) h) (simp (e0, e1, e2, e3, towards-suc))
 
 -- ---- one node more
 
@@ -41,28 +45,43 @@ puts-snoc o at j (y ∷ ys) x =
     let e : suc j + length ys ≡ j + suc (length ys) = omega arith in
     puts-snoc (put o (at + j) y) at (suc j) ys x ∙ rw e refl
 
-written-one : (o : List ℕ) (xs : List Node) (x : Node) → length o ≡ tableBytes → Written o xs
-    → Written (put o (length xs) x) (xs ++ (x ∷ []))
-unfolding Written put nodeBytes
-written-one o xs x l w h =
-    let e : length (xs ++ (x ∷ [])) ≡ length xs + 1 = length-append xs (x ∷ []) in
-    let lt : length xs < tableNodes = omega arith in
-    let t : length (take (6 * length xs) o) ≡ 6 * length xs = length-take-le (6 * length xs) o (omega arith) in
-    let p : put o (length xs) x ≡ take (6 * length xs) o ++ nodeBytes x ++ drop (6 * length xs + 6) o =
-    rw (below-in (length xs) tableNodes lt) (sets-eq (nodeBytes x) o (6 * length xs) (omega arith)) in
-    rw p
-    (take-at (take (6 * length xs) o ++ nodeBytes x) (drop (6 * length xs + 6) o) (6 * length (xs ++ (x ∷ [])))
-    (omega (arith, length-append (take (6 * length xs) o) (nodeBytes x)))
-    ∙ ap (λ (b : List ℕ). b ++ nodeBytes x) (w (omega arith))
-    ∙ sym (bytes-snoc xs x))
+-- ---- nodes written one by one
 
--- nodes written behind those that the buffer starts with
-pub written-more : (o : List ℕ) (at j : ℕ) (xs ys : List Node) → length o ≡ tableBytes → length xs ≡ at + j → Written o xs
-    → Written (puts o at j ys) (xs ++ ys)
-unfolding puts
-written-more o at j xs [] l e w = rw append-nil w
-written-more o at j xs (y ∷ ys) l e w =
-    let one : Written (put o (at + j) y) (xs ++ (y ∷ [])) =
-    subst (λ (k : ℕ). Written (put o k y) (xs ++ (y ∷ []))) e (written-one o xs y l w) in
-    subst (λ (zs : List Node). Written (puts (put o (at + j) y) at (suc j) ys) zs) (append-snoc xs y ys)
-    (written-more (put o (at + j) y) at (suc j) (xs ++ (y ∷ [])) ys (length-put o (at + j) y ∙ l) (omega (arith, length-append xs (y ∷ []))) one)
+-- the first n of the nodes that f gives
+unfoldable pub firsts : (ℕ → Node) → ℕ → List Node
+firsts f zero = []
+firsts f (suc n) = firsts f n ++ (f n ∷ [])
+
+length-firsts : (f : ℕ → Node) (n : ℕ) → length (firsts f n) ≡ n
+unfolding firsts
+length-firsts f zero = refl
+length-firsts f (suc n) = length-append (firsts f n) (f n ∷ []) ∙ omega (arith, length-firsts f n)
+
+-- out is the buffer o with the first n of them written from number at on
+pub record Put (o : List ℕ) (at : ℕ) (f : ℕ → Node) (n : ℕ) (out : List ℕ) : Type 0 where
+  pub is : out ≡ puts o at 0 (firsts f n)
+
+pub put-none : {o : List ℕ} {at : ℕ} {f : ℕ → Node} → Put o at f 0 o
+unfolding puts firsts
+put-none = record { is = refl }
+
+pub put-more : {o : List ℕ} {at n : ℕ} {f : ℕ → Node} {out out′ : List ℕ} → Put o at f n out → out′ ≡ put out (at + n) (f n)
+    → Put o at f (n + 1) out′
+unfolding firsts
+put-more {o} {at} {n} {f} w e =
+    let l : 0 + length (firsts f n) ≡ n = omega (arith, length-firsts f n) in
+    record { is = e ∙ rw (w .is, add-one n, firsts, puts-snoc, l) refl }
+
+pub put-length : {o : List ℕ} {at n : ℕ} {f : ℕ → Node} {out : List ℕ} → Put o at f n out → length out ≡ length o
+put-length {o} {at} {n} {f} w = ap length (w .is) ∙ length-puts o at 0 (firsts f n)
+
+-- where f gives the nodes of a list, these are the list
+firsts-take : (f : ℕ → Node) (xs : List Node) (d : Node) → ((j : ℕ) → j < length xs → f j ≡ getD xs j d) → (n : ℕ) → n ≤ length xs
+    → firsts f n ≡ take n xs
+unfolding firsts
+firsts-take f xs d e zero h = refl
+firsts-take f xs d e (suc n) h =
+    let k : n < length xs = omega arith in rw (firsts-take f xs d e n (omega arith), e n k, take-suc xs n d k) refl
+
+pub firsts-all : (f : ℕ → Node) (xs : List Node) (d : Node) → ((j : ℕ) → j < length xs → f j ≡ getD xs j d) → firsts f (length xs) ≡ xs
+firsts-all f xs d e = firsts-take f xs d e (length xs) (omega arith) ∙ take-length xs

@@ -1,2 +1,0 @@
--- Laws of leaves.
-pub mod Kept

@@ -1,2 +1,0 @@
--- What is proved of the blocks of leaves.
-pub mod Laws

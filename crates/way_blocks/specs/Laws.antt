@@ -1,2 +1,0 @@
--- Laws of ways.
-pub mod Ways
