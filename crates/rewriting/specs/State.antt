@@ -9,7 +9,9 @@ use Rattle.semantics.specs.Table.{Node, kindOf}
 use Rattle.semantics.specs.Edit.{Edit}
 use Rattle.semantics.specs.Block.{Block, old, block, root, emit, rewriteSheet}
 use Rattle.condition.specs.Bytes.{nodeAt, bytesOf}
-use Rattle.limits.specs.Limits.{tableNodes, tableBytes}
+use Rattle.limits.specs.Limits.{tableNodes, tableBytes, notNo, orNo, diaNo, slotNo}
+use Rattle.blocks.specs.declared.Spelling.{Spelling}
+use Rattle.blocks.specs.Spelling.{Spells, firstOf, secondOf}
 use Rattle.rewriting.specs.Refusal.{tooLong}
 
 pub record State : Type 0 where
@@ -39,6 +41,20 @@ imageOf e s i = getD (stateAt e s (suc i) .images) i 0
 abbrev pub usedChild : ℕ → ℕ → ℕ → ℕ → ℕ → ℕ
 usedChild lo hi k c i = cond (ltb k lo) i (cond (ltb k hi) c i)
 
+-- the children of node i, and i where it has none
+unfoldable pub leftAt : List ℕ → ℕ → ℕ
+leftAt s i = usedChild notNo slotNo (nodeAt s i .kind) (nodeAt s i .left) i
+
+unfoldable pub rightAt : List ℕ → ℕ → ℕ
+rightAt s i = usedChild orNo diaNo (nodeAt s i .kind) (nodeAt s i .right) i
+
+-- the lower and the higher one of two numbers
+abbrev pub lowerOf : ℕ → ℕ → ℕ
+lowerOf x y = cond (ltb x y) x y
+
+abbrev pub higherOf : ℕ → ℕ → ℕ
+higherOf x y = cond (ltb x y) y x
+
 -- the number of the first node of node i's block
 unfoldable pub startOf : Edit → List ℕ → ℕ → ℕ
 startOf e s i = length (stateAt e s i .out)
@@ -51,29 +67,54 @@ pub record Numbered (s : List ℕ) (e : Edit) (images : List ℕ) (n : ℕ) : Ty
   pub imaged : (j : ℕ) → j < n → getD images j 0 ≡ imageOf e s j
   pub few : startOf e s n ≤ 22528
 
--- the start of node i's block, which is behind the block before it, and the image of a child c of node i, 0 where c is not lower
-unfoldable pub startIn : List ℕ → ℕ → ℕ
-startIn images zero = 0
-startIn images (suc j) = getD images j 0 + 1
-
+-- the image of a child c of node i, 0 where c is not lower
 unfoldable pub imageIn : List ℕ → ℕ → ℕ → ℕ
 imageIn images i c = cond (ltb c i) (getD images c 0) 0
+
+-- what stands for a node's row once the node is placed
+abbrev pub placedRow : ℕ
+placedRow = 255
+
+-- the spelling of node j by a row
+abbrev pub spellingBy : Edit → List ℕ → ℕ → ℕ → Spelling
+spellingBy e s j row = record { row = row; w = nodeAt s j .param; a = firstOf e; b = secondOf e }
+
+-- the rows of the nodes below n spell their blocks, where the nodes are not placed
+pub record Rowed (s : List ℕ) (e : Edit) (rows : List ℕ) (n : ℕ) : Type 0 where
+  pub size : length rows ≡ tableNodes
+  pub spells : (j : ℕ) → j < n → (getD rows j 0 ≡ placedRow → ⊥)
+      → Spells e (nodeAt s j .kind) (nodeAt s j .param) (spellingBy e s j (getD rows j 0))
+
+-- none of the nodes below n is placed
+abbrev pub NonePlaced : List ℕ → ℕ → Type 0
+NonePlaced rows n = (j : ℕ) → j < n → getD rows j 0 ≡ placedRow → ⊥
+
+-- what placing the nodes below n needs: images and rows, the edit's numbers a and b, and a whole buffer
+pub record Ready (s : List ℕ) (e : Edit) (images rows out : List ℕ) (a b n : ℕ) : Type 0 where
+  pub whole : length s ≡ tableBytes
+  pub numbered : Numbered s e images n
+  pub rowed : Rowed s e rows n
+  pub first : a ≡ firstOf e
+  pub second : b ≡ secondOf e
+  pub room : length out ≡ tableBytes
 
 -- the block of node j stands in a buffer, as far as there is room
 unfoldable pub Stands : List ℕ → Edit → List ℕ → ℕ → Type 0
 Stands s e out j = (p : ℕ) → 6 * startOf e s j ≤ p → p < 6 * startOf e s (suc j) → p < tableBytes
     → getD out p 0 ≡ getD (bytesOf (stateAt e s (suc j) .out)) p 0
 
--- the blocks of the nodes that are marked as done stand in a buffer
-pub record Filled (s : List ℕ) (e : Edit) (done out : List ℕ) : Type 0 where
-  pub size : length done ≡ tableNodes
-  pub room : length out ≡ tableBytes
-  pub stand : (j : ℕ) → 0 < getD done j 0 → Stands s e out j
+-- some nodes more are placed: their blocks stand, and no block that stood is spoiled
+pub record Placing (s : List ℕ) (e : Edit) (rows out rows′ out′ : List ℕ) : Type 0 where
+  pub size : length rows′ ≡ length rows
+  pub room : length out′ ≡ length out
+  pub stays : (j : ℕ) → getD rows j 0 ≡ placedRow → getD rows′ j 0 ≡ placedRow
+  pub same : (j : ℕ) → (getD rows′ j 0 ≡ placedRow → ⊥) → getD rows′ j 0 ≡ getD rows j 0
+  pub stand : (j : ℕ) → (getD rows j 0 ≡ placedRow → ⊥) → getD rows′ j 0 ≡ placedRow → Stands s e out′ j
+  pub keeps : (j : ℕ) → Stands s e out j → Stands s e out′ j
 
--- more may be done, and what was done is
-pub record More (s : List ℕ) (e : Edit) (done done′ out′ : List ℕ) : Type 0 where
-  pub filled : Filled s e done′ out′
-  pub stays : (j : ℕ) → 0 < getD done j 0 → 0 < getD done′ j 0
+-- each number is a byte
+abbrev pub Bytes : List ℕ → Type 0
+Bytes s = (i : ℕ) → getD s i 0 < 256
 
 -- all edits are done: a buffer starts with the rewritten table, which has r nodes; where the item is met, r is over 2,048
 pub record Passed (es : List Edit) (xs : List Node) (o : List ℕ) (r : ℕ) : Type 0 where

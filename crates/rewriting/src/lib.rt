@@ -1,22 +1,38 @@
 // A table of nodes rewritten through a sheet of edits, the last one first. Document 01, "Rewriting", and item 14.
-use blocks::TABLE_BYTES;
-use blocks::TABLE_NODES;
+use blocks::Spelling;
+use buffer::copy;
+use condition::kind;
+use condition::param;
+use limits::DIA;
+use limits::NODE_BYTES;
+use limits::NOT;
+use limits::OR;
+use limits::SLOT;
+use limits::TABLE_BYTES;
+use limits::TABLE_NODES;
+use limits::TRUE;
 use sheet::Op;
 use verdict::Verdict;
 ghost use mathlib.Core.Path.{_≡_};
 ghost use mathlib.Core.List.{_++_};
-ghost use mathlib.Core.Bool.{true};
+ghost use mathlib.Core.Bool.{true, false};
 ghost use Prim.Native.Nat.{_+_, _*_, _-_, _≤_, _<_};
 ghost use lib.ListN.{length, getD, take, replicate};
 ghost use Rattle.semantics.specs.Edit.{legal, sheetLegal};
 ghost use Rattle.semantics.specs.Block.{rewriteTable};
 ghost use Rattle.condition.specs.Bytes.{nodes};
 ghost use Rattle.sheet.specs.Bytes.{editOf, editsOf};
-ghost use Rattle.limits.specs.Limits.{tableNodes, tableBytes};
+ghost use Rattle.limits.specs.Limits.{nodeSize, tableNodes, tableBytes};
+ghost use Rattle.blocks.specs.Spelling.{firstOf, secondOf};
 ghost use Rattle.blocks.specs.Write.{Written};
-ghost use Rattle.rewriting.specs.State.{usedChild, startOf, Numbered, startIn, imageIn, Filled, More, Passed};
+ghost use Rattle.rewriting.specs.State.{leftAt, rightAt, startOf, Numbered, imageIn, placedRow, Rowed, NonePlaced, Ready, Placing, lowerOf, higherOf, Bytes, Passed};
 ghost use Rattle.rewriting.specs.Answer.{verdictOf, nodesOf};
 ghost use Rattle.rewriting.specs.Rewriting.{Rewrote};
+
+// Tables, images and rows are lent as whole arrays: a call passes a pointer for each, in a register, and a last call becomes a jump.
+
+// What stands for a node's row once the node is placed. No row has this number.
+const PLACED: u8 = 255;
 
 fn narrow(x: usize) -> u16
     requires { ⌜ x < 65536 ⌝ }
@@ -25,156 +41,307 @@ fn narrow(x: usize) -> u16
     x as u16
 }
 
-// The field c of node i, of kind k, where it is a child, that is for the kinds from lo to below hi; and i where it is not used.
-fn used_child(k: u8, lo: u8, hi: u8, c: usize, i: usize) -> usize
-    ensures { λ r. ⌜ r ≡ usedChild lo hi k c i ⌝ }
+fn widen(x: u16) -> usize
+    ensures { λ r. ⌜ (r ≡ x) × (r < 65536) ⌝ }
 {
-    if k < lo {
+    x as usize
+}
+
+// The children of node i, and i where it has none.
+fn left_of(table: &[u8; TABLE_BYTES], i: usize) -> usize
+    requires { ⌜ (length (now table) ≡ tableBytes) × (i < tableNodes) ⌝ }
+    ensures { λ r. ⌜ r ≡ leftAt (now (table .entry)) i ⌝ }
+{
+    let k = kind(table, i);
+    if k < NOT {
         return i;
     }
-    if k < hi {
-        return c;
+    if k < SLOT {
+        return condition::left(table, i);
     }
     i
 }
 
-// Where the block of node i begins, which is behind the image of the node before it.
-fn start(images: &[u16], i: usize) -> usize
-    requires { ⌜ (i ≤ length (now images)) × (i ≤ tableNodes) ⌝ }
-    ensures { λ r. ⌜ r ≡ startIn (now (images .entry)) i ⌝ }
+fn right_of(table: &[u8; TABLE_BYTES], i: usize) -> usize
+    requires { ⌜ (length (now table) ≡ tableBytes) × (i < tableNodes) ⌝ }
+    ensures { λ r. ⌜ r ≡ rightAt (now (table .entry)) i ⌝ }
 {
-    if i == 0 {
-        return 0;
+    let k = kind(table, i);
+    if k < OR {
+        return i;
     }
-    let last = i - 1;
-    images[last] as usize + 1
+    if k < DIA {
+        return condition::right(table, i);
+    }
+    i
 }
 
 // The image of the child c of node i, and 0 where c is not lower.
-fn image(images: &[u16], i: usize, c: usize) -> usize
-    requires { ⌜ (i ≤ length (now images)) × (i ≤ tableNodes) ⌝ }
+fn image(images: &[u16; TABLE_NODES], i: usize, c: usize) -> usize
+    requires { ⌜ i ≤ tableNodes ⌝ }
     ensures { λ r. ⌜ r ≡ imageIn (now (images .entry)) i c ⌝ }
 {
     if c < i {
-        return images[c] as usize;
+        return widen(images[c]);
     }
     0
 }
 
-// The first pass: the images of the first n nodes, by the sizes of their blocks. Gives how many nodes the blocks have.
-fn number(table: &[u8], n: usize, e: Op, images: &mut [u16]) -> usize
-    requires { ⌜ (6 * n ≤ length (now table)) × (n ≤ tableNodes) × (length (now images) ≡ tableNodes) ⌝ }
-    ensures { λ r. ⌜ Numbered (now (table .entry)) (editOf e) (now (images .exit)) n × (r ≡ startOf (editOf e) (now (table .entry)) n) ⌝ }
+// Node c is below i and not placed.
+fn waits(rows: &[u8; TABLE_NODES], i: usize, c: usize) -> bool
+    requires { ⌜ i ≤ tableNodes ⌝ }
+{
+    if c < i {
+        return rows[c] != PLACED;
+    }
+    false
+}
+
+// The first pass: the rows of the first n nodes, and their images by the sizes of their blocks. Gives how many nodes the blocks have.
+fn number(
+    table: &[u8; TABLE_BYTES],
+    n: usize,
+    e: Op,
+    images: &mut [u16; TABLE_NODES],
+    rows: &mut [u8; TABLE_NODES],
+) -> usize
+    requires { ⌜ (length (now table) ≡ tableBytes) × (n ≤ tableNodes) × (length (now images) ≡ tableNodes) × (length (now rows) ≡ tableNodes) ⌝ }
+    requires { ⌜ legal (editOf e) ≡ true ⌝ }
+    ensures { λ r. ⌜ (r ≡ startOf (editOf e) (now (table .entry)) n) × (r ≤ 22528) × Numbered (now (table .entry)) (editOf e) (now (images .exit)) n ⌝ }
+    ensures { λ _. ⌜ Rowed (now (table .entry)) (editOf e) (now (rows .exit)) n × NonePlaced (now (rows .exit)) n ⌝ }
 {
     let mut i = 0;
     let mut next = 0;
     while i < n {
-        let k = condition::kind(table, i);
-        let p = condition::param(table, i);
-        next += node_blocks::block_size(e, k, p);
+        let s = blocks::spell(e, kind(table, i), param(table, i));
+        next += blocks::size(s);
         images[i] = narrow(next - 1);
+        rows[i] = s.row;
         i += 1;
     }
     next
 }
 
-// The second pass at node i: its children are placed, and then its block is written.
-fn place(table: &[u8], e: Op, images: &[u16], done: &mut [u8], out: &mut [u8], i: usize)
-    requires { ⌜ Numbered (now table) (editOf e) (now images) (i + 1) ⌝ }
-    requires { ⌜ legal (editOf e) ≡ true ⌝ }
-    requires { ⌜ Filled (now table) (editOf e) (now done) (now out) ⌝ }
-    ensures { λ _. ⌜ More (now (table .entry)) (editOf e) (now (done .entry)) (now (done .exit)) (now (out .exit)) × (0 < getD (now (done .exit)) i 0) ⌝ }
+// Node c is placed: its block is written at its place. Gives whether one of its children waits. The edit stands in the contract alone.
+fn place(
+    table: &[u8; TABLE_BYTES],
+    images: &[u16; TABLE_NODES],
+    rows: &mut [u8; TABLE_NODES],
+    out: &mut [u8; TABLE_BYTES],
+    e: Op,
+    a: u8,
+    b: u8,
+    c: usize,
+) -> bool
+    requires { ⌜ Ready (now table) (editOf e) (now images) (now rows) (now out) a b (c + 1) ⌝ }
+    ensures { λ _. ⌜ Placing (now (table .entry)) (editOf e) (now (rows .entry)) (now (out .entry)) (now (rows .exit)) (now (out .exit)) × (getD (now (rows .exit)) c 0 ≡ placedRow) ⌝ }
 {
-    let k = condition::kind(table, i);
-    let p = condition::param(table, i);
-    let l = used_child(k, 5, 12, condition::left(table, i), i);
-    let r = used_child(k, 6, 8, condition::right(table, i), i);
-    place_below(table, e, images, done, out, i, l);
-    place_below(table, e, images, done, out, i, r);
-    let at = start(images, i);
-    let t = image(images, i, l);
-    let u = image(images, i, r);
-    node_blocks::put_block(out, at, e, k, p, t, u);
-    done[i] = 1;
+    let row = rows[c];
+    if row == PLACED {
+        return false;
+    }
+    rows[c] = PLACED;
+    let s = Spelling {
+        row,
+        w: param(table, c),
+        a,
+        b,
+    };
+    let end = widen(images[c]) + 1;
+    let l = left_of(table, c);
+    let r = right_of(table, c);
+    let t = image(images, c, l);
+    let u = image(images, c, r);
+    blocks::write(out, end - blocks::size(s), s, t, u);
+    waits(rows, c, l) | waits(rows, c, r)
 }
 
-// Node c is placed, where it is below i and not done.
+// Node c is placed, where it is below i. Gives 1 where one of its children waits, and else 0.
 fn place_below(
-    table: &[u8],
+    table: &[u8; TABLE_BYTES],
+    images: &[u16; TABLE_NODES],
+    rows: &mut [u8; TABLE_NODES],
+    out: &mut [u8; TABLE_BYTES],
     e: Op,
-    images: &[u16],
-    done: &mut [u8],
-    out: &mut [u8],
+    a: u8,
+    b: u8,
     i: usize,
     c: usize,
-)
-    requires { ⌜ Numbered (now table) (editOf e) (now images) i ⌝ }
-    requires { ⌜ legal (editOf e) ≡ true ⌝ }
-    requires { ⌜ Filled (now table) (editOf e) (now done) (now out) ⌝ }
-    ensures { λ _. ⌜ More (now (table .entry)) (editOf e) (now (done .entry)) (now (done .exit)) (now (out .exit)) × (c < i → 0 < getD (now (done .exit)) c 0) ⌝ }
+) -> u8
+    requires { ⌜ Ready (now table) (editOf e) (now images) (now rows) (now out) a b i ⌝ }
+    ensures { λ _. ⌜ Placing (now (table .entry)) (editOf e) (now (rows .entry)) (now (out .entry)) (now (rows .exit)) (now (out .exit)) × (c < i → getD (now (rows .exit)) c 0 ≡ placedRow) ⌝ }
+    ensures { λ r. ⌜ (r ≤ 1) × (r ≡ 1 → c < i) ⌝ }
 {
     if i <= c {
-        return;
+        return 0;
     }
-    if 0 < done[c] {
-        return;
+    if place(table, images, rows, out, e, a, b, c) {
+        return 1;
     }
-    place(table, e, images, done, out, c);
+    0
 }
 
-// Node i is placed, where it is not done. It is a second caller of `place`, so that the compiler keeps `place` apart and a child that is
-// done costs a look and no call.
-fn place_open(table: &[u8], e: Op, images: &[u16], done: &mut [u8], out: &mut [u8], i: usize)
-    requires { ⌜ Numbered (now table) (editOf e) (now images) (i + 1) ⌝ }
-    requires { ⌜ legal (editOf e) ≡ true ⌝ }
-    requires { ⌜ Filled (now table) (editOf e) (now done) (now out) ⌝ }
-    ensures { λ _. ⌜ More (now (table .entry)) (editOf e) (now (done .entry)) (now (done .exit)) (now (out .exit)) × (0 < getD (now (done .exit)) i 0) ⌝ }
+// Nodes lo and hi are placed, where they are below i. Gives 2 where a child of lo waits, and 1 more where a child of hi does. A loop, so that
+// `place` is called at one point and put there by the compiler.
+fn place_two(
+    table: &[u8; TABLE_BYTES],
+    images: &[u16; TABLE_NODES],
+    rows: &mut [u8; TABLE_NODES],
+    out: &mut [u8; TABLE_BYTES],
+    e: Op,
+    a: u8,
+    b: u8,
+    i: usize,
+    lo: usize,
+    hi: usize,
+) -> u8
+    requires { ⌜ Ready (now table) (editOf e) (now images) (now rows) (now out) a b i ⌝ }
+    ensures { λ _. ⌜ Placing (now (table .entry)) (editOf e) (now (rows .entry)) (now (out .entry)) (now (rows .exit)) (now (out .exit)) × (lo < i → getD (now (rows .exit)) lo 0 ≡ placedRow) × (hi < i → getD (now (rows .exit)) hi 0 ≡ placedRow) ⌝ }
+    ensures { λ r. ⌜ (2 ≤ r → lo < i) × (r ≡ 1 → hi < i) × (3 ≤ r → hi < i) ⌝ }
 {
-    if 0 < done[i] {
+    let mut c = lo;
+    let mut waiting = 0u8;
+    let mut turn = 0usize;
+    while turn < 2 {
+        waiting = 2 * waiting + place_below(table, images, rows, out, e, a, b, i, c);
+        c = hi;
+        turn += 1;
+    }
+    waiting
+}
+
+fn lower(x: usize, y: usize) -> usize
+    ensures { λ r. ⌜ r ≡ lowerOf x y ⌝ }
+{
+    if x < y {
+        return x;
+    }
+    y
+}
+
+fn higher(x: usize, y: usize) -> usize
+    ensures { λ r. ⌜ r ≡ higherOf x y ⌝ }
+{
+    if x < y {
+        return y;
+    }
+    x
+}
+
+// The second pass, by recursion on children: l and r, the children of node i, are placed where they are below it, and then what is below
+// them. Of the two the higher one comes first: what it shares with the lower one is placed by then, so that the calls stay shallow.
+fn place_children(
+    table: &[u8; TABLE_BYTES],
+    images: &[u16; TABLE_NODES],
+    rows: &mut [u8; TABLE_NODES],
+    out: &mut [u8; TABLE_BYTES],
+    e: Op,
+    a: u8,
+    b: u8,
+    i: usize,
+    l: usize,
+    r: usize,
+)
+    requires { ⌜ Ready (now table) (editOf e) (now images) (now rows) (now out) a b i ⌝ }
+    ensures { λ _. ⌜ Placing (now (table .entry)) (editOf e) (now (rows .entry)) (now (out .entry)) (now (rows .exit)) (now (out .exit)) × (l < i → getD (now (rows .exit)) l 0 ≡ placedRow) × (r < i → getD (now (rows .exit)) r 0 ≡ placedRow) ⌝ }
+{
+    let lo = lower(l, r);
+    let hi = higher(l, r);
+    let waiting = place_two(table, images, rows, out, e, a, b, i, lo, hi);
+    if waiting < 1 {
         return;
     }
-    place(table, e, images, done, out, i);
+    if waiting < 2 {
+        place_under(table, images, rows, out, e, a, b, hi);
+        return;
+    }
+    if waiting < 3 {
+        place_under(table, images, rows, out, e, a, b, lo);
+        return;
+    }
+    place_under(table, images, rows, out, e, a, b, hi);
+    place_under(table, images, rows, out, e, a, b, lo);
+}
+
+// What is below node i is placed.
+fn place_under(
+    table: &[u8; TABLE_BYTES],
+    images: &[u16; TABLE_NODES],
+    rows: &mut [u8; TABLE_NODES],
+    out: &mut [u8; TABLE_BYTES],
+    e: Op,
+    a: u8,
+    b: u8,
+    i: usize,
+)
+    requires { ⌜ Ready (now table) (editOf e) (now images) (now rows) (now out) a b i × (i < tableNodes) ⌝ }
+    ensures { λ _. ⌜ Placing (now (table .entry)) (editOf e) (now (rows .entry)) (now (out .entry)) (now (rows .exit)) (now (out .exit)) ⌝ }
+{
+    let l = left_of(table, i);
+    let r = right_of(table, i);
+    place_children(table, images, rows, out, e, a, b, i, l, r);
+}
+
+// Node i is placed, where it is not, and what is below it.
+fn place_open(
+    table: &[u8; TABLE_BYTES],
+    images: &[u16; TABLE_NODES],
+    rows: &mut [u8; TABLE_NODES],
+    out: &mut [u8; TABLE_BYTES],
+    e: Op,
+    a: u8,
+    b: u8,
+    i: usize,
+)
+    requires { ⌜ Ready (now table) (editOf e) (now images) (now rows) (now out) a b (i + 1) ⌝ }
+    ensures { λ _. ⌜ Placing (now (table .entry)) (editOf e) (now (rows .entry)) (now (out .entry)) (now (rows .exit)) (now (out .exit)) × (getD (now (rows .exit)) i 0 ≡ placedRow) ⌝ }
+{
+    if rows[i] == PLACED {
+        return;
+    }
+    place_children(table, images, rows, out, e, a, b, i + 1, i, i);
 }
 
 // The second pass, from the last node down: those that the ones above do not reach are placed too.
-fn place_down(table: &[u8], n: usize, e: Op, images: &[u16], done: &mut [u8], out: &mut [u8])
-    requires { ⌜ Numbered (now table) (editOf e) (now images) n ⌝ }
-    requires { ⌜ legal (editOf e) ≡ true ⌝ }
-    requires { ⌜ Filled (now table) (editOf e) (now done) (now out) ⌝ }
+fn place_down(
+    table: &[u8; TABLE_BYTES],
+    images: &[u16; TABLE_NODES],
+    rows: &mut [u8; TABLE_NODES],
+    out: &mut [u8; TABLE_BYTES],
+    e: Op,
+    a: u8,
+    b: u8,
+    n: usize,
+)
+    requires { ⌜ Ready (now table) (editOf e) (now images) (now rows) (now out) a b n × NonePlaced (now rows) n ⌝ }
     ensures { λ _. ⌜ Written (now (out .exit)) (rewriteTable (editOf e) (nodes (now (table .entry)) n)) ⌝ }
+    ensures { λ _. ⌜ (length (now (rows .exit)) ≡ tableNodes) × (length (now (out .exit)) ≡ tableBytes) ⌝ }
 {
     let mut top = n;
     while 0 < top {
         let i = top - 1;
-        place_open(table, e, images, done, out, i);
+        place_open(table, images, rows, out, e, a, b, i);
         top = i;
     }
 }
 
-fn no_marks() -> [u8; TABLE_NODES]
-    ensures { λ r. ⌜ r ≡ replicate tableNodes 0 ⌝ }
-{
-    [0; TABLE_NODES]
-}
-
-fn place_all(table: &[u8], n: usize, e: Op, images: &[u16], out: &mut [u8])
-    requires { ⌜ Numbered (now table) (editOf e) (now images) n ⌝ }
-    requires { ⌜ legal (editOf e) ≡ true ⌝ }
-    requires { ⌜ length (now out) ≡ tableBytes ⌝ }
-    ensures { λ _. ⌜ Written (now (out .exit)) (rewriteTable (editOf e) (nodes (now (table .entry)) n)) ⌝ }
-{
-    let mut done = no_marks();
-    place_down(table, n, e, images, &mut done, out);
-}
-
 // The first n nodes of a table, rewritten for one edit. Gives how many nodes that makes; those that fit are written.
-fn rewrite(table: &[u8], n: usize, e: Op, images: &mut [u16], out: &mut [u8]) -> usize
-    requires { ⌜ (6 * n ≤ length (now table)) × (n ≤ tableNodes) × (length (now images) ≡ tableNodes) × (length (now out) ≡ tableBytes) ⌝ }
+fn rewrite(
+    table: &[u8; TABLE_BYTES],
+    n: usize,
+    e: Op,
+    images: &mut [u16; TABLE_NODES],
+    rows: &mut [u8; TABLE_NODES],
+    out: &mut [u8; TABLE_BYTES],
+) -> usize
+    requires { ⌜ (length (now table) ≡ tableBytes) × (n ≤ tableNodes) × (length (now images) ≡ tableNodes) × (length (now rows) ≡ tableNodes) × (length (now out) ≡ tableBytes) ⌝ }
     requires { ⌜ legal (editOf e) ≡ true ⌝ }
     ensures { λ r. ⌜ (r ≡ length (rewriteTable (editOf e) (nodes (now (table .entry)) n))) × Written (now (out .exit)) (rewriteTable (editOf e) (nodes (now (table .entry)) n)) × (r ≤ 22528) ⌝ }
+    ensures { λ _. ⌜ (length (now (images .exit)) ≡ tableNodes) × (length (now (rows .exit)) ≡ tableNodes) × (length (now (out .exit)) ≡ tableBytes) ⌝ }
 {
-    let made = number(table, n, e, images);
-    place_all(table, n, e, images, out);
+    let made = number(table, n, e, images, rows);
+    let s = blocks::spell(e, TRUE, 0);
+    place_down(table, images, rows, out, e, s.a, s.b, n);
     made
 }
 
@@ -187,12 +354,20 @@ fn clear_from(b: &mut [u8], n: usize)
     buffer::zero(&mut b[n..end]);
 }
 
-// The table of n nodes that stands in result, rewritten for each edit of the sheet, the last one first. Gives how many nodes it has
-// then; where that is over 2,048, it was so after some edit.
-fn passes(sheet: &[u8], n: usize, result: &mut [u8], spare: &mut [u8], images: &mut [u16]) -> usize
-    requires { ⌜ (n ≤ tableNodes) × (length (now result) ≡ tableBytes) × (length (now spare) ≡ tableBytes) × (length (now images) ≡ tableNodes) ⌝ }
+// The first n nodes of a table, rewritten for each edit of the sheet, the last one first. Gives how many nodes it has then; where that is
+// over 2,048, it was so after some edit.
+fn passes(
+    sheet: &[u8],
+    n: usize,
+    table: &mut [u8; TABLE_BYTES],
+    spare: &mut [u8; TABLE_BYTES],
+    images: &mut [u16; TABLE_NODES],
+    rows: &mut [u8; TABLE_NODES],
+) -> usize
+    requires { ⌜ (n ≤ tableNodes) × (length (now table) ≡ tableBytes) × (length (now spare) ≡ tableBytes) × (length (now images) ≡ tableNodes) × (length (now rows) ≡ tableNodes) ⌝ }
+    requires { ⌜ Bytes (now table) ⌝ }
     requires { ⌜ sheetLegal (editsOf (now sheet)) ≡ true ⌝ }
-    ensures { λ r. ⌜ Passed (editsOf (now (sheet .entry))) (nodes (now (result .entry)) n) (now (result .exit)) r ⌝ }
+    ensures { λ r. ⌜ Passed (editsOf (now (sheet .entry))) (nodes (now (table .entry)) n) (now (table .exit)) r × (length (now (table .exit)) ≡ tableBytes) ⌝ }
 {
     let edits = sheet.len() / 4;
     let mut done = 0;
@@ -201,11 +376,11 @@ fn passes(sheet: &[u8], n: usize, result: &mut [u8], spare: &mut [u8], images: &
         let next = done + 1;
         let last = edits - next;
         let e = sheet::edit_at(sheet, last);
-        let made = rewrite(result, count, e, images, spare);
+        let made = rewrite(table, count, e, images, rows, spare);
         if TABLE_NODES < made {
             return made;
         }
-        buffer::copy(result, spare, 6 * made);
+        copy(table, spare, NODE_BYTES * made);
         count = made;
         done = next;
     }
@@ -218,26 +393,30 @@ pub enum Rewriting {
     Refused(u8, u16),
 }
 
-// A table rewritten for a sheet, with a second buffer for a table and one for images, whatever they hold.
+// A table rewritten for a sheet, with two tables, images and rows to work on, whatever they hold.
 fn rewrite_with(
     table: &[u8],
     sheet: &[u8],
     result: &mut [u8],
-    spare: &mut [u8],
-    images: &mut [u16],
+    work: &mut [u8; TABLE_BYTES],
+    spare: &mut [u8; TABLE_BYTES],
+    images: &mut [u16; TABLE_NODES],
+    rows: &mut [u8; TABLE_NODES],
 ) -> Rewriting
-    requires { ⌜ (length (now table) ≤ tableBytes) × (length (now result) ≡ tableBytes) × (length (now spare) ≡ tableBytes) × (length (now images) ≡ tableNodes) ⌝ }
+    requires { ⌜ (length (now table) ≤ tableBytes) × (length (now result) ≡ tableBytes) ⌝ }
+    requires { ⌜ Bytes (now work) × (length (now work) ≡ tableBytes) × (length (now spare) ≡ tableBytes) × (length (now images) ≡ tableNodes) × (length (now rows) ≡ tableNodes) ⌝ }
     requires { ⌜ sheetLegal (editsOf (now sheet)) ≡ true ⌝ }
     ensures { λ r. ⌜ Rewrote (now (table .entry)) (now (sheet .entry)) (now (result .entry)) (now (result .exit)) (verdictOf r) (nodesOf r) ⌝ }
 {
-    buffer::copy(result, table, table.len());
-    let n = table.len() / 6;
-    let made = passes(sheet, n, result, spare, images);
+    copy(work, table, table.len());
+    let n = table.len() / NODE_BYTES;
+    let made = passes(sheet, n, work, spare, images, rows);
     if TABLE_NODES < made {
         buffer::zero(result);
         return Rewriting::Refused(14, 0);
     }
-    clear_from(result, 6 * made);
+    copy(result, work, NODE_BYTES * made);
+    clear_from(result, NODE_BYTES * made);
     Rewriting::Rewritten(made as u32)
 }
 
@@ -253,15 +432,23 @@ fn no_images() -> [u16; TABLE_NODES]
     [0; TABLE_NODES]
 }
 
+fn no_rows() -> [u8; TABLE_NODES]
+    ensures { λ r. ⌜ r ≡ replicate tableNodes 0 ⌝ }
+{
+    [0; TABLE_NODES]
+}
+
 // A table rewritten for a sheet: its bytes and then zeros in result, and zeros alone where item 14 is met.
 pub fn rewrite_sheet(table: &[u8], sheet: &[u8], result: &mut [u8]) -> Rewriting
     requires { ⌜ (length (now table) ≤ tableBytes) × (length (now result) ≡ tableBytes) ⌝ }
     requires { ⌜ sheetLegal (editsOf (now sheet)) ≡ true ⌝ }
     ensures { λ r. ⌜ Rewrote (now (table .entry)) (now (sheet .entry)) (now (result .entry)) (now (result .exit)) (verdictOf r) (nodesOf r) ⌝ }
 {
+    let mut work = no_table();
     let mut spare = no_table();
     let mut images = no_images();
-    rewrite_with(table, sheet, result, &mut spare, &mut images)
+    let mut rows = no_rows();
+    rewrite_with(table, sheet, result, &mut work, &mut spare, &mut images, &mut rows)
 }
 
 pub fn verdict(r: Rewriting) -> Verdict

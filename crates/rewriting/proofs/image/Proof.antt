@@ -1,27 +1,27 @@
 -- The image of a child that is lower.
 use borrow.Author.Tests.{lt-ltb, le-ltb}
-use mathlib.Core.Path.{refl}
+use mathlib.Core.Path.{refl, _∙_}
 use native.Mathlib.Omega.{arith}
 use Rattle.rewriting.specs.State.{imageIn}
 use Rattle.rewriting.proofs.image.Statement.{statement}
 use Rattle.rewriting.proofs.image.Tie as tie
 
-mul-result : tie.Need-mul-result
-mul-result c = omega arith
+mul-widen : tie.Need-mul-widen
+mul-widen c = omega arith
 
-shared-slice-read-result : tie.Need-shared-slice-read-result
-shared-slice-read-result c = omega arith
+element-copy-out-widen : tie.Need-element-copy-out-widen
+element-copy-out-widen c = omega arith
 
-cast-result : tie.Need-cast-result
-cast-result c = omega (arith, c .shared-slice-known .given (c .before .before .args .c))
+widen-requires : tie.Need-widen-requires
+widen-requires c κs = tt
 
 returns : tie.Need-returns
 unfolding imageIn
-returns c = rw (lt-ltb _ _ (c .before .if1 .taken)) refl
+returns c = rw (lt-ltb _ _ (c .before .before .if1 .taken)) (c .widen .ensures .0)
 
 returns-2 : tie.Need-returns-2
 unfolding imageIn
 returns-2 c = rw (le-ltb _ _ (c .if1 .left)) refl
 
 pub image-spec : {M : Type 1} → statement M
-image-spec = tie.close (tie.spec mul-result shared-slice-read-result cast-result returns returns-2)
+image-spec = tie.close (tie.spec mul-widen element-copy-out-widen widen-requires returns returns-2)

@@ -1,21 +1,21 @@
--- The nodes below i have their images, and next is the start of the next block.
+-- The nodes below i have their images and rows, and next is the start of the next block.
 use mathlib.Core.Path.{_≡_}
 use Prim.Native.Nat.{_*_, _-_, _≤_}
 use native.Mathlib.Omega.{arith}
 use Rattle.sheet.specs.Bytes.{editOf}
-use Rattle.rewriting.specs.State.{startOf, Numbered}
-use Rattle.rewriting.specs.Laws.Numbered.{numbered-none, start-none, size-some, numbered-more, next-start, ended}
+use Rattle.rewriting.specs.State.{startOf, Numbered, Rowed, NonePlaced}
+use Rattle.rewriting.specs.Laws.Numbered.{numbered-none, start-none, sized, numbered-more, next-start, ended, rowed-none, rowed-more, rowed-ended}
 use Rattle.rewriting.proofs.number.Statement.{statement}
 use Rattle.rewriting.proofs.number.Tie as tie
 
 abbrev Inv-loop : tie.InvT-loop
-Inv-loop table n e images₀ i₀ next₀ images i next = (i ≤ n) × (next ≤ 11 * i) × (next ≡ startOf (editOf e) table i) × Numbered table (editOf e) images i
+Inv-loop table n e images₀ rows₀ i₀ next₀ images rows i next = (i ≤ n) × (next ≤ 11 * i) × (next ≡ startOf (editOf e) table i) × Numbered table (editOf e) images i × (Rowed table (editOf e) rows i × NonePlaced rows i)
 
 abbrev μ-loop : tie.MeasureT-loop
-μ-loop table n e images₀ i₀ next₀ images i next = n - i
+μ-loop table n e images₀ rows₀ i₀ next₀ images rows i next = n - i
 
 loop-holds : tie.Need-loop-holds Inv-loop μ-loop
-loop-holds c = (omega arith, omega arith, start-none _ _, numbered-none _ _ _ (c .before .before .pre .2))
+loop-holds c = let p = c .pre .0 in (omega arith, omega arith, start-none _ _, numbered-none _ _ _ (p .2), rowed-none _ _ _ (p .3))
 
 kind-requires : tie.Need-kind-requires Inv-loop μ-loop
 kind-requires c κs = omega arith
@@ -23,23 +23,29 @@ kind-requires c κs = omega arith
 param-requires : tie.Need-param-requires Inv-loop μ-loop
 param-requires c κs = omega arith
 
-block-size-requires : tie.Need-block-size-requires Inv-loop μ-loop
-block-size-requires c κs = tt
+spell-requires : tie.Need-spell-requires Inv-loop μ-loop
+spell-requires c κs = c .before .before .before .before .before .before .pre .1
+
+size-requires : tie.Need-size-requires Inv-loop μ-loop
+size-requires c κs = c .spell .ensures .known
 
 add-next : tie.Need-add-next Inv-loop μ-loop
-add-next c = omega (arith, c .block-size .ensures .1)
+add-next c = omega (arith, c .size .ensures .few)
 
 sub-narrow : tie.Need-sub-narrow Inv-loop μ-loop
-sub-narrow c = omega (arith, size-some _ _ _ (c .block-size .ensures .0))
+sub-narrow c = omega (arith, c .size .ensures .some)
 
 narrow-requires : tie.Need-narrow-requires Inv-loop μ-loop
-narrow-requires c κs = omega (arith, c .block-size .ensures .1)
+narrow-requires c κs = omega (arith, c .size .ensures .few)
 
 mul-images : tie.Need-mul-images Inv-loop μ-loop
 mul-images c = omega arith
 
-slice-write-images : tie.Need-slice-write-images Inv-loop μ-loop
-slice-write-images c = omega (arith, c .before .before .before .before .before .loop .inv .3 .size)
+element-write-images : tie.Need-element-write-images Inv-loop μ-loop
+element-write-images c = omega arith
+
+element-write-rows : tie.Need-element-write-rows Inv-loop μ-loop
+element-write-rows c = omega arith
 
 add-i : tie.Need-add-i Inv-loop μ-loop
 add-i c = omega arith
@@ -49,16 +55,13 @@ loop-less c = omega arith
 
 loop-again : tie.Need-loop-again Inv-loop μ-loop
 loop-again c =
-    let b = c .before in let q = b .before in let k = q .before in
-    let l = k .before .before .loop .inv in
-    let r = b .block-size .ensures in
-    (omega arith, omega (arith, r .1), next-start (l .3) _ _ _ _ (k .kind .ensures) (q .param .ensures) (l .2) (r .0), numbered-more (l .3) _ _ _ _ (k .kind .ensures) (q .param .ensures) (l .2) (r .0) (omega arith) (omega arith) (r .1) (l .1) _ (c .narrow .ensures))
-
-same-length : tie.Need-same-length Inv-loop μ-loop
-same-length c = omega (arith, c .before .loop .inv .3 .size)
+    let z = c .before in let x = z .before in let p = x .before in let k = p .before .before in
+    let t = k .before .before in let l = t .before .loop .inv in let b = t .before .before .pre .0 in
+    let r = sized (x .spell .ensures) (z .size .ensures) in
+    (omega arith, omega (arith, z .size .ensures .few), next-start (l .3) _ _ _ _ (k .kind .ensures) (p .param .ensures) (l .2) r, numbered-more (l .3) _ _ _ _ (k .kind .ensures) (p .param .ensures) (l .2) r (omega (arith, b .1, t .loop-test .taken)) (omega (arith, b .0, b .1, t .loop-test .taken)) (z .size .ensures .few) (l .1) _ (c .narrow .ensures), rowed-more (l .4) (omega (arith, b .1, t .loop-test .taken)) (k .kind .ensures) (p .param .ensures) (x .spell .ensures))
 
 returns : tie.Need-returns Inv-loop μ-loop
-returns c = let l = c .before .loop in ended (omega arith) (l .inv .3) (l .inv .2)
+returns c = let l = c .before .loop .inv in let r = ended {n = c .before .before .args .n} (omega arith) (l .3) (l .2) in ((r .1, omega arith, r .0), rowed-ended (omega arith) (l .4))
 
 pub number-spec : {M : Type 1} → statement M
 number-spec =
@@ -69,14 +72,15 @@ number-spec =
     loop-holds
     kind-requires
     param-requires
-    block-size-requires
+    spell-requires
+    size-requires
     add-next
     sub-narrow
     narrow-requires
     mul-images
-    slice-write-images
+    element-write-images
+    element-write-rows
     add-i
     loop-less
     loop-again
-    same-length
     returns)

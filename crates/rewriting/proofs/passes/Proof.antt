@@ -1,22 +1,24 @@
 -- The edits that are done are the last ones.
-use Rattle.rewriting.specs.Laws.Passes.{Passing, passing-start, passing-more, passing-long, passing-done, legal-at}
-use Rattle.limits.specs.Limits.{tableNodes, tableBytes}
-use Rattle.condition.specs.Bytes.{nodes}
-use lib.ListN.{length}
-use native.Mathlib.Omega.{arith}
 use mathlib.Core.Path.{_≡_}
 use Prim.Native.Nat.{_-_, _/_, _≤_}
+use native.Mathlib.Omega.{arith}
+use lib.ListN.{length}
+use Rattle.condition.specs.Bytes.{nodes}
+use Rattle.limits.specs.Limits.{tableNodes, tableBytes}
+use Rattle.rewriting.specs.Laws.Passes.{Passing, passing-start, passing-more, passing-long, passing-done, legal-at}
 use Rattle.rewriting.proofs.passes.Statement.{statement}
 use Rattle.rewriting.proofs.passes.Tie as tie
 
 abbrev Inv-loop : tie.InvT-loop
-Inv-loop sheet n result₀ spare₀ images₀ edits done₀ count₀ result spare images done count = (length result ≡ tableBytes) × (length spare ≡ tableBytes) × (length images ≡ tableNodes) × (edits ≡ length sheet / 4) × (done ≤ edits) × Passing sheet (nodes result₀ n) result count (edits - done)
+Inv-loop sheet n table₀ spare₀ images₀ rows₀ edits done₀ count₀ table spare images rows done count = (length table ≡ tableBytes) × (length spare ≡ tableBytes) × (length images ≡ tableNodes) × (length rows ≡ tableNodes) × (edits ≡ length sheet / 4) × (done ≤ edits) × Passing sheet (nodes table₀ n) table count (edits - done)
 
 abbrev μ-loop : tie.MeasureT-loop
-μ-loop sheet n result₀ spare₀ images₀ edits done₀ count₀ result spare images done count = edits - done
+μ-loop sheet n table₀ spare₀ images₀ rows₀ edits done₀ count₀ table spare images rows done count = edits - done
 
 loop-holds : tie.Need-loop-holds Inv-loop μ-loop
-loop-holds c = let a = c .before .before .before .before .args in (omega arith, omega arith, omega arith, omega arith, omega arith, passing-start (a .sheet .now) (a .result .now) (a .n) _ (λ i. omega (arith, c .before .before .slice-known .given i)) (omega arith) (omega arith) (omega arith))
+loop-holds c =
+    let s = c .before in let p = s .pre .0 in
+    (p .1, p .2, p .3, p .4, omega arith, omega arith, passing-start (s .args .sheet .now) (s .args .table .now) (s .args .n) _ (s .pre .1 .0) (omega (arith, p .0, p .1)) (p .0) (omega arith))
 
 add-next : tie.Need-add-next Inv-loop μ-loop
 add-next c = omega arith
@@ -28,46 +30,34 @@ edit-at-requires : tie.Need-edit-at-requires Inv-loop μ-loop
 edit-at-requires c κs = omega arith
 
 rewrite-requires : tie.Need-rewrite-requires Inv-loop μ-loop
-rewrite-requires c κs = let i = c .before .before .before .before .before .loop .inv in (omega (arith, i .5 .few), legal-at _ _ (c .before .before .before .edit-at .ensures) (omega arith) (c .before .before .before .before .before .before .before .before .before .before .pre .1))
-
-same-length : tie.Need-same-length Inv-loop μ-loop
-same-length c = omega (arith, c .before .before .before .before .before .rewrite .kept, c .before .before .before .before .before .before .before .before .before .before .before .loop .inv, c .before .before .before .before .before .before .before .before .before .before .before .before .before .before .before .before .pre .0)
-
-same-length-2 : tie.Need-same-length-2 Inv-loop μ-loop
-same-length-2 c = omega (arith, c .before .before .before .before .before .rewrite .kept, c .before .before .before .before .before .before .before .before .before .before .before .loop .inv, c .before .before .before .before .before .before .before .before .before .before .before .before .before .before .before .before .pre .0)
-
-same-length-3 : tie.Need-same-length-3 Inv-loop μ-loop
-same-length-3 c = omega (arith, c .before .before .before .before .before .rewrite .kept, c .before .before .before .before .before .before .before .before .before .before .before .loop .inv, c .before .before .before .before .before .before .before .before .before .before .before .before .before .before .before .before .pre .0)
+rewrite-requires c κs =
+    let e = c .before .before .before .before in let l = e .before .before in let i = l .loop .inv in
+    ((i .0, i .6 .few, i .2, i .3, i .1), legal-at _ _ (e .edit-at .ensures) (omega arith) (l .before .before .pre .1 .1))
 
 returns : tie.Need-returns Inv-loop μ-loop
-returns c = passing-long (c .before .before .before .before .before .before .before .before .before .before .before .loop .inv .5) (omega arith) (c .before .before .before .before .before .before .before .before .before .edit-at .ensures) _ (c .before .before .before .before .before .rewrite .ensures .0) (omega arith)
+returns c =
+    let r = c .before in let e = r .before .before .before .before .before in let l = e .before .before in
+    (passing-long (l .loop .inv .6) (omega arith) (e .edit-at .ensures) _ (r .rewrite .ensures .0 .0) (omega arith), l .loop .inv .0)
 
 mul-copy : tie.Need-mul-copy Inv-loop μ-loop
 mul-copy c = omega arith
 
 copy-requires : tie.Need-copy-requires Inv-loop μ-loop
-copy-requires c κs = omega (arith, c .before .before .before .before .before .before .before .rewrite .kept, c .before .before .before .before .before .before .before .before .before .before .before .before .before .loop .inv, c .before .before .if1 .left)
+copy-requires c κs =
+    let r = c .before .before .before .before in let l = r .before .before .before .before .before .before .before in
+    (omega (arith, l .loop .inv .0), omega (arith, r .rewrite .ensures .1 .2))
 
 loop-less : tie.Need-loop-less Inv-loop μ-loop
 loop-less c = omega arith
 
 loop-again : tie.Need-loop-again Inv-loop μ-loop
 loop-again c =
-    let p10 = c .before .before .before .before .before .before .before .before .before .before in let p14 = p10 .before .before .before .before in
-    let p16 = p14 .before .before in
-    let i = p16 .loop .inv in let r = p10 .rewrite in (omega (arith, c .before .before .copy .kept), omega (arith, r .kept), omega (arith, r .kept), omega arith, omega arith, passing-more (i .5) (omega arith) (p14 .edit-at .ensures) _ (r .ensures .0) (r .ensures .1) (omega arith) (omega (arith, r .kept)) (c .before .before .copy .ensures))
-
-same-length-4 : tie.Need-same-length-4 Inv-loop μ-loop
-same-length-4 c = omega arith
-
-same-length-5 : tie.Need-same-length-5 Inv-loop μ-loop
-same-length-5 c = omega arith
-
-same-length-6 : tie.Need-same-length-6 Inv-loop μ-loop
-same-length-6 c = omega arith
+    let r = c .before .before .before .before .before in let e = r .before .before .before .before .before in let i = e .before .before .loop .inv in
+    let q = r .rewrite .ensures in
+    (omega (arith, c .copy .kept, i .0), q .1 .2, q .1 .0, q .1 .1, i .4, omega arith, passing-more (i .6) (omega arith) (e .edit-at .ensures) _ (q .0 .0) (q .0 .1) (omega arith) (q .1 .2) (c .copy .ensures))
 
 returns-2 : tie.Need-returns-2 Inv-loop μ-loop
-returns-2 c = passing-done (omega arith) (c .before .loop .inv .5)
+returns-2 c = let i = c .before .loop .inv in (passing-done (omega arith) (i .6), i .0)
 
 pub passes-spec : {M : Type 1} → statement M
 passes-spec =
@@ -80,15 +70,9 @@ passes-spec =
     sub-last
     edit-at-requires
     rewrite-requires
-    same-length
-    same-length-2
-    same-length-3
     returns
     mul-copy
     copy-requires
     loop-less
     loop-again
-    same-length-4
-    same-length-5
-    same-length-6
     returns-2)

@@ -1,29 +1,24 @@
--- The blocks get their numbers, and then they are written.
+-- The first pass, and the second.
 use native.Mathlib.Omega.{arith}
-use borrow.Author.Needs.{needs}
 use Rattle.rewriting.specs.Laws.Placed.{counted}
 use Rattle.rewriting.proofs.rewrite.Statement.{statement}
 use Rattle.rewriting.proofs.rewrite.Tie as tie
 
 number-requires : tie.Need-number-requires
-number-requires c κs = omega arith
+number-requires c κs = let p = c .before .before .pre in ((p .0 .0, p .0 .1, p .0 .2, p .0 .3), p .1)
 
-place-all-requires : tie.Need-place-all-requires
-place-all-requires c κs =
-    let n = c .before .before .before .before in let p = n .before .before .before .before .before in
-    (n .number .ensures .0, (p .pre .1, p .pre .0 .3))
+spell-requires : tie.Need-spell-requires
+spell-requires c κs = c .before .before .before .pre .1
 
-same-length : tie.Need-same-length
-same-length c = search needs
-
-same-length-2 : tie.Need-same-length-2
-same-length-2 c = search needs
+place-down-requires : tie.Need-place-down-requires
+place-down-requires c κs =
+    let x = c .before .before .before in let n = x .before in let p = n .before .before .before .pre .0 in
+    (record { whole = p .0; numbered = n .number .ensures .0 .2; rowed = n .number .ensures .1 .0; first = x .spell .ensures .first; second = x .spell .ensures .second; room = p .4 }, n .number .ensures .1 .1)
 
 returns : tie.Need-returns
 returns c =
-    let w = c .before .before in let n = w .before .before .before .before .before .number .ensures in
-    let k = counted (n .0) (n .1) in (k .0, w .place-all .ensures, k .1)
+    let n = c .before .before .before .before .before in let r = counted (n .number .ensures .0 .2) (n .number .ensures .0 .0) in
+    ((r .0, c .place-down .ensures .0, r .1), (n .number .ensures .0 .2 .size, c .place-down .ensures .1 .0, c .place-down .ensures .1 .1))
 
 pub rewrite-spec : {M : Type 1} → statement M
-rewrite-spec =
-    tie.close (tie.spec number-requires place-all-requires same-length same-length-2 returns)
+rewrite-spec = tie.close (tie.spec number-requires spell-requires place-down-requires returns)

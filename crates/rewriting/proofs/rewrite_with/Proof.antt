@@ -1,57 +1,60 @@
--- The table is copied, rewritten, and zeros follow it.
-use native.Mathlib.Omega.{arith}
 use borrow.Author.Needs.{needs}
-use Rattle.rewriting.specs.Laws.Passes.{too-long, a-table, passed-copied}
 use Rattle.rewriting.proofs.rewrite_with.Statement.{statement}
 use Rattle.rewriting.proofs.rewrite_with.Tie as tie
+use Rattle.rewriting.proofs.rewrite_with.Reads as reads
+use Rattle.rewriting.proofs.rewrite_with.Lts as lts
+use Rattle.buffer.proofs.copy.Reads as copy-reads
+use Rattle.buffer.proofs.zero.Reads as zero-reads
+use Rattle.rewriting.proofs.clear_from.Reads as clear-from-reads
+use Rattle.rewriting.proofs.passes.Reads as passes-reads
 
+-- src/lib.rt:411:5
 copy-requires : tie.Need-copy-requires
 copy-requires c κs = search needs
 
+-- src/lib.rt:413:9
 passes-requires : tie.Need-passes-requires
-passes-requires c κs = search needs
+passes-requires c κs = ?
 
+-- src/lib.rt:415:9
 zero-requires : tie.Need-zero-requires
 zero-requires c κs = search needs
 
+-- src/lib.rt:416:9
 same-length : tie.Need-same-length
 same-length c = search needs
 
-same-length-2 : tie.Need-same-length-2
-same-length-2 c = search needs
-
-same-length-3 : tie.Need-same-length-3
-same-length-3 c = search needs
-
+-- src/lib.rt:416:9
 returns : tie.Need-returns
-returns c =
-    let p4 = c .before .before .before .before in let p11 = p4 .before .before .before .before .before .before .before in
-    let p17 = p11 .before .before .before .before .before .before in let p24 = p17 .before .before .before .before .before .before .before in
-    too-long _ _ (p24 .args .result .now) (p11 .passes .last .1 .1 .0) _ _ (passed-copied _ (p24 .args .table .now) (p24 .args .result .now) _ _ _ (p17 .copy .ensures) (p11 .passes .ensures)) (p4 .if1 .taken) (omega (arith, p11 .passes .kept, p17 .copy .kept)) (c .before .before .zero .ensures)
+returns c = ?
 
+-- src/lib.rt:418:24
+mul-copy : tie.Need-mul-copy
+mul-copy c = search needs
+
+-- src/lib.rt:418:5
+copy-requires-2 : tie.Need-copy-requires-2
+copy-requires-2 c κs = search needs
+
+-- src/lib.rt:419:24
 mul-clear-from : tie.Need-mul-clear-from
 mul-clear-from c = search needs
 
+-- src/lib.rt:419:5
 clear-from-requires : tie.Need-clear-from-requires
 clear-from-requires c κs = search needs
 
-cast-t24 : tie.Need-cast-t24
-cast-t24 c = omega (arith, c .before .before .before .before .if1 .left)
+-- src/lib.rt:420:26
+cast-t28 : tie.Need-cast-t28
+cast-t28 c = search needs
 
-same-length-4 : tie.Need-same-length-4
-same-length-4 c = search needs
+-- src/lib.rt:397:1
+same-length-2 : tie.Need-same-length-2
+same-length-2 c = search needs
 
-same-length-5 : tie.Need-same-length-5
-same-length-5 c = search needs
-
-same-length-6 : tie.Need-same-length-6
-same-length-6 c = search needs
-
+-- src/lib.rt:397:1
 returns-2 : tie.Need-returns-2
-returns-2 c =
-    let p4 = c .before .before .before .before in let p11 = p4 .before .before .before .before .before .before .before in
-    let p17 = p11 .before .before .before .before .before .before in let p24 = p17 .before .before .before .before .before .before .before in
-    a-table _ _ _ (p11 .passes .last .1 .1 .0) _ _ (passed-copied _ (p24 .args .table .now) (p24 .args .result .now) _ _ _ (p17 .copy .ensures) (p11 .passes .ensures)) (p4 .if1 .left) (omega (arith, p11 .passes .kept, p17 .copy .kept, p24 .pre .0)) (c .before .before .clear-from .ensures)
+returns-2 c = ?
 
 pub rewrite-with-spec : {M : Type 1} → statement M
 rewrite-with-spec =
@@ -61,13 +64,11 @@ rewrite-with-spec =
     passes-requires
     zero-requires
     same-length
-    same-length-2
-    same-length-3
     returns
+    mul-copy
+    copy-requires-2
     mul-clear-from
     clear-from-requires
-    cast-t24
-    same-length-4
-    same-length-5
-    same-length-6
+    cast-t28
+    same-length-2
     returns-2)

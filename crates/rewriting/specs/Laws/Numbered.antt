@@ -17,7 +17,9 @@ use Rattle.semantics.specs.Block.{Block, old, end, on, join, size, root, block}
 use Rattle.semantics.specs.Laws.Emit.{emit-length}
 use Rattle.condition.specs.Bytes.{nodeAt}
 use Rattle.limits.specs.Limits.{tableNodes}
-use Rattle.rewriting.specs.State.{blockIn, step, stateAt, imageOf, startOf, Numbered, startIn, imageIn}
+use Rattle.blocks.specs.declared.Spelling.{Spelling}
+use Rattle.blocks.specs.Spelling.{firstOf, secondOf, Spells, Sized}
+use Rattle.rewriting.specs.State.{blockIn, step, stateAt, imageOf, startOf, Numbered, imageIn, placedRow, spellingBy, Rowed, NonePlaced}
 use Rattle.rewriting.specs.Laws.State.{images-length, image-at}
 use Rattle.rewriting.specs.Laws.Grow.{block-some}
 
@@ -48,7 +50,7 @@ starts-up e s i (suc n) h =
     (λ q. let l : i ≤ n = omega arith in omega (arith, starts-up e s i n l, start-more e s n))
 
 -- the image is the last node of the block
-image-last : (e : Edit) (s : List ℕ) (i : ℕ) → imageOf e s i + 1 ≡ startOf e s (suc i)
+pub image-last : (e : Edit) (s : List ℕ) (i : ℕ) → imageOf e s i + 1 ≡ startOf e s (suc i)
 unfolding imageOf stateAt step startOf blockIn
 image-last e s i =
     ap (λ (m : ℕ). m + 1) (getD-at (stateAt e s i .images) _ [] 0 i (images-length e s i))
@@ -104,6 +106,54 @@ pub ended : {s : List ℕ} {e : Edit} {images : List ℕ} {i n next : ℕ} → i
     → Numbered s e images n × (next ≡ startOf e s n)
 ended {s} {e} {images} {i} {n} {next} q N h = subst (λ (m : ℕ). Numbered s e images m × (next ≡ startOf e s m)) q (N, h)
 
+-- ---- rows
+
+-- a spelling by its parts
+spells-by : {e : Edit} {k p : ℕ} {x : Spelling} {k′ p′ : ℕ} → k ≡ k′ → p ≡ p′ → Spells e k p x
+    → Spells e k′ p′ (record { row = x .row; w = p′; a = firstOf e; b = secondOf e })
+spells-by {e} {k} {p} {x} {k′} {p′} ek ep S =
+    subst (λ (n : ℕ). Spells e n p′ (record { row = x .row; w = p′; a = firstOf e; b = secondOf e })) ek
+    (subst (λ (n : ℕ). Spells e k n (record { row = x .row; w = n; a = firstOf e; b = secondOf e })) ep
+    (subst (λ (n : ℕ). Spells e k p (record { row = x .row; w = n; a = firstOf e; b = secondOf e })) (S .own)
+    (subst (λ (n : ℕ). Spells e k p (record { row = x .row; w = x .w; a = n; b = secondOf e })) (S .first)
+    (subst (λ (n : ℕ). Spells e k p (record { row = x .row; w = x .w; a = x .a; b = n })) (S .second) S))))
+
+-- its size is the block's
+pub sized : {e : Edit} {k p : ℕ} {x : Spelling} {r : ℕ} → Spells e k p x → Sized x r → (t u : ℕ) → r ≡ size (block e (kindOf k) p (old t) (old u))
+sized S Z t u = Z .right t u ∙ ap size (S .right t u)
+
+pub rowed-none : (s : List ℕ) (e : Edit) (rows : List ℕ) → length rows ≡ tableNodes → Rowed s e rows 0 × NonePlaced rows 0
+rowed-none s e rows h = (record { size = h; spells = λ j q. absurd (not-suc-le-zero q) }, λ j q. absurd (not-suc-le-zero q))
+
+-- one row more
+pub rowed-more : {s : List ℕ} {e : Edit} {rows : List ℕ} {n k p : ℕ} {x : Spelling} → Rowed s e rows n × NonePlaced rows n → n < tableNodes
+    → k ≡ nodeAt s n .kind → p ≡ nodeAt s n .param → Spells e k p x
+    → Rowed s e (set rows n (x .row)) (n + 1) × NonePlaced (set rows n (x .row)) (n + 1)
+rowed-more {s} {e} {rows} {n} {k} {p} {x} R b ek ep S =
+    let row = x .row in
+    let here : getD (set rows n row) n 0 ≡ row = getD-set-same rows n row 0 (omega (arith, R .0 .size)) in (
+      record {
+        size = length-set rows n row ∙ R .0 .size;
+        spells = λ j h ne.
+            either
+            (equal? j n)
+            (λ g. rw (g, here) (spells-by ek ep S))
+            (λ g. let o : getD (set rows n row) j 0 ≡ getD rows j 0 = getD-set-other rows n j row 0 g in
+            rw o (R .0 .spells j (omega arith) (λ z. ne (o ∙ z))));
+      },
+      λ j h z.
+          either
+          (equal? j n)
+          (λ g. absurd (omega (arith, here, S .known, ap (λ (m : ℕ). getD (set rows n row) m 0) g)))
+          (λ g. R .1 j (omega arith) (sym (getD-set-other rows n j row 0 g) ∙ z)),
+    )
+
+pub rowed-ended : {s : List ℕ} {e : Edit} {rows : List ℕ} {i n : ℕ} → i ≡ n → Rowed s e rows i × NonePlaced rows i → Rowed s e rows n × NonePlaced rows n
+rowed-ended {s} {e} {rows} q R = subst (λ (m : ℕ). Rowed s e rows m × NonePlaced rows m) q R
+
+pub rowed-low : {s : List ℕ} {e : Edit} {rows : List ℕ} {n : ℕ} → Rowed s e rows n → (i : ℕ) → i ≤ n → Rowed s e rows i
+rowed-low R i h = record { size = R .size; spells = λ j q. R .spells j (omega arith) }
+
 -- ---- what is read from the images
 
 pub numbered-low : {s : List ℕ} {e : Edit} {images : List ℕ} {n : ℕ} → Numbered s e images n → (i : ℕ) → i ≤ n → Numbered s e images i
@@ -115,16 +165,6 @@ numbered-low {s} {e} {images} {n} N i h = record {
   few = omega (arith, N .few, starts-up e s i n h);
 }
 
-pub start-is : {s : List ℕ} {e : Edit} {images : List ℕ} (i : ℕ) → Numbered s e images i → startIn images i ≡ startOf e s i
-unfolding startIn
-start-is {s} {e} {images} zero N = start-none e s
-start-is {s} {e} {images} (suc j) N = ap (λ (m : ℕ). m + 1) (N .imaged j (omega arith)) ∙ image-last e s j
-
-pub start-after : (images : List ℕ) (i : ℕ) → (i ≡ 0 → ⊥) → getD images (i - 1) 0 + 1 ≡ startIn images i
-unfolding startIn
-start-after images zero ne = absurd (ne refl)
-start-after images (suc j) ne = let z : suc j - 1 ≡ j = omega arith in rw z refl
-
 pub image-is : {s : List ℕ} {e : Edit} {images : List ℕ} {i : ℕ} → Numbered s e images i → (c : ℕ) → imageIn images i c ≡ getD (stateAt e s i .images) c 0
 unfolding imageIn
 image-is {s} {e} {images} {i} N c =
@@ -133,10 +173,7 @@ image-is {s} {e} {images} {i} N c =
     (λ q. rw q (let h : c < i = ltb-true c i q in N .imaged c h ∙ sym (image-at e s i c h)))
     (λ q. rw q (sym (List·getD-eq-default (stateAt e s i .images) 0 (omega (arith, images-length e s i, ltb-false c i q)))))
 
--- and they are small
-pub start-small : {s : List ℕ} {e : Edit} {images : List ℕ} {i r : ℕ} → Numbered s e images i → r ≡ startIn images i → r < 60000
-start-small {s} {e} {images} {i} N h = omega (arith, start-is i N, N .few)
-
+-- and it is small
 pub image-small : {s : List ℕ} {e : Edit} {images : List ℕ} {i r : ℕ} → Numbered s e images i → (c : ℕ) → r ≡ imageIn images i c → r < 60000
 unfolding imageIn
 image-small {s} {e} {images} {i} N c h =

@@ -7,10 +7,10 @@ use lib.ListN.{length, getD, set, length-set, List·getD-append}
 use lib.Seq.{sets, getD-set-same, getD-set-other, getD-append-add}
 use Rattle.finite.specs.Tests.{below}
 use Rattle.finite.specs.Laws.Bools.{either, look}
-use Rattle.finite.specs.Laws.Below.{below-in, below-out, not-below, equal?}
+use Rattle.finite.specs.Laws.Below.{below-not, below-out, not-below, equal?}
 use Rattle.semantics.specs.Table.{Node}
 use Rattle.condition.specs.Bytes.{nodeBytes, bytesOf}
-use Rattle.limits.specs.Limits.{tableNodes, tableBytes}
+use Rattle.limits.specs.Limits.{nodeSize, tableBytes}
 use Rattle.blocks.specs.Write.{put, puts}
 use Rattle.blocks.specs.Laws.Write.{length-put}
 
@@ -35,19 +35,19 @@ sets-in (a ∷ vs) l i p h k b =
 put-low : (o : List ℕ) (i : ℕ) (x : Node) (p : ℕ) → p < 6 * i → getD (put o i x) p 0 ≡ getD o p 0
 unfolding put
 put-low o i x p h =
-    either (look (below i tableNodes)) (λ e. rw (e, put) (sets-low (nodeBytes x) o (6 * i) p h)) (λ e. rw (e, put) refl)
+    either (look (below (length o) (nodeSize * i + nodeSize))) (λ e. rw (e, put) refl) (λ e. rw (e, put) (sets-low (nodeBytes x) o (nodeSize * i) p h))
 
 put-high : (o : List ℕ) (i : ℕ) (x : Node) (p : ℕ) → 6 * i + 6 ≤ p → getD (put o i x) p 0 ≡ getD o p 0
 unfolding put nodeBytes
 put-high o i x p h =
-    either (look (below i tableNodes)) (λ e. rw (e, put) (sets-high (nodeBytes x) o (6 * i) p h)) (λ e. rw (e, put) refl)
+    either (look (below (length o) (nodeSize * i + nodeSize))) (λ e. rw (e, put) refl) (λ e. rw (e, put) (sets-high (nodeBytes x) o (nodeSize * i) p h))
 
 put-in : (o : List ℕ) (i : ℕ) (x : Node) (p : ℕ) → length o ≡ tableBytes → 6 * i ≤ p → p < 6 * i + 6 → p < tableBytes
     → getD (put o i x) p 0 ≡ getD (nodeBytes x) (p - 6 * i) 0
 unfolding put nodeBytes
 put-in o i x p l h k b =
-    let low : i < tableNodes = omega arith in
-    rw (below-in i tableNodes low) (sets-in (nodeBytes x) o (6 * i) p h k (omega arith))
+    let fits : nodeSize * i + nodeSize ≤ length o = omega arith in
+    rw (below-not (length o) (nodeSize * i + nodeSize) fits) (sets-in (nodeBytes x) o (nodeSize * i) p h k (omega arith))
 
 pub puts-low : (o : List ℕ) (at j : ℕ) (xs : List Node) (p : ℕ) → p < 6 * (at + j) → getD (puts o at j xs) p 0 ≡ getD o p 0
 unfolding puts
