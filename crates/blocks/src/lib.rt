@@ -32,8 +32,8 @@ pub struct Spelling {
     pub b: u8,
 }
 
-// How many rows copy a node; such a row has the number of the node's kind.
-const COPIES: u8 = 13;
+// How many rows copy a node: one for each kind, which has the kind's number.
+const COPIES: u8 = SLOT + 1;
 
 // The rows that edits choose. Of the rows for ways the first is given; then come the box, and the two for the reverse way.
 const CN1_NAME: u8 = 13;
@@ -146,13 +146,14 @@ fn ds_row(kind: u8, param: u8) -> u8
     kind
 }
 
+// A row, with the numbers that it refers to.
 fn by_row(row: u8, w: u8, a: u8, b: u8) -> Spelling
     ensures { λ r. ⌜ r ≡ record { row = row; w = w; a = a; b = b } ⌝ }
 {
     Spelling { row, w, a, b }
 }
 
-// The spelling of the block of a node with this kind and parameter, whatever its children: by the edit, its row and its numbers a and b.
+// The spelling of the block of a node with this kind and parameter, whatever its children. Each edit has rows of its own, and gives a and b.
 pub fn spell(e: Op, kind: u8, param: u8) -> Spelling
     requires { ⌜ legal (editOf e) ≡ true ⌝ }
     ensures { λ r. ⌜ Spells (editOf e) kind param r ⌝ }
@@ -171,9 +172,10 @@ pub fn spell(e: Op, kind: u8, param: u8) -> Spelling
     }
 }
 
-// The texts of the rows that do not copy, in groups of four hexadecimal digits: how many nodes there are, and then for each node its kind, its
+// The texts of the rows that do not copy, twelve groups of four hexadecimal digits: how many nodes there are, and then for each node its kind, its
 // parameter, its left child and its right child. Parameters: 1 is w, 2 is a, 3 is b, 4 is the reverse of the way b, 5 is E. Children: 1 is the first
-// node of the block itself, and so on; e is T, the image of the old node's child; 0 is none.
+// node of the block itself, and so on; e is T, the image of the old node's child; 0 is none. A match on the row and not an array of texts: an array
+// would be copied to the stack at each use, and a match is a table in read-only memory.
 
 // CN1, name n1: a
 const TEXT_13: [u64; 3] = [0x0001_3200_0000_0000, 0, 0];
@@ -301,7 +303,7 @@ fn group(x: [u64; 3], q: usize) -> usize
     ensures { λ r. ⌜ (r ≡ groupIn x q) × (r < 65536) ⌝ }
 {
     let shift = 48 - 16 * (q % 4);
-    ((x[q / 4] >> shift) % 65536) as usize
+    ((x[q / 4] >> shift) % 0x10000) as usize
 }
 
 // How many nodes the block has, whatever the numbers that it refers to.
@@ -403,7 +405,7 @@ fn child(c: usize, at: usize, t: usize) -> usize
     if c == 0 {
         return 0;
     }
-    if c < 14 {
+    if c < 0xe {
         return at + c - 1;
     }
     t
@@ -414,10 +416,10 @@ fn put_group(out: &mut [u8], i: usize, g: usize, ps: [u8; 8], at: usize, t: usiz
     requires { ⌜ (i < 65536) × (g < 65536) × (at < 60000) × (t < 60000) ⌝ }
     ensures { λ _. ⌜ now (out .exit) ≡ put (now (out .entry)) i (decode ps at t (nodeOf g)) ⌝ }
 {
-    let p = ps[g / 256 % 8];
-    let l = child(g / 16 % 16, at, t);
-    let r = child(g % 16, at, t);
-    put_node(out, i, low(g / 4096), p, l, r);
+    let p = ps[g / 0x100 % 8];
+    let l = child(g / 0x10 % 0x10, at, t);
+    let r = child(g % 0x10, at, t);
+    put_node(out, i, low(g / 0x1000), p, l, r);
 }
 
 // Writes a row from number at on; t is the image of the old node's child.
