@@ -11,10 +11,11 @@
  * Each pointer is valid for its length and is not NULL, even for a length of 0. No result or work buffer overlaps another buffer or an
  * input. Inputs are only read. Nothing is kept between calls, so threads may call at the same time.
  *
- * Stack. No contract speaks of it; these figures are measured and rounded up. A thread with DESK_STACK_BYTES can make every call. With less:
+ * Stack. No contract speaks of it; these figures are measured and rounded up. A thread with DESK_STACK_BYTES can make every call. By
+ * function:
  *
  *   desk_apply     under 1 KB for any input
- *   desk_classes   264 KB for any site
+ *   desk_classes   265 KB for any site
  *   desk_list      20 KB, and 430 bytes for each node on the condition's longest path, 810 where the node is a mu or nu:
  *                  0.9 MB for a line of 2,048 nodes, 1.7 MB for 2,047 loops inside each other
  *   desk_rewrite   under 100 KB, and 370 bytes for each node on the longest path of the tables that it goes through: under 1 MB in all
@@ -23,8 +24,8 @@
  *
  * Time. There is no limit on rounds: a mu or nu is evaluated round by round, up to DESK_SLOT_COUNT times, and one that reads the variable
  * of a loop around it starts again in every round of that loop, so nested loops multiply. On a chain of 256 slots one loop took 0.2 ms,
- * two took 36 ms and three took 7.5 s. Everything else takes some milliseconds at most. Where conditions come from strangers, call
- * desk_list and desk_job in a process that you can end.
+ * two took 36 ms and three took 7.5 s. Everything else that was measured took less than 50 ms. Where conditions come from strangers,
+ * call desk_list and desk_job in a process that you can end.
  */
 #ifndef DESK_H
 #define DESK_H

@@ -1,8 +1,10 @@
 -- The rows of blocks. A row is a block with places for numbers: the old node's parameter w; the edit's numbers a and b; v, the reverse of the
 -- way b; e, the way that leads everywhere; and the images T and U of the old node's children.
-use mathlib.Core.List.{List, [], _∷_, _++_}
-use Prim.Native.Nat.{ℕ, zero, suc, _+_, _*_, _-_, _/_, _%_, _<_}
-use lib.ListN.{getD, replicate}
+use mathlib.Core.List.{List, [], _∷_, map}
+use mathlib.Core.Bool.{cond}
+use Prim.Native.Nat.{ℕ, _+_, _*_, _-_, _/_, _%_, _^_}
+use lib.ListN.{getD}
+use Rattle.finite.specs.Tests.{same, below}
 use Rattle.semantics.specs.Table.{kTrue, kHere, kLabel, kName, kVar, kSlot, kNot, kDia, kBox, kMu, kNu, kOr, kAnd, Node}
 use Rattle.semantics.specs.Block.{Block, old, end, on, join, size, emit}
 
@@ -71,38 +73,46 @@ rowCount = 35
 
 -- ---- the rows as texts
 
--- a row with letters for its numbers: w, a, b, c and E as bytes; @ for T. Its nodes are numbered from the digit 0 on
-unfoldable pub lettered : ℕ → Block
-lettered r = getD (rows 119 97 98 99 69 (old 64)) r (old 0)
+-- a row with digits for its numbers: 1 to 5 for w, a, b, v and e, and 14 for T. Its nodes are numbered from 1 on
+unfoldable pub coded : List Block
+coded = rows 1 2 3 4 5 (old 14)
 
--- a blank for 0
-unfoldable pub blank : ℕ → ℕ
-blank zero = 32
-blank (suc c) = suc c
+unfoldable pub codedAt : ℕ → Block
+codedAt r = getD coded r (old 0)
 
--- four letters a node
-unfoldable pub lettersOf : List Node → List ℕ
-lettersOf [] = []
-lettersOf (x ∷ xs) = (48 + x .kind) ∷ blank (x .param) ∷ blank (x .left) ∷ blank (x .right) ∷ lettersOf xs
+-- a group of four hexadecimal digits for a node, and the node of a group
+unfoldable pub groupOf : Node → ℕ
+groupOf x = ((x .kind * 16 + x .param) * 16 + x .left) * 16 + x .right
 
--- the text of a block: its size, its nodes, and blanks up to 45 letters
+unfoldable pub nodeOf : ℕ → Node
+nodeOf g = record { kind = g / 4096 % 256; param = g / 256 % 8; left = g / 16 % 16; right = g % 16 }
+
+-- the groups of a block: its size, and its nodes
+unfoldable pub groupsOf : Block → List ℕ
+groupsOf B = size B ∷ map groupOf (emit B 1)
+
+-- its text, four groups a word
+unfoldable pub wordOf : List ℕ → ℕ → ℕ
+wordOf gs q = ((getD gs q 0 * 65536 + getD gs (q + 1) 0) * 65536 + getD gs (q + 2) 0) * 65536 + getD gs (q + 3) 0
+
 unfoldable pub textOf : Block → List ℕ
-textOf B = (48 + size B) ∷ (lettersOf (emit B 48) ++ replicate (44 - 4 * size B) 32)
+textOf B = wordOf (groupsOf B) 0 ∷ wordOf (groupsOf B) 4 ∷ wordOf (groupsOf B) 8 ∷ []
 
 -- the text of a row that does not copy
 unfoldable pub textAt : ℕ → List ℕ
-textAt row = textOf (lettered (row - copyCount))
+textAt row = textOf (codedAt (row - copyCount))
 
--- ---- texts read
+-- group q of a text
+unfoldable pub groupIn : List ℕ → ℕ → ℕ
+groupIn x q = getD x (q / 4) 0 / 2 ^ (48 - 16 * (q % 4)) % 65536
 
--- the child that a letter stands for, where cs has the numbers for @, P, a blank and 0
-abbrev pub childOf : List ℕ → ℕ → ℕ
-childOf cs c = getD cs (c / 16 % 4) 0 + c % 16
+-- ---- what digits stand for
 
--- the node that four letters stand for, where ps has the parameters by their last three bits
-unfoldable pub decode : List ℕ → List ℕ → (k p l r : ℕ) → Node
-decode ps cs k p l r = record { kind = k % 16; param = getD ps (p % 8) 0; left = childOf cs l; right = childOf cs r }
+-- the child, where the block begins at number at, and t is the image of the old node's child
+unfoldable pub childOf : (at t c : ℕ) → ℕ
+childOf at t c = cond (same c 0) 0 (cond (below c 14) (at + c - 1) t)
 
--- numbers that leave room for the nodes of a block
-unfoldable pub Small : List ℕ → Type 0
-Small cs = (i : ℕ) → getD cs i 0 < 60000
+-- a node, where ps has the parameters
+unfoldable pub decode : List ℕ → ℕ → ℕ → Node → Node
+decode ps at t x =
+    record { kind = x .kind; param = getD ps (x .param) 0; left = childOf at t (x .left); right = childOf at t (x .right) }

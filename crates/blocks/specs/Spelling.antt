@@ -40,9 +40,9 @@ secondOf (DS n) = 0
 abbrev pub reverseOf : Spelling → ℕ
 reverseOf s = (s .b + links) % 256
 
--- the parameters by the last three bits of their letters
+-- the parameters by their digits
 abbrev pub paramsOf : Spelling → List ℕ
-paramsOf s = 0 ∷ s .a ∷ s .b ∷ reverseOf s ∷ 0 ∷ everyWay ∷ 0 ∷ s .w ∷ []
+paramsOf s = 0 ∷ s .w ∷ s .a ∷ s .b ∷ reverseOf s ∷ everyWay ∷ 0 ∷ 0 ∷ []
 
 -- the block that is spelled, where t and u are the images of the old node's children
 unfoldable pub spelled : Spelling → ℕ → ℕ → Block

@@ -20,8 +20,8 @@ ghost use Rattle.semantics.specs.Edit.{legal};
 ghost use Rattle.semantics.specs.Table.{wayOf};
 ghost use Rattle.semantics.specs.Block.{emit};
 ghost use Rattle.sheet.specs.Bytes.{editOf};
-ghost use Rattle.blocks.specs.Rows.{copyCount, rowCount, textAt, Small, childOf, decode};
-ghost use Rattle.blocks.specs.Spelling.{paramsOf, rowSpelled, spelled, Spells, Sized, keptBy, usedBy, copyOf, knownKind, onWay, leafRow, wayRow, asRow, dsRow, rowOf, firstOf, secondOf};
+ghost use Rattle.blocks.specs.Rows.{copyCount, rowCount, textAt, groupIn, nodeOf, childOf, decode};
+ghost use Rattle.blocks.specs.Spelling.{paramsOf, rowSpelled, spelled, Spells, Sized, keptBy, usedBy, copyOf, knownKind, onWay, leafRow, wayRow, asRow, dsRow};
 ghost use Rattle.blocks.specs.Write.{put, puts};
 
 // The spelling of a block: a row of the table, the old node's parameter w, and the numbers a and b, which the edit gives.
@@ -32,8 +32,8 @@ pub struct Spelling {
     pub b: u8,
 }
 
-// How many rows copy a node; such a row has the number of the node's kind.
-const COPIES: u8 = 13;
+// How many rows copy a node: one for each kind, which has the kind's number.
+const COPIES: u8 = SLOT + 1;
 
 // The rows that edits choose. Of the rows for ways the first is given; then come the box, and the two for the reverse way.
 const CN1_NAME: u8 = 13;
@@ -146,122 +146,164 @@ fn ds_row(kind: u8, param: u8) -> u8
     kind
 }
 
-fn row_of(e: Op, kind: u8, param: u8) -> u8
-    ensures { λ r. ⌜ r ≡ rowOf (editOf e) kind param ⌝ }
+// A row, with the numbers that it refers to.
+fn by_row(row: u8, w: u8, a: u8, b: u8) -> Spelling
+    ensures { λ r. ⌜ r ≡ record { row = row; w = w; a = a; b = b } ⌝ }
 {
-    match e {
-        Op::Cn1(n, _) => leaf_row(kind, param, NAME, n, CN1_NAME),
-        Op::Cn2(n, _, _) => leaf_row(kind, param, NAME, n, CN2_NAME),
-        Op::Ap(_, p) => leaf_row(kind, param, LABEL, p, AP_LABEL),
-        Op::Dp(_, p) => leaf_row(kind, param, LABEL, p, DP_LABEL),
-        Op::At(m, _, _) => way_row(kind, param, m, AT_WAYS),
-        Op::Dt1(m, _, _) => way_row(kind, param, m, DT1_WAYS),
-        Op::Dt2(f, _) => way_row(kind, param, f, DT2_WAYS),
-        Op::As(n, _) => as_row(kind, param, n),
-        Op::Ds(_) => ds_row(kind, param),
-    }
+    Spelling { row, w, a, b }
 }
 
-// The numbers a and b of an edit's rows.
-fn first(e: Op) -> u8
-    ensures { λ r. ⌜ r ≡ firstOf (editOf e) ⌝ }
-{
-    match e {
-        Op::Cn1(_, n2) => n2,
-        Op::Cn2(_, n2, _) => n2,
-        Op::Ap(n, _) => n,
-        Op::Dp(n, _) => n,
-        Op::At(_, n1, _) => n1,
-        Op::Dt1(_, n1, _) => n1,
-        Op::Dt2(_, n) => n,
-        Op::As(_, k) => k,
-        Op::Ds(n) => n,
-    }
-}
-
-fn second(e: Op) -> u8
-    ensures { λ r. ⌜ r ≡ secondOf (editOf e) ⌝ }
-{
-    match e {
-        Op::Cn1(_, _) => 0,
-        Op::Cn2(_, _, f) => f,
-        Op::Ap(_, _) => 0,
-        Op::Dp(_, _) => 0,
-        Op::At(_, _, n2) => n2,
-        Op::Dt1(_, _, n2) => n2,
-        Op::Dt2(_, _) => 0,
-        Op::As(_, _) => 0,
-        Op::Ds(_) => 0,
-    }
-}
-
-// The spelling of the block of a node with this kind and parameter, whatever its children.
+// The spelling of the block of a node with this kind and parameter, whatever its children. Each edit has rows of its own, and gives a and b.
 pub fn spell(e: Op, kind: u8, param: u8) -> Spelling
     requires { ⌜ legal (editOf e) ≡ true ⌝ }
     ensures { λ r. ⌜ Spells (editOf e) kind param r ⌝ }
 {
     let k = known(kind);
-    Spelling {
-        row: row_of(e, k, param),
-        w: param,
-        a: first(e),
-        b: second(e),
+    match e {
+        Op::Cn1(n1, n2) => by_row(leaf_row(k, param, NAME, n1, CN1_NAME), param, n2, 0),
+        Op::Cn2(n1, n2, f) => by_row(leaf_row(k, param, NAME, n1, CN2_NAME), param, n2, f),
+        Op::Ap(n, p) => by_row(leaf_row(k, param, LABEL, p, AP_LABEL), param, n, 0),
+        Op::Dp(n, p) => by_row(leaf_row(k, param, LABEL, p, DP_LABEL), param, n, 0),
+        Op::At(m, n1, n2) => by_row(way_row(k, param, m, AT_WAYS), param, n1, n2),
+        Op::Dt1(m, n1, n2) => by_row(way_row(k, param, m, DT1_WAYS), param, n1, n2),
+        Op::Dt2(f, n) => by_row(way_row(k, param, f, DT2_WAYS), param, n, 0),
+        Op::As(n, slot) => by_row(as_row(k, param, n), param, slot, 0),
+        Op::Ds(n) => by_row(ds_row(k, param), param, n, 0),
     }
 }
 
-// The text of a row, from the first that does not copy: how many nodes it has, and four letters for each: kind, parameter, left child, right child.
-// Numbers above 9 go on with `:`, `;` and `<`; a blank is 0, or no child. Parameters: w, a and b; c, the reverse of the way b; E, the way that leads
-// everywhere. Children: a number is that node of the block itself; `@` is T, the image of the old node's child.
-fn text(row: u8) -> [u8; 45]
+// The texts of the rows that do not copy, twelve groups of four hexadecimal digits: how many nodes there are, and then for each node its kind, its
+// parameter, its left child and its right child. Parameters: 1 is w, 2 is a, 3 is b, 4 is the reverse of the way b, 5 is E. Children: 1 is the first
+// node of the block itself, and so on; e is T, the image of the old node's child; 0 is none. A match on the row and not an array of texts: an array
+// would be copied to the stack at each use, and a match is a table in read-only memory.
+
+// CN1, name n1: a
+const TEXT_13: [u64; 3] = [0x0001_3200_0000_0000, 0, 0];
+
+// AS, name n: a
+const TEXT_14: [u64; 3] = [0x0001_c200_0000_0000, 0, 0];
+
+// CN2, name n1: a <b-> nil a t <b> & <E> ! & |
+const TEXT_15: [u64; 3] = [
+    0x000b_3200_8410_3000,
+    0x3200_0000_8350_7046,
+    0x8570_5080_7039_602a,
+];
+
+// AP, label p: w a |
+const TEXT_16: [u64; 3] = [0x0003_2100_3200_6012, 0, 0];
+
+// DP and DS, label: w a ! &
+const TEXT_17: [u64; 3] = [0x0004_2100_3200_5020, 0x7013_0000_0000_0000, 0];
+
+// AS, here: h a |
+const TEXT_18: [u64; 3] = [0x0003_1100_c200_6012, 0, 0];
+
+// DS, here: h a ! &
+const TEXT_19: [u64; 3] = [0x0004_1100_3200_5020, 0x7013_0000_0000_0000, 0];
+
+// DS, name: w a ! & nil a w & <E> & |
+const TEXT_20: [u64; 3] = [
+    0x000b_3100_3200_5020,
+    0x7013_3000_3200_3100,
+    0x7067_8580_7059_604a,
+];
+
+// AT <m>: T <w> a b T & <E> & |
+const TEXT_21: [u64; 3] = [0x0007_81e0_3200_3300, 0x703e_8540_7025_6016, 0];
+
+// AT [m]: T [w] a ! b ! T | [E] | &
+const TEXT_22: [u64; 3] = [
+    0x0009_91e0_3200_5020,
+    0x3300_5040_605e_9560,
+    0x6037_7018_0000_0000,
+];
+
+// AT <m->: T <w> b a T & <E> & |
+const TEXT_23: [u64; 3] = [0x0007_81e0_3300_3200, 0x703e_8540_7025_6016, 0];
+
+// AT [m-]: T [w] b ! a ! T | [E] | &
+const TEXT_24: [u64; 3] = [
+    0x0009_91e0_3300_5020,
+    0x3200_5040_605e_9560,
+    0x6037_7018_0000_0000,
+];
+
+// DT1 <m>: a ! T <w> & b ! T & <w> |
+const TEXT_25: [u64; 3] = [
+    0x0009_3200_5010_81e0,
+    0x7023_3300_5050_706e,
+    0x8170_6048_0000_0000,
+];
+
+// DT1 [m]: a T [w] | b T | [w] &
+const TEXT_26: [u64; 3] = [0x0007_3200_91e0_6012, 0x3300_604e_9150_7036, 0];
+
+// DT1 <m->: b ! T <w> & a ! T & <w> |
+const TEXT_27: [u64; 3] = [
+    0x0009_3300_5010_81e0,
+    0x7023_3200_5050_706e,
+    0x8170_6048_0000_0000,
+];
+
+// DT1 [m-]: b T [w] | a T | [w] &
+const TEXT_28: [u64; 3] = [0x0007_3300_91e0_6012, 0x3200_604e_9150_7036, 0];
+
+// DT2 <f>: a ! T <w> &
+const TEXT_29: [u64; 3] = [0x0004_3200_5010_81e0, 0x7023_0000_0000_0000, 0];
+
+// DT2 [f]: a T [w] |
+const TEXT_30: [u64; 3] = [0x0003_3200_91e0_6012, 0, 0];
+
+// DT2 <f->: a ! T & <w>
+const TEXT_31: [u64; 3] = [0x0004_3200_5010_702e, 0x8130_0000_0000_0000, 0];
+
+// DT2 [f-]: a T | [w]
+const TEXT_32: [u64; 3] = [0x0003_3200_601e_9120, 0, 0];
+
+// DS <m>: a ! a ! T & <w> &
+const TEXT_33: [u64; 3] = [0x0007_3200_5010_3200, 0x5030_704e_8150_7026, 0];
+
+// DS [m]: a a T | [w] |
+const TEXT_34: [u64; 3] = [0x0005_3200_3200_602e, 0x9130_6014_0000_0000, 0];
+
+fn text(row: u8) -> [u64; 3]
     requires { ⌜ (copyCount ≤ row) × (row < rowCount) ⌝ }
     ensures { λ r. ⌜ r ≡ textAt row ⌝ }
 {
     match row {
-        // CN1, name n1: a
-        13 => *b"13a                                          ",
-        // AS, name n: a
-        14 => *b"1<a                                          ",
-        // CN2, name n1: a <b-> nil a t <b> & <E> ! & |
-        15 => *b";3a  8c0 3   3a  0   8b4 7 358E6 5 7 7 286 19",
-        // AP, label p: w a |
-        16 => *b"32w  3a  6 01                                ",
-        // DP and DS, label: w a ! &
-        17 => *b"42w  3a  5 1 7 02                            ",
-        // AS, here: h a |
-        18 => *b"31w  <a  6 01                                ",
-        // DS, here: h a ! &
-        19 => *b"41w  3a  5 1 7 02                            ",
-        // DS, name: w a ! & nil a w & <E> & |
-        20 => *b";3w  3a  5 1 7 023   3a  3w  7 568E7 7 486 39",
-        // AT <m>: T <w> a b T & <E> & |
-        21 => *b"78w@ 3a  3b  7 2@8E3 7 146 05                ",
-        // AT [m]: T [w] a ! b ! T | [E] | &
-        22 => *b"99w@ 3a  5 1 3b  5 3 6 4@9E5 6 267 07        ",
-        // AT <m->: T <w> b a T & <E> & |
-        23 => *b"78w@ 3b  3a  7 2@8E3 7 146 05                ",
-        // AT [m-]: T [w] b ! a ! T | [E] | &
-        24 => *b"99w@ 3b  5 1 3a  5 3 6 4@9E5 6 267 07        ",
-        // DT1 <m>: a ! T <w> & b ! T & <w> |
-        25 => *b"93a  5 0 8w@ 7 123b  5 4 7 5@8w6 6 37        ",
-        // DT1 [m]: a T [w] | b T | [w] &
-        26 => *b"73a  9w@ 6 013b  6 3@9w4 7 25                ",
-        // DT1 <m->: b ! T <w> & a ! T & <w> |
-        27 => *b"93b  5 0 8w@ 7 123a  5 4 7 5@8w6 6 37        ",
-        // DT1 [m-]: b T [w] | a T | [w] &
-        28 => *b"73b  9w@ 6 013a  6 3@9w4 7 25                ",
-        // DT2 <f>: a ! T <w> &
-        29 => *b"43a  5 0 8w@ 7 12                            ",
-        // DT2 [f]: a T [w] |
-        30 => *b"33a  9w@ 6 01                                ",
-        // DT2 <f->: a ! T & <w>
-        31 => *b"43a  5 0 7 1@8w2                             ",
-        // DT2 [f-]: a T | [w]
-        32 => *b"33a  6 0@9w1                                 ",
-        // DS <m>: a ! a ! T & <w> &
-        33 => *b"73a  5 0 3a  5 2 7 3@8w4 7 15                ",
-        // DS [m]: a a T | [w] |
-        _ => *b"53a  3a  6 1@9w2 6 03                        ",
+        13 => TEXT_13,
+        14 => TEXT_14,
+        15 => TEXT_15,
+        16 => TEXT_16,
+        17 => TEXT_17,
+        18 => TEXT_18,
+        19 => TEXT_19,
+        20 => TEXT_20,
+        21 => TEXT_21,
+        22 => TEXT_22,
+        23 => TEXT_23,
+        24 => TEXT_24,
+        25 => TEXT_25,
+        26 => TEXT_26,
+        27 => TEXT_27,
+        28 => TEXT_28,
+        29 => TEXT_29,
+        30 => TEXT_30,
+        31 => TEXT_31,
+        32 => TEXT_32,
+        33 => TEXT_33,
+        _ => TEXT_34,
     }
+}
+
+// Group q of a text.
+fn group(x: [u64; 3], q: usize) -> usize
+    requires { ⌜ q < 12 ⌝ }
+    ensures { λ r. ⌜ (r ≡ groupIn x q) × (r < 65536) ⌝ }
+{
+    let shift = 48 - 16 * (q % 4);
+    ((x[q / 4] >> shift) % 0x10000) as usize
 }
 
 // How many nodes the block has, whatever the numbers that it refers to.
@@ -273,8 +315,7 @@ pub fn size(s: Spelling) -> usize
     if row < COPIES {
         return 1;
     }
-    let x = text(row);
-    wide(x[0]) % 16
+    group(text(row), 0)
 }
 
 fn low(x: usize) -> u8
@@ -348,31 +389,37 @@ fn write_copy(out: &mut [u8], i: usize, kind: u8, param: u8, t: usize, u: usize)
     put_node(out, i, kind, p, l, r);
 }
 
-// The parameters by their letters, which differ in the last three bits.
+// The parameters by their digits.
 fn params(s: Spelling) -> [u8; 8]
     ensures { λ r. ⌜ r ≡ paramsOf s ⌝ }
 {
     let reverse = low(wide(s.b) + wide(LINKS));
-    [0, s.a, s.b, reverse, 0, EVERY, 0, s.w]
+    [0, s.w, s.a, s.b, reverse, EVERY, 0, 0]
 }
 
-// The child by its letter.
-fn child(letter: u8, cs: [usize; 4]) -> usize
-    requires { ⌜ Small cs ⌝ }
-    ensures { λ r. ⌜ (r ≡ childOf cs letter) × (r < 65536) ⌝ }
+// The child by its digit.
+fn child(c: usize, at: usize, t: usize) -> usize
+    requires { ⌜ (c < 16) × (at < 60000) × (t < 60000) ⌝ }
+    ensures { λ r. ⌜ (r ≡ childOf at t c) × (r < 65536) ⌝ }
 {
-    let c = wide(letter);
-    cs[c / 16 % 4] + c % 16
+    if c == 0 {
+        return 0;
+    }
+    if c < 0xe {
+        return at + c - 1;
+    }
+    t
 }
 
-// Writes the node with these letters at place i.
-fn put_letters(out: &mut [u8], i: usize, k: u8, p: u8, l: u8, r: u8, ps: [u8; 8], cs: [usize; 4])
-    requires { ⌜ (i < 65536) × Small cs ⌝ }
-    ensures { λ _. ⌜ now (out .exit) ≡ put (now (out .entry)) i (decode ps cs k p l r) ⌝ }
+// Writes the node of group g at place i, where the block begins at number at.
+fn put_group(out: &mut [u8], i: usize, g: usize, ps: [u8; 8], at: usize, t: usize)
+    requires { ⌜ (i < 65536) × (g < 65536) × (at < 60000) × (t < 60000) ⌝ }
+    ensures { λ _. ⌜ now (out .exit) ≡ put (now (out .entry)) i (decode ps at t (nodeOf g)) ⌝ }
 {
-    let left = child(l, cs);
-    let right = child(r, cs);
-    put_node(out, i, k % 16, ps[wide(p) % 8], left, right);
+    let p = ps[g / 0x100 % 8];
+    let l = child(g / 0x10 % 0x10, at, t);
+    let r = child(g % 0x10, at, t);
+    put_node(out, i, low(g / 0x1000), p, l, r);
 }
 
 // Writes a row from number at on; t is the image of the old node's child.
@@ -381,13 +428,11 @@ fn write_row(out: &mut [u8], at: usize, s: Spelling, t: usize)
     ensures { λ _. ⌜ now (out .exit) ≡ puts (now (out .entry)) at 0 (emit (rowSpelled s t) at) ⌝ }
 {
     let ps = params(s);
-    let cs = [t, 0, 0, at];
     let x = text(s.row);
-    let n = wide(x[0]) % 16;
+    let n = group(x, 0);
     let mut j = 0;
     while j < n {
-        let o = 4 * j;
-        put_letters(out, at + j, x[o + 1], x[o + 2], x[o + 3], x[o + 4], ps, cs);
+        put_group(out, at + j, group(x, j + 1), ps, at, t);
         j += 1;
     }
 }

@@ -448,7 +448,15 @@ pub fn rewrite_sheet(table: &[u8], sheet: &[u8], result: &mut [u8]) -> Rewriting
     let mut spare = no_table();
     let mut images = no_images();
     let mut rows = no_rows();
-    rewrite_with(table, sheet, result, &mut work, &mut spare, &mut images, &mut rows)
+    rewrite_with(
+        table,
+        sheet,
+        result,
+        &mut work,
+        &mut spare,
+        &mut images,
+        &mut rows,
+    )
 }
 
 pub fn verdict(r: Rewriting) -> Verdict

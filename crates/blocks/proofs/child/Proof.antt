@@ -1,27 +1,27 @@
--- The child by its letter.
-use mathlib.Core.Path.{refl}
-use Prim.Native.Nat.{_/_, _%_}
+-- A child by its digit.
 use native.Mathlib.Omega.{arith}
-use Rattle.blocks.specs.Rows.{Small}
+use Rattle.finite.specs.Laws.Below.{eq-same, ne-same, below-in, below-not}
+use Rattle.blocks.specs.Rows.{childOf}
 use Rattle.blocks.proofs.child.Statement.{statement}
 use Rattle.blocks.proofs.child.Tie as tie
 
-wide-requires : tie.Need-wide-requires
-wide-requires c κs = tt
-
-mul-result : tie.Need-mul-result
-mul-result c = omega arith
-
-array-read-result : tie.Need-array-read-result
-array-read-result c = omega arith
+returns : tie.Need-returns
+unfolding childOf
+returns c = (simp (eq-same (c .if1 .taken)), omega arith)
 
 add-result : tie.Need-add-result
-unfolding Small
-add-result c = omega (arith, c .before .pre (c .wide .result / 16 % 4))
+add-result c = omega arith
 
-returns : tie.Need-returns
-unfolding Small
-returns c = (rw (c .wide .ensures .0), omega (arith, c .before .pre (c .wide .result / 16 % 4)))
+sub-result : tie.Need-sub-result
+sub-result c = omega arith
+
+returns-2 : tie.Need-returns-2
+unfolding childOf
+returns-2 c = (simp (ne-same (c .before .if1 .left), below-in _ _ (c .if2 .taken)), omega arith)
+
+returns-3 : tie.Need-returns-3
+unfolding childOf
+returns-3 c = (simp (ne-same (c .before .if1 .left), below-not _ _ (c .if2 .left)), omega arith)
 
 pub child-spec : {M : Type 1} → statement M
-child-spec = tie.close (tie.spec wide-requires mul-result array-read-result add-result returns)
+child-spec = tie.close (tie.spec returns add-result sub-result returns-2 returns-3)

@@ -1,5 +1,4 @@
--- The parameters by their letters.
-use mathlib.Core.Path.{refl}
+-- The parameters by their digits.
 use native.Mathlib.Omega.{arith}
 use Rattle.blocks.proofs.params.Statement.{statement}
 use Rattle.blocks.proofs.params.Tie as tie

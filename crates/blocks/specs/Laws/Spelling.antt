@@ -16,6 +16,8 @@ use Rattle.semantics.specs.Block.{Change, keep, added, cut, cutFrom, cutTo, cut
 use Rattle.semantics.specs.Laws.Edits.{Legal, legal-out, functional-small}
 use Rattle.semantics.specs.Laws.Ways.{way-along}
 use Rattle.condition.specs.Laws.Limits.{each-kind, kind-past}
+use Rattle.sheet.specs.declared.Op.{Op}
+use Rattle.sheet.specs.Bytes.{editOf}
 use Rattle.blocks.specs.declared.Spelling.{Spelling}
 use Rattle.blocks.specs.Rows.{copyCount, rowCount, copies, rows}
 use Rattle.blocks.specs.Spelling.{spelled, Spells, knownKind, onWay, leafRow, wayRow, asRow, dsRow, rowOf, firstOf, secondOf}
@@ -136,8 +138,7 @@ module _ (p t u : ℕ) where
       (choose box (row n 0) (below p everyWay) refl refl ∙ ap box (change-ds n p))
       refl refl (λ k h. rw (kind-past k h, known-past k h) refl)
 
-pub spells : (e : Edit) (k p : ℕ) → legal e ≡ true
-    → Spells e k p (record { row = rowOf e (knownKind k) p; w = p; a = firstOf e; b = secondOf e })
+spells : (e : Edit) (k p : ℕ) → legal e ≡ true → Spells e k p (record { row = rowOf e (knownKind k) p; w = p; a = firstOf e; b = secondOf e })
 unfolding spelled
 spells e k p l = record {
   known = below-out _ rowCount (ap (λ (x : Found). x .0) (right p 0 0 e l k));
@@ -146,3 +147,8 @@ spells e k p l = record {
   second = refl;
   right = λ t u. ap (λ (x : Found). x .1) (right p t u e l k);
 }
+
+-- as an arm of the code has it, where the edit o is known to be o′
+pub spells-by : {o o′ : Op} {kind p k r : ℕ} {s : Spelling} → o ≡ o′ → legal (editOf o) ≡ true → k ≡ knownKind kind → r ≡ rowOf (editOf o′) k p
+    → s ≡ record { row = r; w = p; a = firstOf (editOf o′); b = secondOf (editOf o′) } → Spells (editOf o) kind p s
+spells-by {o} {o′} {kind} {p} t l ek er es = rw (es, er, ek, ← t) (spells (editOf o) kind p l)

@@ -1,11 +1,11 @@
 -- Laws of writing nodes into a buffer.
 use mathlib.Core.Path.{_≡_, refl, _∙_, ap}
-use mathlib.Core.List.{List, [], _∷_, _++_}
+use mathlib.Core.List.{List, [], _∷_, _++_, map, map-append}
 use Prim.Native.Nat.{ℕ, zero, suc, _+_, _*_, _/_, _%_, _≤_, _<_}
 use native.Mathlib.Omega.{arith}
 use native.Mathlib.Numerals.{add-one, towards-suc}
-use lib.ListN.{length, take, getD, set, length-append}
-use lib.Seq.{length-sets, take-suc, take-length}
+use lib.ListN.{length, set, length-append}
+use lib.Seq.{length-sets}
 use Rattle.finite.specs.Tests.{below}
 use Rattle.finite.specs.Laws.Bools.{either, look}
 use Rattle.finite.specs.Laws.Below.{below-not}
@@ -75,13 +75,8 @@ put-more {o} {at} {n} {f} w e =
 pub put-length : {o : List ℕ} {at n : ℕ} {f : ℕ → Node} {out : List ℕ} → Put o at f n out → length out ≡ length o
 put-length {o} {at} {n} {f} w = ap length (w .is) ∙ length-puts o at 0 (firsts f n)
 
--- where f gives the nodes of a list, these are the list
-firsts-take : (f : ℕ → Node) (xs : List Node) (d : Node) → ((j : ℕ) → j < length xs → f j ≡ getD xs j d) → (n : ℕ) → n ≤ length xs
-    → firsts f n ≡ take n xs
+-- nodes that f makes of others
+pub firsts-map : (f : Node → Node) (g : ℕ → Node) (n : ℕ) → firsts (λ j. f (g j)) n ≡ map f (firsts g n)
 unfolding firsts
-firsts-take f xs d e zero h = refl
-firsts-take f xs d e (suc n) h =
-    let k : n < length xs = omega arith in rw (firsts-take f xs d e n (omega arith), e n k, take-suc xs n d k) refl
-
-pub firsts-all : (f : ℕ → Node) (xs : List Node) (d : Node) → ((j : ℕ) → j < length xs → f j ≡ getD xs j d) → firsts f (length xs) ≡ xs
-firsts-all f xs d e = firsts-take f xs d e (length xs) (omega arith) ∙ take-length xs
+firsts-map f g zero = refl
+firsts-map f g (suc n) = rw (map-append, firsts-map f g n) refl

@@ -22,7 +22,9 @@ enum-told : tie.Need-enum-told
 enum-told c = search needs
 
 check-requires-2 : tie.Need-check-requires-2
-check-requires-2 c κs = ap length (c .before .before .before .before .before .before .before .before .before .pre) ∙ length-replicate {A = ℕ} tableNodes 0
+check-requires-2 c κs =
+    let the-pre = c .before .before .before .before .before .before .before .before .before .pre in
+    ap length the-pre ∙ length-replicate {A = ℕ} tableNodes 0
 
 enum-known-v : tie.Need-enum-known-v
 enum-known-v c = search needs
@@ -34,7 +36,9 @@ returns-3 : tie.Need-returns-3
 returns-3 c = judged-table (omega arith) (omega arith) (sym (c .before .before .before .before .before .before .check .ensures) ∙ c .before .before .before .before .enum-told .given .1) (c .before .before .check2 .ensures)
 
 returns-4 : tie.Need-returns-4
-returns-4 c = judged-site (c .before .before .before .before .before .before .before .before .before .pre) (omega arith) (omega arith) (sym (c .before .before .before .check .ensures) ∙ c .before .v .given .1)
+returns-4 c =
+    let the-pre = c .before .before .before .before .before .before .before .before .before .pre in
+    judged-site the-pre (omega arith) (omega arith) (sym (c .before .before .before .check .ensures) ∙ c .before .v .given .1)
 
 pub judge-spec : {M : Type 1} → statement M
 judge-spec =
