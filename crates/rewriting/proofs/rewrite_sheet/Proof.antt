@@ -1,40 +1,37 @@
-use borrow.Author.Needs.{needs}
+-- Two empty tables, images and rows to work on.
+use native.Mathlib.Omega.{arith}
+use mathlib.Core.Path.{_∙_, ap}
+use Prim.Native.Nat.{ℕ}
+use lib.ListN.{length, length-replicate}
+use Rattle.limits.specs.Limits.{tableNodes, tableBytes}
+use Rattle.rewriting.specs.Laws.Buffers.{bytes-zero}
 use Rattle.rewriting.proofs.rewrite_sheet.Statement.{statement}
 use Rattle.rewriting.proofs.rewrite_sheet.Tie as tie
-use Rattle.rewriting.proofs.rewrite_sheet.Reads as reads
-use Rattle.rewriting.proofs.rewrite_sheet.Lts as lts
-use Rattle.rewriting.proofs.no_images.Reads as no-images-reads
-use Rattle.rewriting.proofs.no_rows.Reads as no-rows-reads
-use Rattle.rewriting.proofs.no_table.Reads as no-table-reads
-use Rattle.rewriting.proofs.rewrite_with.Reads as rewrite-with-reads
 
--- src/lib.rt:447:20
 no-table-requires : tie.Need-no-table-requires
-no-table-requires c κs = search needs
+no-table-requires c κs = tt
 
--- src/lib.rt:448:21
 no-table-requires-2 : tie.Need-no-table-requires-2
-no-table-requires-2 c κs = search needs
+no-table-requires-2 c κs = tt
 
--- src/lib.rt:449:22
 no-images-requires : tie.Need-no-images-requires
-no-images-requires c κs = search needs
+no-images-requires c κs = tt
 
--- src/lib.rt:450:20
 no-rows-requires : tie.Need-no-rows-requires
-no-rows-requires c κs = search needs
+no-rows-requires c κs = tt
 
--- src/lib.rt:451:5
 rewrite-with-requires : tie.Need-rewrite-with-requires
-rewrite-with-requires c κs = ?
+rewrite-with-requires c κs =
+    let r = c .before .before .before .before .before in let t = r .before .before .before in
+    let s = t .before .before .before .before in
+    let n = length-replicate {A = ℕ} in
+    (s .pre .0, ((bytes-zero tableBytes (t .no-table .ensures), ap length (t .no-table .ensures) ∙ n tableBytes 0, ap length (r .before .before .no-table2 .ensures) ∙ n tableBytes 0, ap length (r .before .no-images .ensures) ∙ n tableNodes 0, ap length (r .no-rows .ensures) ∙ n tableNodes 0), s .pre .1))
 
--- src/lib.rt:442:1
 same-length : tie.Need-same-length
-same-length c = search needs
+same-length c = omega (arith, c .before .before .rewrite-with .kept)
 
--- src/lib.rt:442:1
 returns : tie.Need-returns
-returns c = search needs
+returns c = c .before .before .rewrite-with .ensures
 
 pub rewrite-sheet-spec : {M : Type 1} → statement M
 rewrite-sheet-spec =

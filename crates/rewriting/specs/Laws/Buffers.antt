@@ -1,14 +1,17 @@
 -- Laws of clearing, and of a table that a buffer starts with.
-use mathlib.Core.Path.{_≡_, refl, sym, _∙_, ap, ap₂}
+use mathlib.Core.Path.{_≡_, refl, sym, _∙_, ap, ap₂, subst}
 use mathlib.Core.List.{List, [], _∷_, _++_, append-nil}
 use Prim.Native.Nat.{ℕ, zero, suc, _+_, _*_, _-_, _/_, _≤_, _<_}
 use native.Mathlib.Omega.{arith}
 use lib.ListN.{length, getD, take, drop, replicate, length-drop, take-append-drop, List·getD-append, drop-of-length-le}
-use lib.Seq.{length-take-le, take-at, take-length}
-use Rattle.finite.specs.Tests.{all}
+use lib.Seq.{length-take-le, take-at, take-length, getD-append-add, getD-drop}
+use Rattle.finite.specs.Tests.{all, below}
+use Rattle.finite.specs.Laws.Bools.{either, look}
+use Rattle.finite.specs.Laws.Below.{below-out, not-below}
 use Rattle.semantics.specs.Table.{Node}
 use Rattle.condition.specs.Bytes.{nodeAt, nodes, tableOf, bytesOf}
 use Rattle.condition.specs.Laws.Bytes.{length-nodes, length-bytes, nodes-more, read-back, write-back}
+use Rattle.rewriting.specs.State.{Bytes}
 
 -- zeros from byte n on: the part that was lent has come back as zeros
 pub cleared : (b ys : List ℕ) (n : ℕ) → n ≤ length b → ys ≡ replicate (length (take (length b - n) (drop n b))) 0
@@ -50,3 +53,23 @@ copied t d o e =
     nodes-agree o t (length t / 6)
     (λ i h. ap (λ (l : List ℕ). getD l i 0) (e ∙ ap (λ (l : List ℕ). l ++ drop (length t) d) (take-length t))
     ∙ List·getD-append t (drop (length t) d) 0 i (omega arith))
+
+-- what is copied from bytes over bytes is bytes; and so are zeros
+pub bytes-copied : (t d o : List ℕ) → o ≡ take (length t) t ++ drop (length t) d → Bytes t → Bytes d → Bytes o
+bytes-copied t d o e T D i =
+    let o₂ : o ≡ t ++ drop (length t) d = e ∙ ap (λ (l : List ℕ). l ++ drop (length t) d) (take-length t) in
+    either
+    (look (below i (length t)))
+    (λ q. subst (λ (m : ℕ). m < 256) (sym (ap (λ (l : List ℕ). getD l i 0) o₂ ∙ List·getD-append t (drop (length t) d) 0 i (below-out i _ q))) (T i))
+    (λ q. let z : i ≡ length t + (i - length t) = omega (arith, not-below i _ q) in
+    subst (λ (m : ℕ). m < 256)
+    (sym (ap₂ (λ (l : List ℕ) (m : ℕ). getD l m 0) o₂ z ∙ getD-append-add t (drop (length t) d) (i - length t) 0 ∙ getD-drop (length t) d (i - length t) 0))
+    (D (length t + (i - length t))))
+
+zeros : (n j : ℕ) → _≡_ {A = ℕ} (getD (replicate n 0) j 0) 0
+zeros zero j = refl
+zeros (suc n) zero = refl
+zeros (suc n) (suc j) = zeros n j
+
+pub bytes-zero : {s : List ℕ} (n : ℕ) → s ≡ replicate n 0 → Bytes s
+bytes-zero {s} n e i = omega (arith, ap (λ (l : List ℕ). getD l i 0) e, zeros n i)

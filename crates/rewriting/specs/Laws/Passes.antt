@@ -123,21 +123,23 @@ module _ {es : List Edit} {xs : List Node} {o : List ℕ} {r : ℕ} (P : Passed 
   is-short : r ≤ tableNodes → tooLong es xs ≡ false
   is-short h = either (look (tooLong es xs)) (λ t. let g = P .long t in absurd (omega arith)) (λ f. f)
 
-module _ (table sheet result o o′ : List ℕ) (r : ℕ) (P : Passed (editsOf sheet) (tableOf table) o r) where
-  pub too-long : tableNodes < r → length o ≡ length result → o′ ≡ replicate (length o) 0 → Rewrote table sheet result o′ (Refused 14 0) 0
+module _ (table sheet result : List ℕ) {o o′ : List ℕ} {r : ℕ} (P : Passed (editsOf sheet) (tableOf table) o r) where
+  pub too-long : tableNodes < r → o′ ≡ replicate (length result) 0 → Rewrote table sheet result o′ (Refused 14 0) 0
   unfolding lengthVerdict TableAfter
-  too-long h l e = record { verdict = rw (is-long P h); table-after = (refl, e ∙ ap (λ (n : ℕ). replicate n 0) l) }
+  too-long h e = record { verdict = rw (is-long P h); table-after = (refl, e) }
 
-  pub a-table : r ≤ tableNodes → length o ≡ tableBytes → o′ ≡ take (6 * r) o ++ replicate (length o - 6 * r) 0
-      → Rewrote table sheet result o′ Accepted r
+  -- the table is copied into the result, o₁, and zeros follow it
+  pub a-table : (o₁ : List ℕ) → r ≤ tableNodes → length o ≡ tableBytes → length o₁ ≡ tableBytes → o₁ ≡ take (6 * r) o ++ drop (6 * r) result
+      → o′ ≡ take (6 * r) o₁ ++ replicate (length o₁ - 6 * r) 0 → Rewrote table sheet result o′ Accepted r
   unfolding lengthVerdict TableAfter
-  a-table h l e =
+  a-table o₁ h l l₁ e₁ e =
       let t = is-short P h in
       let n = P .right t .0 in
       let b = P .right t .2 in
+      let c : take (6 * r) o₁ ≡ take (6 * r) o = ap (take (6 * r)) e₁ ∙ take-at (take (6 * r) o) (drop (6 * r) result) (6 * r) (length-take-le (6 * r) o (omega arith)) in
       record {
         verdict = rw t;
-        table-after = (n, e ∙ rw (l, n) (ap (λ (s : List ℕ). s ++ replicate (tableBytes - 6 * length (rewritten table sheet)) 0) b));
+        table-after = (n, e ∙ rw (l₁, c, n) (ap (λ (s : List ℕ). s ++ replicate (tableBytes - 6 * length (rewritten table sheet)) 0) b));
       }
 
 pub passed-copied : (es : List Edit) (t d o o₂ : List ℕ) (r : ℕ) → o ≡ take (length t) t ++ drop (length t) d
