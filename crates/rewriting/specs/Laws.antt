@@ -2,11 +2,7 @@
 -- a table never gets shorter; sheets that double it
 pub mod Grow
 pub mod Double
--- one edit; buffers; the sheet
-pub mod State
-pub mod Numbered
-pub mod Puts
-pub mod Placed
+-- buffers; the sheet
 pub mod Buffers
 pub mod Passes
 -- the rewritten table is accepted

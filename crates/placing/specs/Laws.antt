@@ -1,0 +1,8 @@
+-- Laws of one edit, by topic.
+-- a block has a node
+pub mod Sizes
+-- images and starts; bytes written; blocks placed
+pub mod State
+pub mod Numbered
+pub mod Puts
+pub mod Placed

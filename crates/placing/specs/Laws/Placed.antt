@@ -1,0 +1,290 @@
+-- The second pass for one edit: blocks written in any order, each at its place.
+use mathlib.Core.Path.{_≡_, refl, sym, _∙_, ap, ap₂, subst}
+use mathlib.Core.List.{List, _++_}
+use Prim.Native.Nat.{ℕ, zero, suc, _+_, _*_, _-_, _≤_, _<_}
+use native.Mathlib.Omega.{arith}
+use native.Mathlib.Numerals.{add-one}
+use lib.ListN.{length, getD, set, take, length-set, List·getD-append}
+use lib.Dec.{ltb}
+use lib.Seq.{getD-take, getD-set-same, getD-set-other, getD-append-add, ext-getD, length-take-le}
+use Rattle.finite.specs.Tests.{below}
+use Rattle.finite.specs.Laws.Bools.{either, look}
+use Rattle.finite.specs.Laws.Below.{below-out, not-below, equal?}
+use Rattle.semantics.specs.Edit.{Edit}
+use Rattle.semantics.specs.Table.{kindOf, Node}
+use Rattle.semantics.specs.Block.{Block, old, size, emit, block, rewriteTable}
+use Rattle.semantics.specs.Laws.Emit.{emit-length}
+use Rattle.condition.specs.Bytes.{nodeAt, nodes, bytesOf}
+use Rattle.condition.specs.Laws.Bytes.{length-bytes}
+use Rattle.limits.specs.Limits.{tableNodes, tableBytes}
+use Rattle.blocks.specs.declared.Spelling.{Spelling}
+use Rattle.blocks.specs.Rows.{rowCount}
+use Rattle.blocks.specs.Spelling.{spelled, Spells, Sized}
+use Rattle.blocks.specs.Write.{puts, Written}
+use Rattle.blocks.specs.Laws.Write.{length-puts}
+use Rattle.placing.specs.State.{blockIn, step, stateAt, leftAt, rightAt, startOf, Numbered, imageIn, placedRow, spellingBy, Rowed, NonePlaced, Ready, Stands, Placing, lowerOf, higherOf}
+use Rattle.placing.specs.Laws.State.{state-out, block-used}
+use Rattle.placing.specs.Laws.Numbered.{blockAt, start-more, starts-up, numbered-low, start-none, image-is, image-last, rowed-low}
+use Rattle.placing.specs.Laws.Puts.{puts-low, puts-high, puts-in, bytes-append}
+
+-- ---- one block written
+
+-- the definition's bytes with block i behind those before it
+bytes-more : (e : Edit) (s : List ℕ) (i : ℕ)
+    → bytesOf (stateAt e s (suc i) .out) ≡ bytesOf (stateAt e s i .out) ++ bytesOf (emit (blockAt e s i) (startOf e s i))
+unfolding stateAt step startOf
+bytes-more e s i = bytes-append (stateAt e s i .out) (emit (blockAt e s i) (length (stateAt e s i .out)))
+
+bytes-start : (e : Edit) (s : List ℕ) (i : ℕ) → length (bytesOf (stateAt e s i .out)) ≡ 6 * startOf e s i
+unfolding startOf
+bytes-start e s i = length-bytes (stateAt e s i .out)
+
+-- block i is written at its place
+module _ (s : List ℕ) (e : Edit) (out : List ℕ) (i : ℕ) (out′ : List ℕ) (h : out′ ≡ puts out (startOf e s i) 0 (emit (blockAt e s i) (startOf e s i))) where
+  block-end : startOf e s (suc i) ≡ startOf e s i + length (emit (blockAt e s i) (startOf e s i))
+  block-end = start-more e s i ∙ ap (λ (m : ℕ). startOf e s i + m) (sym (emit-length (blockAt e s i) (startOf e s i)))
+
+  stands-new : length out ≡ tableBytes → Stands s e out′ i
+  unfolding Stands
+  stands-new l p a b c =
+      let z : p ≡ length (bytesOf (stateAt e s i .out)) + (p - 6 * (startOf e s i + 0)) = omega (arith, bytes-start e s i) in
+      ap (λ (o : List ℕ). getD o p 0) h
+      ∙ puts-in out (startOf e s i) 0 (emit (blockAt e s i) (startOf e s i)) p l (omega arith) (omega (arith, block-end)) c
+      ∙ sym (getD-append-add (bytesOf (stateAt e s i .out)) (bytesOf (emit (blockAt e s i) (startOf e s i))) (p - 6 * (startOf e s i + 0)) 0)
+      ∙ ap₂ (λ (l : List ℕ) (m : ℕ). getD l m 0) (sym (bytes-more e s i)) (sym z)
+
+  stands-still : (j : ℕ) → (j ≡ i → ⊥) → Stands s e out j → Stands s e out′ j
+  unfolding Stands
+  stands-still j ne S p a b c =
+      ap (λ (o : List ℕ). getD o p 0) h
+      ∙ either
+      (look (below j i))
+      (λ q. let lt : suc j ≤ i = below-out j i q in
+      puts-low out (startOf e s i) 0 (emit (blockAt e s i) (startOf e s i)) p (omega (arith, starts-up e s (suc j) i lt)))
+      (λ q. let le : i ≤ j = not-below j i q in let gt : suc i ≤ j = omega arith in
+      puts-high out (startOf e s i) 0 (emit (blockAt e s i) (startOf e s i)) p (omega (arith, starts-up e s (suc i) j gt, block-end)))
+      ∙ S p a b c
+
+  placing-one : (rows : List ℕ) → i < length rows → length out ≡ tableBytes → Placing s e rows out (set rows i placedRow) out′
+  placing-one rows b l =
+      let here : getD (set rows i placedRow) i 0 ≡ placedRow = getD-set-same rows i placedRow 0 b in
+      let other : (j : ℕ) → (j ≡ i → ⊥) → getD (set rows i placedRow) j 0 ≡ getD rows j 0 = λ j q. getD-set-other rows i j placedRow 0 q in
+      record {
+        size = length-set rows i placedRow;
+        room = ap length h ∙ length-puts out (startOf e s i) 0 (emit (blockAt e s i) (startOf e s i));
+        stays = λ j p. either (equal? j i) (λ q. rw q here) (λ q. other j q ∙ p);
+        same = λ j ne. either (equal? j i) (λ q. absurd (ne (rw q here))) (λ q. other j q);
+        stand = λ j ne p. either (equal? j i) (λ q. subst (Stands s e out′) (sym q) (stands-new l)) (λ q. absurd (ne (sym (other j q) ∙ p)));
+        keeps = λ j S. either (equal? j i) (λ q. subst (Stands s e out′) (sym q) (stands-new l)) (λ q. stands-still j q S);
+      }
+
+-- ---- the steps of the code
+
+pub placing-none : {s : List ℕ} {e : Edit} {rows out : List ℕ} → Placing s e rows out rows out
+placing-none = record { size = refl; room = refl; stays = λ j p. p; same = λ j n. refl; stand = λ j n p. absurd (n p); keeps = λ j S. S }
+
+pub placing-then : {s : List ℕ} {e : Edit} {rows out rows₁ out₁ rows₂ out₂ : List ℕ} → Placing s e rows out rows₁ out₁ → Placing s e rows₁ out₁ rows₂ out₂
+    → Placing s e rows out rows₂ out₂
+placing-then {s} {e} {rows} {out} {rows₁} {out₁} {rows₂} {out₂} P Q = record {
+  size = Q .size ∙ P .size;
+  room = Q .room ∙ P .room;
+  stays = λ j p. Q .stays j (P .stays j p);
+  same = λ j n. Q .same j n ∙ P .same j (λ p. n (Q .stays j p));
+  stand = λ j n p.
+      either
+      (equal? (getD rows₁ j 0) placedRow)
+      (λ q. Q .keeps j (P .stand j n q))
+      (λ q. Q .stand j q p);
+  keeps = λ j S. Q .keeps j (P .keeps j S);
+}
+
+-- what is needed for the nodes below n is there after more are placed, and for fewer nodes
+pub ready-then : {s : List ℕ} {e : Edit} {images rows out rows′ out′ : List ℕ} {a b n : ℕ} → Ready s e images rows out a b n
+    → Placing s e rows out rows′ out′ → Ready s e images rows′ out′ a b n
+ready-then {s} {e} {images} {rows} {out} {rows′} {out′} {a} {b} {n} Y P = record {
+  whole = Y .whole;
+  numbered = Y .numbered;
+  rowed = record {
+    size = P .size ∙ Y .rowed .size;
+    spells = λ j h ne.
+        let o = P .same j ne in
+        subst (λ (m : ℕ). Spells e (nodeAt s j .kind) (nodeAt s j .param) (spellingBy e s j m)) (sym o) (Y .rowed .spells j h (λ z. ne (o ∙ z)));
+  };
+  first = Y .first;
+  second = Y .second;
+  room = P .room ∙ Y .room;
+}
+
+pub ready-low : {s : List ℕ} {e : Edit} {images rows out : List ℕ} {a b n : ℕ} → Ready s e images rows out a b n → (i : ℕ) → i ≤ n
+    → Ready s e images rows out a b i
+ready-low Y i h = record {
+  whole = Y .whole;
+  numbered = numbered-low (Y .numbered) i h;
+  rowed = rowed-low (Y .rowed) i h;
+  first = Y .first;
+  second = Y .second;
+  room = Y .room;
+}
+
+-- node c is not placed: its row, its parameter and the edit's numbers spell its block
+module _ {s : List ℕ} {e : Edit} {images rows out : List ℕ} {a b : ℕ} (c : ℕ) (Y : Ready s e images rows out a b (c + 1)) {row p : ℕ}
+    (er : row ≡ getD rows c 0) (ne : row ≡ placedRow → ⊥) (ep : p ≡ nodeAt s c .param) where
+  spells-here : Spells e (nodeAt s c .kind) (nodeAt s c .param) (record { row = row; w = p; a = a; b = b })
+  spells-here =
+      rw (er, ep, Y .first, Y .second) (Y .rowed .spells c (omega arith) (λ z. ne (er ∙ z)))
+
+  pub row-known : row < rowCount
+  row-known = spells-here .known
+
+  module _ {l r t u : ℕ} (el : l ≡ leftAt s c) (eq : r ≡ rightAt s c) (et : t ≡ imageIn images c l) (eu : u ≡ imageIn images c r) where
+    block-here : spelled (record { row = row; w = p; a = a; b = b }) t u ≡ blockAt e s c
+    unfolding blockIn leftAt rightAt
+    block-here =
+        let M : Numbered s e images c = numbered-low (Y .numbered) c (omega arith) in
+        let im : List ℕ = stateAt e s c .images in
+        let k = nodeAt s c .kind in
+        spells-here .right t u
+        ∙ ap₂ (λ (x y : ℕ). block e (kindOf k) (nodeAt s c .param) (old x) (old y)) (et ∙ image-is M l ∙ ap (λ (m : ℕ). getD im m 0) el) (eu ∙ image-is M r ∙ ap (λ (m : ℕ). getD im m 0) eq)
+        ∙ block-used e k (nodeAt s c .param) im (nodeAt s c .left) (nodeAt s c .right) c
+
+    -- n is the size of the block, which ends with the image m
+    module _ {n m : ℕ} (Z : Sized (record { row = row; w = p; a = a; b = b }) n) (em : m ≡ getD images c 0) where
+      ends : m + 1 ≡ startOf e s c + n
+      ends =
+          omega (arith, em, Y .numbered .imaged c (omega arith), image-last e s c, start-more e s c, Z .right t u, ap size block-here)
+
+      pub placed : {rows′ out′ : List ℕ} → out′ ≡ puts out (m + 1 - n) 0 (emit (spelled (record { row = row; w = p; a = a; b = b }) t u) (m + 1 - n))
+          → rows′ ≡ set rows c placedRow
+          → Placing s e rows out rows′ out′ × (getD rows′ c 0 ≡ placedRow)
+      placed {rows′} {out′} eo e′ =
+          let at : m + 1 - n ≡ startOf e s c = omega (arith, ends) in
+          let w : out′ ≡ puts out (startOf e s c) 0 (emit (blockAt e s c) (startOf e s c)) =
+          eo ∙ ap₂ (λ (B : Block) (i : ℕ). puts out i 0 (emit B i)) block-here at in
+          let i : c < length rows = omega (arith, Y .rowed .size, Y .numbered .most) in
+          rw e′ (placing-one s e out c out′ w rows i (Y .room), getD-set-same rows c placedRow 0 i)
+
+      pub room-before : (n ≤ m + 1) × (m + 1 ≤ 22528)
+      room-before = (omega (arith, ends), omega (arith, em, Y .numbered .imaged c (omega arith), image-last e s c, Y .numbered .few, ap (startOf e s) (add-one c)))
+
+-- ---- two nodes, one after the other
+
+-- after so many turns: c is the next node; lo and hi are placed in turn, and waiting tells whose children wait
+pub record Turned (s : List ℕ) (e : Edit) (rows out : List ℕ) (i lo hi : ℕ) (rows′ out′ : List ℕ) (c waiting turn : ℕ) : Type 0 where
+  pub few : turn ≤ 2
+  pub small : turn ≤ 1 → waiting ≤ turn
+  pub first : turn ≡ 0 → c ≡ lo
+  pub then : 1 ≤ turn → c ≡ hi
+  pub placing : Placing s e rows out rows′ out′
+  pub lo-placed : 1 ≤ turn → lo < i → getD rows′ lo 0 ≡ placedRow
+  pub hi-placed : 2 ≤ turn → hi < i → getD rows′ hi 0 ≡ placedRow
+  pub lo-next : turn ≡ 1 → 1 ≤ waiting → lo < i
+  pub lo-waits : 2 ≤ turn → 2 ≤ waiting → lo < i
+  pub hi-alone : 2 ≤ turn → waiting ≡ 1 → hi < i
+  pub hi-too : 2 ≤ turn → 3 ≤ waiting → hi < i
+
+pub turned-none : {s : List ℕ} {e : Edit} {rows out : List ℕ} {i lo hi : ℕ} → Turned s e rows out i lo hi rows out lo 0 0
+turned-none = record {
+  few = omega arith;
+  small = λ h. omega arith;
+  first = λ h. refl;
+  then = λ h. absurd (omega arith);
+  placing = placing-none;
+  lo-placed = λ h. absurd (omega arith);
+  hi-placed = λ h. absurd (omega arith);
+  lo-next = λ h. absurd (omega arith);
+  lo-waits = λ h. absurd (omega arith);
+  hi-alone = λ h. absurd (omega arith);
+  hi-too = λ h. absurd (omega arith);
+}
+
+pub turned-more : {s : List ℕ} {e : Edit} {rows out rows₁ out₁ rows₂ out₂ : List ℕ} {i lo hi c waiting turn r : ℕ}
+    → Turned s e rows out i lo hi rows₁ out₁ c waiting turn → turn < 2
+    → Placing s e rows₁ out₁ rows₂ out₂ × (c < i → getD rows₂ c 0 ≡ placedRow) → (r ≤ 1) × (r ≡ 1 → c < i)
+    → Turned s e rows out i lo hi rows₂ out₂ hi (2 * waiting + r) (turn + 1)
+turned-more {s} {e} {rows} {out} {rows₁} {out₁} {rows₂} {out₂} {i} {lo} {hi} {c} {waiting} {turn} {r} T b P q =
+    let small = T .small (omega arith) in
+    let at : turn ≡ 1 → c ≡ hi = λ h. T .then (omega arith) in
+    record {
+      few = omega arith;
+      small = λ h. omega (arith, q .0);
+      first = λ h. absurd (omega arith);
+      then = λ h. refl;
+      placing = placing-then (T .placing) (P .0);
+      lo-placed = λ h l.
+          either
+          (equal? turn 0)
+          (λ z. subst (λ (m : ℕ). getD rows₂ m 0 ≡ placedRow) (T .first z) (P .1 (omega (arith, T .first z))))
+          (λ z. P .0 .stays lo (T .lo-placed (omega arith) l));
+      hi-placed = λ h l.
+          let e₁ : turn ≡ 1 = omega arith in
+          subst (λ (m : ℕ). getD rows₂ m 0 ≡ placedRow) (at e₁) (P .1 (omega (arith, at e₁)));
+      lo-next = λ h g. let z : turn ≡ 0 = omega arith in omega (arith, T .first z, q .1 (omega (arith, q .0)));
+      lo-waits = λ h g. T .lo-next (omega arith) (omega (arith, q .0));
+      hi-alone = λ h g. let e₁ : turn ≡ 1 = omega arith in omega (arith, at e₁, q .1 (omega (arith, q .0)));
+      hi-too = λ h g. let e₁ : turn ≡ 1 = omega arith in omega (arith, at e₁, q .1 (omega (arith, q .0)));
+    }
+
+-- after both turns
+pub turned : {s : List ℕ} {e : Edit} {rows out rows′ out′ : List ℕ} {i lo hi c waiting turn : ℕ} → Turned s e rows out i lo hi rows′ out′ c waiting turn
+    → 2 ≤ turn → (Placing s e rows out rows′ out′ × (lo < i → getD rows′ lo 0 ≡ placedRow) × (hi < i → getD rows′ hi 0 ≡ placedRow))
+    × ((2 ≤ waiting → lo < i) × (waiting ≡ 1 → hi < i) × (3 ≤ waiting → hi < i))
+turned T h = ((T .placing, T .lo-placed (omega arith), T .hi-placed h), (T .lo-waits h, T .hi-alone h, T .hi-too h))
+
+-- both children are placed, whichever is the lower, and then more nodes
+pub children : {s : List ℕ} {e : Edit} {rows out rows₁ out₁ rows₂ out₂ : List ℕ} {i l r lo hi : ℕ} → lo ≡ lowerOf l r → hi ≡ higherOf l r
+    → Placing s e rows out rows₁ out₁ × (lo < i → getD rows₁ lo 0 ≡ placedRow) × (hi < i → getD rows₁ hi 0 ≡ placedRow)
+    → Placing s e rows₁ out₁ rows₂ out₂
+    → Placing s e rows out rows₂ out₂ × (l < i → getD rows₂ l 0 ≡ placedRow) × (r < i → getD rows₂ r 0 ≡ placedRow)
+children {s} {e} {rows} {out} {rows₁} {out₁} {rows₂} {out₂} {i} {l} {r} {lo} {hi} el eh P Q =
+    let at : (c x : ℕ) → c ≡ x → (c < i → getD rows₁ c 0 ≡ placedRow) → x < i → getD rows₂ x 0 ≡ placedRow =
+    λ c x q p h. Q .stays x (subst (λ (m : ℕ). m < i → getD rows₁ m 0 ≡ placedRow) q p h) in
+    either
+    (look (ltb l r))
+    (λ q. (placing-then (P .0) Q, at lo l (el ∙ rw q refl) (P .1), at hi r (eh ∙ rw q refl) (P .2)))
+    (λ q. (placing-then (P .0) Q, at hi l (eh ∙ rw q refl) (P .2), at lo r (el ∙ rw q refl) (P .1)))
+
+-- ---- all blocks
+
+-- the nodes from top to below n are placed
+abbrev pub PlacedFrom : List ℕ → ℕ → ℕ → Type 0
+PlacedFrom rows top n = (j : ℕ) → top ≤ j → j < n → getD rows j 0 ≡ placedRow
+
+pub placed-more : {s : List ℕ} {e : Edit} {rows out rows′ out′ : List ℕ} {top n : ℕ} → Placing s e rows out rows′ out′ → 0 < top
+    → getD rows′ (top - 1) 0 ≡ placedRow → PlacedFrom rows top n → PlacedFrom rows′ (top - 1) n
+placed-more {s} {e} {rows} {out} {rows′} {out′} {top} {n} P h here D j a b =
+    either
+    (equal? j (top - 1))
+    (λ q. rw q here)
+    (λ q. P .stays j (D j (omega arith) b))
+
+all-stand : (s : List ℕ) (e : Edit) (out : List ℕ) (n : ℕ) → ((j : ℕ) → j < n → Stands s e out j) → (p : ℕ) → p < 6 * startOf e s n → p < tableBytes
+    → getD out p 0 ≡ getD (bytesOf (stateAt e s n .out)) p 0
+unfolding Stands
+all-stand s e out zero S p h b = absurd (omega (arith, start-none e s))
+all-stand s e out (suc n) S p h b =
+    either
+    (look (below p (6 * startOf e s n)))
+    (λ q. let lt : p < 6 * startOf e s n = below-out p _ q in
+    all-stand s e out n (λ j g. S j (omega arith)) p lt b
+    ∙ sym (ap (λ (l : List ℕ). getD l p 0) (bytes-more e s n)
+    ∙ List·getD-append (bytesOf (stateAt e s n .out)) _ 0 p (omega (arith, bytes-start e s n))))
+    (λ q. S n (omega arith) p (not-below p _ q) h b)
+
+state-written : (s : List ℕ) (e : Edit) (out : List ℕ) (n : ℕ) → length out ≡ tableBytes → ((j : ℕ) → j < n → Stands s e out j) → Written out (stateAt e s n .out)
+unfolding Written startOf
+state-written s e out n l S h =
+    let xs = stateAt e s n .out in
+    let k : length (take (6 * length xs) out) ≡ 6 * length xs = length-take-le (6 * length xs) out (omega arith) in
+    ext-getD 0 (take (6 * length xs) out) (bytesOf xs) (k ∙ sym (length-bytes xs))
+    (λ p q. let g : p < 6 * length xs = omega arith in getD-take (6 * length xs) out p 0 g ∙ all-stand s e out n S p g (omega arith))
+
+pub all-written : {s : List ℕ} {e : Edit} {rows out rows′ out′ : List ℕ} {n : ℕ} → Placing s e rows out rows′ out′ → NonePlaced rows n
+    → PlacedFrom rows′ 0 n → length out ≡ tableBytes → Written out′ (rewriteTable e (nodes s n))
+all-written {s} {e} {rows} {out} {rows′} {out′} {n} P N D l =
+    subst (λ (xs : List Node). Written out′ xs) (state-out e s n)
+    (state-written s e out′ n (P .room ∙ l) (λ j g. P .stand j (N j g) (D j (omega arith) g)))
+
+pub counted : {s : List ℕ} {e : Edit} {images : List ℕ} {n r : ℕ} → Numbered s e images n → r ≡ startOf e s n
+    → (r ≡ length (rewriteTable e (nodes s n))) × (r ≤ 22528)
+unfolding startOf
+counted {s} {e} {images} {n} {r} N h = (h ∙ ap length (state-out e s n), omega (arith, N .few))

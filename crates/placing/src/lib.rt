@@ -1,0 +1,342 @@
+// A table of nodes rewritten through one edit: a first pass gives each block its place, a second writes the blocks, by recursion on children.
+// Document 01, "Rewriting".
+use blocks::Spelling;
+use condition::kind;
+use condition::param;
+use limits::DIA;
+use limits::NODE_BYTES;
+use limits::NOT;
+use limits::OR;
+use limits::SLOT;
+use limits::TABLE_BYTES;
+use limits::TABLE_NODES;
+use limits::TRUE;
+use sheet::Op;
+ghost use mathlib.Core.Path.{_≡_};
+ghost use mathlib.Core.Bool.{true, false};
+ghost use Prim.Native.Nat.{_+_, _*_, _-_, _≤_, _<_};
+ghost use lib.ListN.{length, getD};
+ghost use Rattle.semantics.specs.Edit.{legal};
+ghost use Rattle.semantics.specs.Block.{rewriteTable};
+ghost use Rattle.condition.specs.Bytes.{nodes};
+ghost use Rattle.sheet.specs.Bytes.{editOf};
+ghost use Rattle.limits.specs.Limits.{nodeSize, tableNodes, tableBytes};
+ghost use Rattle.blocks.specs.Spelling.{firstOf, secondOf};
+ghost use Rattle.blocks.specs.Write.{Written};
+ghost use Rattle.placing.specs.State.{leftAt, rightAt, startOf, Numbered, imageIn, placedRow, Rowed, NonePlaced, Ready, Placing, lowerOf, higherOf};
+
+// Tables, images and rows are lent as whole arrays: a call passes a pointer for each, in a register, and a last call becomes a jump.
+
+// What stands for a node's row once the node is placed. No row has this number.
+const PLACED: u8 = 255;
+
+fn narrow(x: usize) -> u16
+    requires { ⌜ x < 65536 ⌝ }
+    ensures { λ r. ⌜ r ≡ x ⌝ }
+{
+    x as u16
+}
+
+fn widen(x: u16) -> usize
+    ensures { λ r. ⌜ (r ≡ x) × (r < 65536) ⌝ }
+{
+    x as usize
+}
+
+// The children of node i, and i where it has none.
+fn left_of(table: &[u8; TABLE_BYTES], i: usize) -> usize
+    requires { ⌜ (length (now table) ≡ tableBytes) × (i < tableNodes) ⌝ }
+    ensures { λ r. ⌜ r ≡ leftAt (now (table .entry)) i ⌝ }
+{
+    let k = kind(table, i);
+    if k < NOT {
+        return i;
+    }
+    if k < SLOT {
+        return condition::left(table, i);
+    }
+    i
+}
+
+fn right_of(table: &[u8; TABLE_BYTES], i: usize) -> usize
+    requires { ⌜ (length (now table) ≡ tableBytes) × (i < tableNodes) ⌝ }
+    ensures { λ r. ⌜ r ≡ rightAt (now (table .entry)) i ⌝ }
+{
+    let k = kind(table, i);
+    if k < OR {
+        return i;
+    }
+    if k < DIA {
+        return condition::right(table, i);
+    }
+    i
+}
+
+// The image of the child c of node i, and 0 where c is not lower.
+fn image(images: &[u16; TABLE_NODES], i: usize, c: usize) -> usize
+    requires { ⌜ i ≤ tableNodes ⌝ }
+    ensures { λ r. ⌜ r ≡ imageIn (now (images .entry)) i c ⌝ }
+{
+    if c < i {
+        return widen(images[c]);
+    }
+    0
+}
+
+// Node c is below i and not placed.
+fn waits(rows: &[u8; TABLE_NODES], i: usize, c: usize) -> bool
+    requires { ⌜ i ≤ tableNodes ⌝ }
+{
+    if c < i {
+        return rows[c] != PLACED;
+    }
+    false
+}
+
+// The first pass: the rows of the first n nodes, and their images by the sizes of their blocks. Gives how many nodes the blocks have.
+fn number(
+    table: &[u8; TABLE_BYTES],
+    n: usize,
+    e: Op,
+    images: &mut [u16; TABLE_NODES],
+    rows: &mut [u8; TABLE_NODES],
+) -> usize
+    requires { ⌜ (length (now table) ≡ tableBytes) × (n ≤ tableNodes) × (length (now images) ≡ tableNodes) × (length (now rows) ≡ tableNodes) ⌝ }
+    requires { ⌜ legal (editOf e) ≡ true ⌝ }
+    ensures { λ r. ⌜ (r ≡ startOf (editOf e) (now (table .entry)) n) × (r ≤ 22528) × Numbered (now (table .entry)) (editOf e) (now (images .exit)) n ⌝ }
+    ensures { λ _. ⌜ Rowed (now (table .entry)) (editOf e) (now (rows .exit)) n × NonePlaced (now (rows .exit)) n ⌝ }
+{
+    let mut i = 0;
+    let mut next = 0;
+    while i < n {
+        let s = blocks::spell(e, kind(table, i), param(table, i));
+        next += blocks::size(s);
+        images[i] = narrow(next - 1);
+        rows[i] = s.row;
+        i += 1;
+    }
+    next
+}
+
+// Node c is placed: its block is written at its place. Gives whether one of its children waits. The edit stands in the contract alone.
+fn place(
+    table: &[u8; TABLE_BYTES],
+    images: &[u16; TABLE_NODES],
+    rows: &mut [u8; TABLE_NODES],
+    out: &mut [u8; TABLE_BYTES],
+    e: Op,
+    a: u8,
+    b: u8,
+    c: usize,
+) -> bool
+    requires { ⌜ Ready (now table) (editOf e) (now images) (now rows) (now out) a b (c + 1) ⌝ }
+    ensures { λ _. ⌜ Placing (now (table .entry)) (editOf e) (now (rows .entry)) (now (out .entry)) (now (rows .exit)) (now (out .exit)) × (getD (now (rows .exit)) c 0 ≡ placedRow) ⌝ }
+{
+    let row = rows[c];
+    if row == PLACED {
+        return false;
+    }
+    rows[c] = PLACED;
+    let s = Spelling {
+        row,
+        w: param(table, c),
+        a,
+        b,
+    };
+    let end = widen(images[c]) + 1;
+    let l = left_of(table, c);
+    let r = right_of(table, c);
+    let t = image(images, c, l);
+    let u = image(images, c, r);
+    blocks::write(out, end - blocks::size(s), s, t, u);
+    waits(rows, c, l) | waits(rows, c, r)
+}
+
+// Node c is placed, where it is below i. Gives 1 where one of its children waits, and else 0.
+fn place_below(
+    table: &[u8; TABLE_BYTES],
+    images: &[u16; TABLE_NODES],
+    rows: &mut [u8; TABLE_NODES],
+    out: &mut [u8; TABLE_BYTES],
+    e: Op,
+    a: u8,
+    b: u8,
+    i: usize,
+    c: usize,
+) -> u8
+    requires { ⌜ Ready (now table) (editOf e) (now images) (now rows) (now out) a b i ⌝ }
+    ensures { λ _. ⌜ Placing (now (table .entry)) (editOf e) (now (rows .entry)) (now (out .entry)) (now (rows .exit)) (now (out .exit)) × (c < i → getD (now (rows .exit)) c 0 ≡ placedRow) ⌝ }
+    ensures { λ r. ⌜ (r ≤ 1) × (r ≡ 1 → c < i) ⌝ }
+{
+    if i <= c {
+        return 0;
+    }
+    if place(table, images, rows, out, e, a, b, c) {
+        return 1;
+    }
+    0
+}
+
+// Nodes lo and hi are placed, where they are below i. Gives 2 where a child of lo waits, and 1 more where a child of hi does. A loop, so that
+// `place` is called at one point and put there by the compiler.
+fn place_two(
+    table: &[u8; TABLE_BYTES],
+    images: &[u16; TABLE_NODES],
+    rows: &mut [u8; TABLE_NODES],
+    out: &mut [u8; TABLE_BYTES],
+    e: Op,
+    a: u8,
+    b: u8,
+    i: usize,
+    lo: usize,
+    hi: usize,
+) -> u8
+    requires { ⌜ Ready (now table) (editOf e) (now images) (now rows) (now out) a b i ⌝ }
+    ensures { λ _. ⌜ Placing (now (table .entry)) (editOf e) (now (rows .entry)) (now (out .entry)) (now (rows .exit)) (now (out .exit)) × (lo < i → getD (now (rows .exit)) lo 0 ≡ placedRow) × (hi < i → getD (now (rows .exit)) hi 0 ≡ placedRow) ⌝ }
+    ensures { λ r. ⌜ (2 ≤ r → lo < i) × (r ≡ 1 → hi < i) × (3 ≤ r → hi < i) ⌝ }
+{
+    let mut c = lo;
+    let mut waiting = 0u8;
+    let mut turn = 0usize;
+    while turn < 2 {
+        waiting = 2 * waiting + place_below(table, images, rows, out, e, a, b, i, c);
+        c = hi;
+        turn += 1;
+    }
+    waiting
+}
+
+fn lower(x: usize, y: usize) -> usize
+    ensures { λ r. ⌜ r ≡ lowerOf x y ⌝ }
+{
+    if x < y {
+        return x;
+    }
+    y
+}
+
+fn higher(x: usize, y: usize) -> usize
+    ensures { λ r. ⌜ r ≡ higherOf x y ⌝ }
+{
+    if x < y {
+        return y;
+    }
+    x
+}
+
+// The second pass, by recursion on children: l and r, the children of node i, are placed where they are below it, and then what is below
+// them. Of the two the higher one comes first: what it shares with the lower one is placed by then, so that the calls stay shallow.
+fn place_children(
+    table: &[u8; TABLE_BYTES],
+    images: &[u16; TABLE_NODES],
+    rows: &mut [u8; TABLE_NODES],
+    out: &mut [u8; TABLE_BYTES],
+    e: Op,
+    a: u8,
+    b: u8,
+    i: usize,
+    l: usize,
+    r: usize,
+)
+    requires { ⌜ Ready (now table) (editOf e) (now images) (now rows) (now out) a b i ⌝ }
+    ensures { λ _. ⌜ Placing (now (table .entry)) (editOf e) (now (rows .entry)) (now (out .entry)) (now (rows .exit)) (now (out .exit)) × (l < i → getD (now (rows .exit)) l 0 ≡ placedRow) × (r < i → getD (now (rows .exit)) r 0 ≡ placedRow) ⌝ }
+{
+    let lo = lower(l, r);
+    let hi = higher(l, r);
+    let waiting = place_two(table, images, rows, out, e, a, b, i, lo, hi);
+    if waiting < 1 {
+        return;
+    }
+    if waiting < 2 {
+        place_under(table, images, rows, out, e, a, b, hi);
+        return;
+    }
+    if waiting < 3 {
+        place_under(table, images, rows, out, e, a, b, lo);
+        return;
+    }
+    place_under(table, images, rows, out, e, a, b, hi);
+    place_under(table, images, rows, out, e, a, b, lo);
+}
+
+// What is below node i is placed.
+fn place_under(
+    table: &[u8; TABLE_BYTES],
+    images: &[u16; TABLE_NODES],
+    rows: &mut [u8; TABLE_NODES],
+    out: &mut [u8; TABLE_BYTES],
+    e: Op,
+    a: u8,
+    b: u8,
+    i: usize,
+)
+    requires { ⌜ Ready (now table) (editOf e) (now images) (now rows) (now out) a b i × (i < tableNodes) ⌝ }
+    ensures { λ _. ⌜ Placing (now (table .entry)) (editOf e) (now (rows .entry)) (now (out .entry)) (now (rows .exit)) (now (out .exit)) ⌝ }
+{
+    let l = left_of(table, i);
+    let r = right_of(table, i);
+    place_children(table, images, rows, out, e, a, b, i, l, r);
+}
+
+// Node i is placed, where it is not, and what is below it.
+fn place_open(
+    table: &[u8; TABLE_BYTES],
+    images: &[u16; TABLE_NODES],
+    rows: &mut [u8; TABLE_NODES],
+    out: &mut [u8; TABLE_BYTES],
+    e: Op,
+    a: u8,
+    b: u8,
+    i: usize,
+)
+    requires { ⌜ Ready (now table) (editOf e) (now images) (now rows) (now out) a b (i + 1) ⌝ }
+    ensures { λ _. ⌜ Placing (now (table .entry)) (editOf e) (now (rows .entry)) (now (out .entry)) (now (rows .exit)) (now (out .exit)) × (getD (now (rows .exit)) i 0 ≡ placedRow) ⌝ }
+{
+    if rows[i] == PLACED {
+        return;
+    }
+    place_children(table, images, rows, out, e, a, b, i + 1, i, i);
+}
+
+// The second pass, from the last node down: those that the ones above do not reach are placed too.
+fn place_down(
+    table: &[u8; TABLE_BYTES],
+    images: &[u16; TABLE_NODES],
+    rows: &mut [u8; TABLE_NODES],
+    out: &mut [u8; TABLE_BYTES],
+    e: Op,
+    a: u8,
+    b: u8,
+    n: usize,
+)
+    requires { ⌜ Ready (now table) (editOf e) (now images) (now rows) (now out) a b n × NonePlaced (now rows) n ⌝ }
+    ensures { λ _. ⌜ Written (now (out .exit)) (rewriteTable (editOf e) (nodes (now (table .entry)) n)) ⌝ }
+    ensures { λ _. ⌜ (length (now (rows .exit)) ≡ tableNodes) × (length (now (out .exit)) ≡ tableBytes) ⌝ }
+{
+    let mut top = n;
+    while 0 < top {
+        let i = top - 1;
+        place_open(table, images, rows, out, e, a, b, i);
+        top = i;
+    }
+}
+
+// The first n nodes of a table, rewritten for one edit. Gives how many nodes that makes; those that fit are written.
+pub fn rewrite(
+    table: &[u8; TABLE_BYTES],
+    n: usize,
+    e: Op,
+    images: &mut [u16; TABLE_NODES],
+    rows: &mut [u8; TABLE_NODES],
+    out: &mut [u8; TABLE_BYTES],
+) -> usize
+    requires { ⌜ (length (now table) ≡ tableBytes) × (n ≤ tableNodes) × (length (now images) ≡ tableNodes) × (length (now rows) ≡ tableNodes) × (length (now out) ≡ tableBytes) ⌝ }
+    requires { ⌜ legal (editOf e) ≡ true ⌝ }
+    ensures { λ r. ⌜ (r ≡ length (rewriteTable (editOf e) (nodes (now (table .entry)) n))) × Written (now (out .exit)) (rewriteTable (editOf e) (nodes (now (table .entry)) n)) × (r ≤ 22528) ⌝ }
+    ensures { λ _. ⌜ (length (now (images .exit)) ≡ tableNodes) × (length (now (rows .exit)) ≡ tableNodes) × (length (now (out .exit)) ≡ tableBytes) ⌝ }
+{
+    let made = number(table, n, e, images, rows);
+    let s = blocks::spell(e, TRUE, 0);
+    place_down(table, images, rows, out, e, s.a, s.b, n);
+    made
+}
