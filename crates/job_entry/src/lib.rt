@@ -59,25 +59,19 @@ pub fn run(
     let fits = sizes_fit(changed, table, after, today, classes, work);
     let cuts = trailer::read(file);
     let v = judge(fits, cuts);
-    match v {
-        Verdict::Accepted => {
-            let site = trailer::site(file, cuts);
-            let cond = trailer::condition(file, cuts);
-            let sheet = trailer::sheet(file, cuts);
-            job_run::run(
-                site,
-                cond,
-                sheet,
-                changed,
-                table,
-                after,
-                today,
-                classes,
-                work,
-            )
-        }
-        Verdict::Refused(item, w) => {
-            job_run::refuse(item, w, changed, table, after, today, classes, work)
-        }
-    }
+    let site = trailer::site(file, cuts);
+    let cond = trailer::condition(file, cuts);
+    let sheet = trailer::sheet(file, cuts);
+    job_run::run(
+        v,
+        site,
+        cond,
+        sheet,
+        changed,
+        table,
+        after,
+        today,
+        classes,
+        work,
+    )
 }

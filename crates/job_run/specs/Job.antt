@@ -3,6 +3,7 @@ use mathlib.Core.Path.{_≡_}
 use mathlib.Core.List.{List}
 use Prim.Native.Nat.{ℕ, _*_}
 use lib.ListN.{length, take, replicate}
+use Rattle.verdict.specs.Verdict.{_then_}
 use Rattle.verdict.specs.declared.Verdict.{Verdict}
 use Rattle.rewriting.specs.Rewriting.{TableAfter}
 use Rattle.list_entry.specs.Listing.{SetAfter}
@@ -24,7 +25,7 @@ pub record Left (v : Verdict) (site cond sheet : List ℕ) (b b′ : Buffers) (a
   pub classes-after : ClassesAfter v (b′ .changed) (b .classes) (b′ .classes) c
   pub work-zero : b′ .work ≡ replicate (length (b .work)) 0
 
--- a job on these pieces answers r
-pub record Ran (site cond sheet : List ℕ) (b b′ : Buffers) (r : Job) : Type 0 where
-  pub verdict : verdictOf r ≡ piecesVerdict site cond sheet
+-- a job on these pieces, after the verdict `first` on all that is tested before them, answers r
+pub record Ran (first : Verdict) (site cond sheet : List ℕ) (b b′ : Buffers) (r : Job) : Type 0 where
+  pub verdict : verdictOf r ≡ first then piecesVerdict site cond sheet
   pub left : Left (verdictOf r) site cond sheet b b′ (afterOf r) (todayOf r) (nodesOf r) (classesOf r)

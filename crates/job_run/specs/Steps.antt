@@ -3,6 +3,8 @@ use mathlib.Core.Path.{_≡_}
 use mathlib.Core.List.{List}
 use Prim.Native.Nat.{ℕ, _*_, _≤_}
 use lib.ListN.{length, take, replicate}
+use Rattle.verdict.specs.Verdict.{_then_}
+use Rattle.verdict.specs.declared.Verdict.{Verdict}
 use Rattle.verdict.specs.declared.Verdict.the-variants.{Accepted}
 use Rattle.semantics.specs.Table.{formOf}
 use Rattle.site.specs.Layout.{siteBytes}
@@ -48,9 +50,9 @@ pub record Made (site cond sheet free′ changed changed′ table table′ : Lis
   pub table-after : TableAfter Accepted cond sheet table table′ n
   pub listable : Listable site cond free′ changed′ table′ n
 
--- the pieces are judged, applied and rewritten with the answer r
-pub record Prepared (site cond sheet free′ changed changed′ table table′ : List ℕ) (r : Rewriting) : Type 0 where
-  pub verdict : rewriting.verdictOf r ≡ piecesVerdict site cond sheet
+-- after the verdict `first` the pieces are judged, applied and rewritten with the answer r
+pub record Prepared (first : Verdict) (site cond sheet free′ changed changed′ table table′ : List ℕ) (r : Rewriting) : Type 0 where
+  pub verdict : rewriting.verdictOf r ≡ first then piecesVerdict site cond sheet
   pub made : (n : ℕ) → r ≡ Rewritten n → Made site cond sheet free′ changed changed′ table table′ n
 
 -- both are listed, and the slots of the changed site are numbered

@@ -4,8 +4,14 @@ use rewriting::Rewriting;
 use verdict::Verdict;
 ghost use mathlib.Core.Path.{_≡_};
 ghost use lib.ListN.{length, replicate};
+ghost use Rattle.verdict.specs.Verdict.{_then_};
+ghost use Rattle.verdict.specs.declared.Verdict.the-variants.{Accepted};
 ghost use Rattle.site.specs.Layout.{siteBytes};
+ghost use Rattle.site.specs.Refusal.{siteVerdict};
+ghost use Rattle.condition.specs.Refusal.{conditionVerdict};
+ghost use Rattle.sheet.specs.Refusal.{sheetVerdict};
 ghost use Rattle.limits.specs.Limits.{tableNodes, tableBytes};
+ghost use Rattle.job_steps.specs.Steps.{Judged};
 ghost use Rattle.job_run.specs.Buffers.{six, Sets, Sized};
 ghost use Rattle.job_run.specs.Job.{Ran};
 ghost use Rattle.job_run.specs.Steps.{Zeros, Prepared, Listable, Finished};
@@ -28,7 +34,7 @@ fn zero_three(a: &mut [u8], b: &mut [u8], c: &mut [u8])
 }
 
 // The answer to a job that meets an item: every buffer becomes zeros, whatever its length.
-pub fn refuse(
+fn refuse(
     item: u8,
     place: u16,
     changed: &mut [u8],
@@ -46,8 +52,20 @@ pub fn refuse(
     Job::Refused(item, place)
 }
 
-// Items 3 to 14. Where none is met the site after and the rewritten table are written, and the free variables of the condition's nodes.
+// The verdict `first`, then items 3 to 12. The free variables of an accepted condition's nodes are written to `free`.
+fn judge(first: Verdict, site: &[u8], cond: &[u8], sheet: &[u8], free: &mut [u16]) -> Verdict
+    requires { ⌜ length (now free) ≡ tableNodes ⌝ }
+    ensures { λ r. ⌜ Judged (first then siteVerdict (now (site .entry)) then conditionVerdict (now (cond .entry)) then sheetVerdict (now (sheet .entry))) (now (cond .entry)) (now (free .exit)) r ⌝ }
+{
+    match first {
+        Verdict::Accepted => job_steps::judge(site, cond, sheet, free),
+        Verdict::Refused(item, place) => Verdict::Refused(item, place),
+    }
+}
+
+// The verdict `first`, then items 3 to 14. Where none is met the site after and the rewritten table are written.
 fn prepare(
+    first: Verdict,
     site: &[u8],
     cond: &[u8],
     sheet: &[u8],
@@ -56,10 +74,10 @@ fn prepare(
     table: &mut [u8],
 ) -> Rewriting
     requires { ⌜ length (now free) ≡ tableNodes ⌝ }
-    requires { ⌜ (length (now changed) ≡ siteBytes) × (length (now table) ≡ tableBytes) ⌝ }
-    ensures { λ r. ⌜ Prepared (now (site .entry)) (now (cond .entry)) (now (sheet .entry)) (now (free .exit)) (now (changed .entry)) (now (changed .exit)) (now (table .entry)) (now (table .exit)) r ⌝ }
+    requires { ⌜ (first ≡ Accepted → (length (now changed) ≡ siteBytes) × (length (now table) ≡ tableBytes)) ⌝ }
+    ensures { λ r. ⌜ Prepared first (now (site .entry)) (now (cond .entry)) (now (sheet .entry)) (now (free .exit)) (now (changed .entry)) (now (changed .exit)) (now (table .entry)) (now (table .exit)) r ⌝ }
 {
-    let v = job_steps::judge(site, cond, sheet, free);
+    let v = judge(first, site, cond, sheet, free);
     match v {
         Verdict::Accepted => job_steps::change(site, cond, sheet, changed, table),
         Verdict::Refused(item, place) => Rewriting::Refused(item, place),
@@ -90,8 +108,10 @@ fn finish(
     Job::Done(a, t, n, c)
 }
 
-// Does the job of three pieces, whatever they are, in buffers of the stated lengths.
+// Does the job of three pieces, whatever they are. `first` is the verdict on all that is tested before them: item 1, so that buffers
+// which pass have the stated lengths, and the file that they come from.
 pub fn run(
+    first: Verdict,
     site: &[u8],
     cond: &[u8],
     sheet: &[u8],
@@ -102,11 +122,11 @@ pub fn run(
     classes: &mut [u8],
     work: &mut [u8],
 ) -> Job
-    requires { ⌜ Sized (six (now changed) (now table) (now after) (now today) (now classes) (now work)) ⌝ }
-    ensures { λ r. ⌜ Ran (now (site .entry)) (now (cond .entry)) (now (sheet .entry)) (six (now (changed .entry)) (now (table .entry)) (now (after .entry)) (now (today .entry)) (now (classes .entry)) (now (work .entry))) (six (now (changed .exit)) (now (table .exit)) (now (after .exit)) (now (today .exit)) (now (classes .exit)) (now (work .exit))) r ⌝ }
+    requires { ⌜ (first ≡ Accepted → Sized (six (now changed) (now table) (now after) (now today) (now classes) (now work))) ⌝ }
+    ensures { λ r. ⌜ Ran first (now (site .entry)) (now (cond .entry)) (now (sheet .entry)) (six (now (changed .entry)) (now (table .entry)) (now (after .entry)) (now (today .entry)) (now (classes .entry)) (now (work .entry))) (six (now (changed .exit)) (now (table .exit)) (now (after .exit)) (now (today .exit)) (now (classes .exit)) (now (work .exit))) r ⌝ }
 {
     let mut free = even_rule::no_masks();
-    let r = prepare(site, cond, sheet, &mut free, changed, table);
+    let r = prepare(first, site, cond, sheet, &mut free, changed, table);
     match r {
         Rewriting::Rewritten(n) => finish(
             site,

@@ -84,7 +84,9 @@ fn short_is_refused(file: &[u8]) -> bool {
         &mut classes,
         &mut work,
     );
-    let results = pieces::all_zero(&changed) & pieces::all_zero(&table) & pieces::all_zero(&classes);
+    let results = pieces::all_zero(&changed)
+        & pieces::all_zero(&table)
+        & pieces::all_zero(&classes);
     is_item_1(r)
         & results
         & pieces::all_zero(&after)

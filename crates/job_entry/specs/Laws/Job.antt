@@ -5,17 +5,14 @@ use mathlib.Core.List.{List}
 use Prim.Native.Nat.{ℕ}
 use Rattle.verdict.specs.Verdict.{_then_}
 use Rattle.verdict.specs.declared.Verdict.{Verdict}
-use Rattle.verdict.specs.declared.Verdict.the-variants.{Accepted, Refused}
+use Rattle.verdict.specs.declared.Verdict.the-variants.{Accepted}
 use Rattle.trailer.specs.Refusal.{metVerdict, trailerVerdict}
 use Rattle.trailer.specs.Pieces.{siteIn, conditionIn, sheetIn, Cut}
 use Rattle.refusals.specs.Laws.Items.{then-out}
 use Rattle.job_run.specs.declared.Job.{Job}
-use Rattle.job_run.specs.declared.Job.the-variants as answer
 use Rattle.job_run.specs.Buffers.{Buffers, Sized}
 use Rattle.job_run.specs.Answer.{verdictOf, afterOf, todayOf, nodesOf, classesOf}
 use Rattle.job_run.specs.Job.{Ran}
-use Rattle.job_run.specs.Steps.{Zeros}
-use Rattle.job_run.specs.Laws.Job.{zeros-left}
 use Rattle.job_entry.specs.Refusal.{buffersVerdict}
 use Rattle.job_entry.specs.Job.{Answered}
 use Rattle.job_entry.specs.Steps.{sizesFit, sizesVerdict}
@@ -32,11 +29,6 @@ module _ {file : List ℕ} {b : Buffers} {fits met : Bool} {x y z : ℕ} {v : Ve
   pub sized : v ≡ Accepted → Sized b
   sized e = sized-out b (then-out (buffersVerdict b) (trailerVerdict file) (judged b s c j ∙ e) .0)
 
-  pub answered-ran : v ≡ Accepted → {site cond sheet : List ℕ} → site ≡ siteIn file → cond ≡ conditionIn file → sheet ≡ sheetIn file
-      → {b′ : Buffers} {r : Job} → Ran site cond sheet b b′ r → Answered file b b′ (verdictOf r) (afterOf r) (todayOf r) (nodesOf r) (classesOf r)
-  answered-ran e p q h w =
-      record { verdict = rw (job-then b file, judged b s c j ∙ e) (rw (p, q, h) at (w .verdict)); left = rw (p, q, h) at (w .left) }
-
-  pub answered-refused : {item place : ℕ} → v ≡ Refused item place → {r : Job} → r ≡ answer.Refused item place → {b′ : Buffers} → Zeros b b′
-      → Answered file b b′ (verdictOf r) (afterOf r) (todayOf r) (nodesOf r) (classesOf r)
-  answered-refused e f z = rw f (record { verdict = rw (job-then b file, judged b s c j ∙ e); left = zeros-left z })
+  pub answered-ran : {site cond sheet : List ℕ} → site ≡ siteIn file → cond ≡ conditionIn file → sheet ≡ sheetIn file
+      → {b′ : Buffers} {r : Job} → Ran v site cond sheet b b′ r → Answered file b b′ (verdictOf r) (afterOf r) (todayOf r) (nodesOf r) (classesOf r)
+  answered-ran p q h w = record { verdict = rw (job-then b file, judged b s c j) (rw (p, q, h) at (w .verdict)); left = rw (p, q, h) at (w .left) }

@@ -1,4 +1,4 @@
--- Items 3 to 12 by judging, then 13 and 14 by changing.
+-- What was tested first and items 3 to 12 by judging, then 13 and 14 by changing.
 use native.Mathlib.Omega.{arith}
 use borrow.Author.Needs.{needs}
 use Rattle.job_run.specs.Laws.Job.{judged-out, prepared, prepared-refused}
@@ -14,7 +14,8 @@ enum-told c = search needs
 change-requires : tie.Need-change-requires
 change-requires c κs =
     let start = c .before .before .before .before .before .before .before .before .before .before .before .before .before .before .pre in
-    (judged-out _ _ _ (c .before .before .before .before .before .before .judge .ensures) (c .before .before .enum-told .given .1), start .1)
+    let passed = judged-out _ _ _ _ (c .before .before .before .before .before .before .judge .ensures) (c .before .before .enum-told .given .1) in
+    (passed .1, start .1 (passed .0))
 
 enum-known-v : tie.Need-enum-known-v
 enum-known-v c = search needs
@@ -30,8 +31,8 @@ same-length-3 c = omega arith
 
 returns : tie.Need-returns
 returns c =
-    let judge = c .before .before .before .before .before .before .before .before .before .before .before .judge in
-    prepared (judge .ensures) (c .before .before .before .before .before .before .before .enum-told .given .1) (omega arith) (c .before .before .before .before .change .ensures)
+    let judged = c .before .before .before .before .before .before .before .before .before .before .before .judge .ensures in
+    prepared judged (c .before .before .before .before .before .before .before .enum-told .given .1) (omega arith) (c .before .before .before .before .change .ensures)
 
 same-length-4 : tie.Need-same-length-4
 same-length-4 c = omega arith

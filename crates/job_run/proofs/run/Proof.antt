@@ -1,7 +1,7 @@
 -- The pieces are prepared, then both lists and the class numbers are written or the job is refused.
 use native.Mathlib.Omega.{arith}
 use borrow.Author.Needs.{needs}
-use Rattle.job_run.specs.Laws.Job.{ran-done, ran-refused}
+use Rattle.job_run.specs.Laws.Job.{went, ran-done, ran-refused}
 use Rattle.job_run.proofs.run.Statement.{statement}
 use Rattle.job_run.proofs.run.Tie as tie
 
@@ -12,7 +12,9 @@ slice-aggregate-prepare : tie.Need-slice-aggregate-prepare
 slice-aggregate-prepare c = search needs
 
 prepare-requires : tie.Need-prepare-requires
-prepare-requires c κs = search needs
+prepare-requires c κs =
+    let lent = c .before .before .before .before .before .before .before .before .before .before .before .before .before .pre in
+    (omega arith, λ e. (lent e .changed-size, lent e .table-size))
 
 enum-known-r : tie.Need-enum-known-r
 enum-known-r c = search needs
@@ -24,7 +26,8 @@ finish-requires : tie.Need-finish-requires
 finish-requires c κs =
     let ready = c .before .before .before .before .before .before .before .before .before .before .before .before .before .before .before .prepare .ensures in
     let lent = c .before .before .before .before .before .before .before .before .before .before .before .before .before .before .before .before .before .before .before .before .before .before .before .before .before .before .before .before .before .pre in
-    (ready .made _ (c .before .before .before .before .before .before .before .before .r .given .1) .listable, lent .sets)
+    let made = c .before .before .before .before .before .before .before .before .r .given .1 in
+    (ready .made _ made .listable, lent (went ready made) .sets)
 
 enum-known-r-2 : tie.Need-enum-known-r-2
 enum-known-r-2 c = search needs
@@ -53,9 +56,9 @@ same-length-6 c = omega arith
 returns : tie.Need-returns
 returns c =
     let ready = c .before .before .before .before .before .before .before .before .before .before .before .before .before .before .before .before .before .before .before .before .before .before .before .before .prepare .ensures in
-    let made = c .before .before .before .before .before .before .before .before .before .before .before .before .before .before .before .before .before .r .given .1 in
     let lent = c .before .before .before .before .before .before .before .before .before .before .before .before .before .before .before .before .before .before .before .before .before .before .before .before .before .before .before .before .before .before .before .before .before .before .before .before .before .before .pre in
-    ran-done ready made lent (c .before .before .before .before .before .before .before .before .finish .ensures)
+    let made = c .before .before .before .before .before .before .before .before .before .before .before .before .before .before .before .before .before .r .given .1 in
+    ran-done ready made (lent (went ready made)) (c .before .before .before .before .before .before .before .before .finish .ensures)
 
 same-length-7 : tie.Need-same-length-7
 same-length-7 c = omega arith

@@ -5,6 +5,7 @@ use mathlib.Core.List.{List}
 use Prim.Native.Nat.{ℕ}
 use Rattle.verdict.specs.Verdict.{_then_}
 use Rattle.verdict.specs.Laws.{then-assoc}
+use Rattle.verdict.specs.declared.Verdict.{Verdict}
 use Rattle.verdict.specs.declared.Verdict.the-variants.{Accepted}
 use Rattle.semantics.specs.Edit.{sheetGoes}
 use Rattle.site.specs.Site.{siteOf}
@@ -20,18 +21,18 @@ use Rattle.refusals.specs.Laws.Items.{then-out, length-out, Numbered, numbered-
 use Rattle.job_steps.specs.Steps.{changeVerdict}
 use Rattle.job_run.specs.Refusal.{piecesVerdict}
 
-module _ (site cond sheet : List ℕ) where
-  -- the chain: items 3 to 12, then 13 and 14
-  pub pieces-then : piecesVerdict site cond sheet
-      ≡ (siteVerdict site then conditionVerdict cond then sheetVerdict sheet) then changeVerdict site cond sheet
-  unfolding piecesVerdict changeVerdict
-  pieces-then =
-      let s = siteVerdict site in
-      let c = conditionVerdict cond in
-      let e = sheetVerdict sheet in
-      let z = changeVerdict site cond sheet in
-      rw (then-assoc s (c then e) z, then-assoc c e z)
+-- the chain after the verdict `first`: items 3 to 12, then 13 and 14
+pub pieces-then : (first : Verdict) (site cond sheet : List ℕ) → first then piecesVerdict site cond sheet
+    ≡ (first then siteVerdict site then conditionVerdict cond then sheetVerdict sheet) then changeVerdict site cond sheet
+unfolding piecesVerdict changeVerdict
+pieces-then first site cond sheet =
+    let s = siteVerdict site in
+    let c = conditionVerdict cond in
+    let e = sheetVerdict sheet in
+    let z = changeVerdict site cond sheet in
+    rw (then-assoc first (s then c then e) z, then-assoc s (c then e) z, then-assoc c e z)
 
+module _ (site cond sheet : List ℕ) where
   -- what is accepted
   pub record PiecesAccepted : Type 0 where
     pub site-accepted : siteVerdict site ≡ Accepted
