@@ -2,7 +2,7 @@
 pub mod Refusal
 -- what a job answers and leaves in its buffers
 pub mod Job
--- what its parts answer
+-- item 1 by one test
 pub mod Steps
 -- what is proved of them
 pub mod Laws

@@ -1,6 +1,5 @@
 -- Item 1 by one test of the six lengths.
 use mathlib.Core.Bool.{Bool, _&&_, cond}
-use Prim.Native.Nat.{ℕ}
 use lib.ListN.{length}
 use Rattle.finite.specs.Tests.{same}
 use Rattle.bitset.specs.Set.{setBytes}

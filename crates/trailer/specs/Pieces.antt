@@ -1,9 +1,8 @@
 -- The pieces of a job file, each a part of it.
-use mathlib.Core.Path.{_≡_}
-use mathlib.Core.Bool.{Bool, cond}
+use mathlib.Core.Bool.{cond}
 use mathlib.Core.List.{List, []}
-use Prim.Native.Nat.{ℕ, _-_, _≤_}
-use lib.ListN.{length, take, drop}
+use Prim.Native.Nat.{ℕ, _-_}
+use lib.ListN.{take, drop}
 use Rattle.trailer.specs.File.{trailerAt, startOf}
 use Rattle.trailer.specs.Refusal.{item2}
 
@@ -20,13 +19,3 @@ conditionIn file = pieceIn (startOf 1 file) (startOf 0 file) file
 
 unfoldable pub sheetIn : List ℕ → List ℕ
 sheetIn file = pieceIn (startOf 0 file) (trailerAt file) file
-
--- item 2 is met or not, and the places where the pieces end: each starts where the one before it ends, the site at 0
-pub record Cut (file : List ℕ) (met : Bool) (site condition sheet : ℕ) : Type 0 where
-  pub met-is : met ≡ item2 file
-  pub site-is : take site file ≡ siteIn file
-  pub condition-is : take (condition - site) (drop site file) ≡ conditionIn file
-  pub sheet-is : take (sheet - condition) (drop condition file) ≡ sheetIn file
-  pub condition-next : site ≤ condition
-  pub sheet-next : condition ≤ sheet
-  pub inside : sheet ≤ length file

@@ -6,7 +6,8 @@ ghost use Prim.Native.Nat.{_+_, _*_, _<_, _≤_};
 ghost use lib.ListN.{length};
 ghost use Rattle.trailer.specs.File.{distance, startOf, trailerAt, trailerBytes};
 ghost use Rattle.trailer.specs.Refusal.{item2, metVerdict};
-ghost use Rattle.trailer.specs.Pieces.{siteIn, conditionIn, sheetIn, Cut};
+ghost use Rattle.trailer.specs.Pieces.{siteIn, conditionIn, sheetIn};
+ghost use Rattle.trailer.specs.Cuts.{Cut};
 
 const TRAILER_BYTES: usize = 12;
 

@@ -7,7 +7,8 @@ use Rattle.verdict.specs.Verdict.{_then_}
 use Rattle.verdict.specs.declared.Verdict.{Verdict}
 use Rattle.verdict.specs.declared.Verdict.the-variants.{Accepted}
 use Rattle.trailer.specs.Refusal.{metVerdict, trailerVerdict}
-use Rattle.trailer.specs.Pieces.{siteIn, conditionIn, sheetIn, Cut}
+use Rattle.trailer.specs.Pieces.{siteIn, conditionIn, sheetIn}
+use Rattle.trailer.specs.Cuts.{Cut}
 use Rattle.refusals.specs.Laws.Items.{then-out}
 use Rattle.job_run.specs.declared.Job.{Job}
 use Rattle.job_run.specs.Buffers.{Buffers, Sized}

@@ -1,5 +1,5 @@
 -- What a job knows of inputs that it does not refuse; the reasons are 0 to 14, and 0 says that it does not.
-use mathlib.Core.Path.{_≡_, refl, sym, _∙_}
+use mathlib.Core.Path.{_≡_, refl, sym}
 use mathlib.Core.Bool.{Bool, true, false, not, _&&_, cond}
 use mathlib.Core.List.{List}
 use Prim.Native.Nat.{ℕ}

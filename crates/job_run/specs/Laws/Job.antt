@@ -29,7 +29,7 @@ use Rattle.job_run.specs.declared.Job.the-variants as answer
 use Rattle.job_run.specs.Buffers.{Buffers, six, Sized}
 use Rattle.job_run.specs.Refusal.{piecesVerdict}
 use Rattle.job_run.specs.Job.{Left, Ran}
-use Rattle.job_run.specs.Steps.{Zeros, Listable, Made, Prepared, Finished}
+use Rattle.job_run.specs.Steps.{Zeros, Made, Prepared, Finished}
 use Rattle.job_run.specs.Laws.Refusal.{pieces-then, pieces-out}
 
 -- ---- the pieces are judged, applied and rewritten

@@ -10,7 +10,8 @@ use lib.Seq.{drop-drop}
 use Rattle.verdict.specs.declared.Verdict.the-variants.{Accepted}
 use Rattle.trailer.specs.File.{trailerBytes, trailerAt, distance, startOf}
 use Rattle.trailer.specs.Refusal.{item2, trailerVerdict}
-use Rattle.trailer.specs.Pieces.{pieceIn, siteIn, conditionIn, sheetIn, Cut}
+use Rattle.trailer.specs.Pieces.{pieceIn, siteIn, conditionIn, sheetIn}
+use Rattle.trailer.specs.Cuts.{Cut}
 use Rattle.trailer.specs.Laws.Verdict.{Laid, laid, unrefused, accepted-laid}
 
 -- ---- where the pieces start
