@@ -19,7 +19,7 @@ list-first-requires c κs =
 number-requires : tie.Need-number-requires
 number-requires c κs =
     let p = c .before .before .before .before .before .before .before .before .before .before .before .before .before .before .before .before .before .before .before .before .before .before .before .before .pre in
-    (p .0 .changed-size, p .1 .classes-size)
+    (omega arith, p .1 .classes-size)
 
 same-length : tie.Need-same-length
 same-length c = omega arith
