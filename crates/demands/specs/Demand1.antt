@@ -13,8 +13,8 @@ use Rattle.apply_entry.specs.Applying.{SiteAfter}
 use Rattle.rewriting.specs.Rewriting.{TableAfter}
 use Rattle.classes_entry.specs.Classing.{ClassesAfter}
 use Rattle.trailer.specs.Pieces.{siteIn, conditionIn, sheetIn}
-use Rattle.job_entry.specs.Buffers.{Buffers}
-use Rattle.job_entry.specs.Job.{Left}
+use Rattle.job_run.specs.Buffers.{Buffers}
+use Rattle.job_run.specs.Job.{Left}
 use Rattle.desk.specs.Returned.{ReturnedList, ReturnedApply, ReturnedRewrite, ReturnedClasses, ReturnedJob}
 
 -- the full answer where the reason is 0, and W is then 0; else one of the items 1 to 14, and zeros
@@ -35,7 +35,7 @@ FullJob file b b′ after today nodes classes = Left Accepted (siteIn file) (con
 
 -- the five result buffers and the work buffer are zeros, and the four counts are 0
 pub record ZeroJob (b b′ : Buffers) (after today nodes classes : ℕ) : Type 0 where
-  pub site-zero : Zeroed (b .site) (b′ .site)
+  pub changed-zero : Zeroed (b .changed) (b′ .changed)
   pub table-zero : Zeroed (b .table) (b′ .table)
   pub after-zero : Zeroed (b .after) (b′ .after)
   pub today-zero : Zeroed (b .today) (b′ .today)

@@ -17,7 +17,7 @@ use Rattle.sheet.specs.Bytes.{editsOf}
 use Rattle.listing.specs.Listed.{Listed}
 use Rattle.trailer.specs.Refusal.{trailerVerdict}
 use Rattle.trailer.specs.Pieces.{siteIn, conditionIn, sheetIn}
-use Rattle.job_entry.specs.Buffers.{Buffers, Sized}
+use Rattle.job_run.specs.Buffers.{Buffers, Sized}
 use Rattle.desk.specs.Returned.{ReturnedJob}
 use Rattle.demands.specs.Demands.{Runnable, Distinguished}
 
@@ -53,10 +53,10 @@ pub record JobAgrees {file : List ℕ} (c : JobCall file) : Type 0 where
   pub same-count : c .today ≡ c .after
   -- each slot of them is that of the semantics: the rewritten table on the site of the file, the condition on the site after
   pub today-listed : Listed (siteOf (siteIn file)) (formOf (tableOf (jobTable c))) (c .lent′ .today) (c .today)
-  pub after-listed : Listed (siteOf (c .lent′ .site)) (formOf (tableOf (conditionIn file))) (c .lent′ .after) (c .after)
+  pub after-listed : Listed (siteOf (c .lent′ .changed)) (formOf (tableOf (conditionIn file))) (c .lent′ .after) (c .after)
   -- the rewritten table is the one of the blocks, and the site after has the effects of the whole sheet
   pub blocks : tableOf (jobTable c) ≡ rewriteSheet (editsOf (sheetIn file)) (tableOf (conditionIn file))
-  pub effects : siteOf (c .lent′ .site) ≡ edits.sheet (editsOf (sheetIn file)) (siteOf (siteIn file))
+  pub effects : siteOf (c .lent′ .changed) ≡ edits.sheet (editsOf (sheetIn file)) (siteOf (siteIn file))
   -- demand 3: two slots have one class number after the sheet exactly if no table, rewritten through it, tells them apart today
   pub same-number : (ρ : Env) (s t : ℕ) → s < slots → t < slots
       → (getD (c .lent′ .classes) s 0 ≡ getD (c .lent′ .classes) t 0) ↔ ¬ Distinguished (siteIn file) (sheetIn file) ρ s t

@@ -14,9 +14,9 @@ use Rattle.rewriting.specs.Rewriting.{TableAfter}
 use Rattle.classes_entry.specs.Refusal.{classesVerdict}
 use Rattle.classes_entry.specs.Classing.{ClassesAfter}
 use Rattle.trailer.specs.Pieces.{siteIn, conditionIn, sheetIn}
-use Rattle.job_entry.specs.Buffers.{Buffers}
+use Rattle.job_run.specs.Buffers.{Buffers}
+use Rattle.job_run.specs.Job.{Left}
 use Rattle.job_entry.specs.Refusal.{jobVerdict}
-use Rattle.job_entry.specs.Job.{Left}
 
 -- listing: the reason, W and the count
 pub record ReturnedList (site table set set′ work work′ : List ℕ) (reason w n : ℕ) : Type 0 where

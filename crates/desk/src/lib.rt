@@ -1,10 +1,10 @@
 // The entry points of the desk for C: the answers in numbers. Every input has its answer: nothing is required of it.
-use job_entry::Job;
+use job_run::Job;
 ghost use Rattle.desk.specs.Returned.{ReturnedList, ReturnedApply, ReturnedRewrite, ReturnedClasses, ReturnedJob};
 ghost use mathlib.Core.Path.{_≡_};
 ghost use Rattle.verdict.specs.Verdict.{reasonOf, whereOf};
-ghost use Rattle.job_entry.specs.Buffers.{six};
-ghost use Rattle.job_entry.specs.Answer.{verdictOf, afterOf, todayOf, nodesOf, classesOf};
+ghost use Rattle.job_run.specs.Buffers.{six};
+ghost use Rattle.job_run.specs.Answer.{verdictOf, afterOf, todayOf, nodesOf, classesOf};
 
 // In each answer the reason is 0 where no item is met, and the place is W.
 #[repr(C)]
@@ -134,14 +134,14 @@ fn in_numbers(r: Job) -> JobAnswer
 #[no_mangle]
 pub extern "C" fn desk_job(
     file: &[u8],
-    site: &mut [u8],
+    changed: &mut [u8],
     table: &mut [u8],
     after: &mut [u8],
     today: &mut [u8],
     classes: &mut [u8],
     work: &mut [u8],
 ) -> JobAnswer
-    ensures { λ r. ⌜ ReturnedJob (now (file .entry)) (six (now (site .entry)) (now (table .entry)) (now (after .entry)) (now (today .entry)) (now (classes .entry)) (now (work .entry))) (six (now (site .exit)) (now (table .exit)) (now (after .exit)) (now (today .exit)) (now (classes .exit)) (now (work .exit))) (r .reason) (r .place) (r .after) (r .today) (r .nodes) (r .classes) ⌝ }
+    ensures { λ r. ⌜ ReturnedJob (now (file .entry)) (six (now (changed .entry)) (now (table .entry)) (now (after .entry)) (now (today .entry)) (now (classes .entry)) (now (work .entry))) (six (now (changed .exit)) (now (table .exit)) (now (after .exit)) (now (today .exit)) (now (classes .exit)) (now (work .exit))) (r .reason) (r .place) (r .after) (r .today) (r .nodes) (r .classes) ⌝ }
 {
-    in_numbers(job_entry::run(file, site, table, after, today, classes, work))
+    in_numbers(job_entry::run(file, changed, table, after, today, classes, work))
 }

@@ -9,7 +9,7 @@ use site::SITE_BYTES;
 use trailer::FILE_LIMIT;
 
 fn answer(file: &[u8]) {
-    let mut site = [0u8; SITE_BYTES];
+    let mut changed = [0u8; SITE_BYTES];
     let mut table = [0u8; TABLE_BYTES];
     let mut after = [0u8; SET_BYTES];
     let mut today = [0u8; SET_BYTES];
@@ -17,7 +17,7 @@ fn answer(file: &[u8]) {
     let mut work = [0u8; WORK_BYTES];
     let r = job_entry::run(
         file,
-        &mut site,
+        &mut changed,
         &mut table,
         &mut after,
         &mut today,

@@ -1,11 +1,8 @@
--- The six buffers that a caller lends, and which inputs are refused, in document 01's order.
-pub mod Buffers
+-- Which inputs are refused, in document 01's order.
 pub mod Refusal
--- the numbers and values of the answer
-pub mod Answer
 -- what a job answers and leaves in its buffers
 pub mod Job
--- what its parts answer
+-- item 1 by one test
 pub mod Steps
 -- what is proved of them
 pub mod Laws

@@ -17,17 +17,17 @@ use Rattle.rewriting.specs.Answer.{verdictOf}
 use Rattle.rewriting.specs.Rewriting.{TableAfter}
 use Rattle.apply_entry.specs.Applying.{SiteAfter}
 
--- inputs that have the verdict `due` are judged with v; an accepted table's free variables are handed on in these masks
-pub record Judged (due : Verdict) (table masks : List ℕ) (v : Verdict) : Type 0 where
+-- inputs that have the verdict `due` are judged with v; an accepted condition's free variables are handed on in these masks
+pub record Judged (due : Verdict) (cond masks : List ℕ) (v : Verdict) : Type 0 where
   pub verdict : v ≡ due
-  pub rows : v ≡ Accepted → FreeRows table masks
+  pub rows : v ≡ Accepted → FreeRows cond masks
 
 -- 13, then 14
-unfoldable pub changeVerdict : (site table sheet : List ℕ) → Verdict
-changeVerdict site table sheet = goesVerdict (editsOf sheet) (siteOf site) then lengthVerdict (editsOf sheet) (tableOf table)
+unfoldable pub changeVerdict : (site cond sheet : List ℕ) → Verdict
+changeVerdict site cond sheet = goesVerdict (editsOf sheet) (siteOf site) then lengthVerdict (editsOf sheet) (tableOf cond)
 
 -- applying and rewriting answer r
-pub record Changed (site table sheet after after′ result result′ : List ℕ) (r : Rewriting) : Type 0 where
-  pub verdict : verdictOf r ≡ changeVerdict site table sheet
-  pub site-after : (n : ℕ) → r ≡ Rewritten n → SiteAfter Accepted site sheet after after′
-  pub table-after : (n : ℕ) → r ≡ Rewritten n → TableAfter Accepted table sheet result result′ n
+pub record Changed (site cond sheet changed changed′ table table′ : List ℕ) (r : Rewriting) : Type 0 where
+  pub verdict : verdictOf r ≡ changeVerdict site cond sheet
+  pub site-after : (n : ℕ) → r ≡ Rewritten n → SiteAfter Accepted site sheet changed changed′
+  pub table-after : (n : ℕ) → r ≡ Rewritten n → TableAfter Accepted cond sheet table table′ n

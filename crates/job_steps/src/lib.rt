@@ -1,4 +1,5 @@
-// The steps of a job on its pieces: they are judged, the sheet is applied and the condition rewritten, and conditions are listed.
+// The steps of a job on its pieces `site`, `cond` and `sheet`: they are judged; the sheet is applied, into `changed`, and the condition
+// rewritten, into `table`; and the rewritten table is listed, into `today`.
 use rewriting::Rewriting;
 use verdict::Verdict;
 ghost use mathlib.Core.Path.{_≡_};
@@ -19,11 +20,11 @@ ghost use Rattle.listing.specs.Listed.{workBytes, Listed};
 ghost use Rattle.job_steps.specs.Steps.{Judged, Changed};
 
 // Items 7 to 10 of the condition, then 11 and 12 of the sheet.
-fn judge_table(table: &[u8], sheet: &[u8], free: &mut [u16]) -> Verdict
+fn judge_condition(cond: &[u8], sheet: &[u8], free: &mut [u16]) -> Verdict
     requires { ⌜ length (now free) ≡ tableNodes ⌝ }
-    ensures { λ r. ⌜ Judged (conditionVerdict (now (table .entry)) then sheetVerdict (now (sheet .entry))) (now (table .entry)) (now (free .exit)) r ⌝ }
+    ensures { λ r. ⌜ Judged (conditionVerdict (now (cond .entry)) then sheetVerdict (now (sheet .entry))) (now (cond .entry)) (now (free .exit)) r ⌝ }
 {
-    let v = even_rule::check(table, free);
+    let v = even_rule::check(cond, free);
     match v {
         Verdict::Accepted => sheet::check(sheet),
         Verdict::Refused(item, place) => Verdict::Refused(item, place),
@@ -31,13 +32,13 @@ fn judge_table(table: &[u8], sheet: &[u8], free: &mut [u16]) -> Verdict
 }
 
 // Items 3 to 12 of the three pieces. The free variables of an accepted condition's nodes are written to `free`.
-pub fn judge(site: &[u8], table: &[u8], sheet: &[u8], free: &mut [u16]) -> Verdict
+pub fn judge(site: &[u8], cond: &[u8], sheet: &[u8], free: &mut [u16]) -> Verdict
     requires { ⌜ length (now free) ≡ tableNodes ⌝ }
-    ensures { λ r. ⌜ Judged (siteVerdict (now (site .entry)) then conditionVerdict (now (table .entry)) then sheetVerdict (now (sheet .entry))) (now (table .entry)) (now (free .exit)) r ⌝ }
+    ensures { λ r. ⌜ Judged (siteVerdict (now (site .entry)) then conditionVerdict (now (cond .entry)) then sheetVerdict (now (sheet .entry))) (now (cond .entry)) (now (free .exit)) r ⌝ }
 {
     let v = site::check(site);
     match v {
-        Verdict::Accepted => judge_table(table, sheet, free),
+        Verdict::Accepted => judge_condition(cond, sheet, free),
         Verdict::Refused(item, place) => Verdict::Refused(item, place),
     }
 }
@@ -45,41 +46,41 @@ pub fn judge(site: &[u8], table: &[u8], sheet: &[u8], free: &mut [u16]) -> Verdi
 // The site after and the rewritten table, or item 13 or 14.
 pub fn change(
     site: &[u8],
-    table: &[u8],
+    cond: &[u8],
     sheet: &[u8],
-    after: &mut [u8],
-    result: &mut [u8],
+    changed: &mut [u8],
+    table: &mut [u8],
 ) -> Rewriting
-    requires { ⌜ (siteVerdict (now site) ≡ Accepted) × ((conditionVerdict (now table) ≡ Accepted) × (sheetVerdict (now sheet) ≡ Accepted)) ⌝ }
-    requires { ⌜ (length (now after) ≡ siteBytes) × (length (now result) ≡ tableBytes) ⌝ }
-    ensures { λ r. ⌜ Changed (now (site .entry)) (now (table .entry)) (now (sheet .entry)) (now (after .entry)) (now (after .exit)) (now (result .entry)) (now (result .exit)) r ⌝ }
+    requires { ⌜ (siteVerdict (now site) ≡ Accepted) × ((conditionVerdict (now cond) ≡ Accepted) × (sheetVerdict (now sheet) ≡ Accepted)) ⌝ }
+    requires { ⌜ (length (now changed) ≡ siteBytes) × (length (now table) ≡ tableBytes) ⌝ }
+    ensures { λ r. ⌜ Changed (now (site .entry)) (now (cond .entry)) (now (sheet .entry)) (now (changed .entry)) (now (changed .exit)) (now (table .entry)) (now (table .exit)) r ⌝ }
 {
-    let v = applying::apply(site, sheet, after);
+    let v = applying::apply(site, sheet, changed);
     match v {
-        Verdict::Accepted => rewriting::rewrite_sheet(table, sheet, result),
+        Verdict::Accepted => rewriting::rewrite_sheet(cond, sheet, table),
         Verdict::Refused(item, place) => Rewriting::Refused(item, place),
     }
 }
 
-// What an accepted table lists on a site.
-fn list(site: &[u8], table: &[u8], set: &mut [u8], work: &mut [u8]) -> u32
-    requires { ⌜ (length (now site) ≡ siteBytes) × (conditionVerdict (now table) ≡ Accepted) ⌝ }
-    requires { ⌜ (length (now set) ≡ setBytes) × (length (now work) ≡ workBytes) ⌝ }
-    ensures { λ r. ⌜ Listed (siteOf (now (site .entry))) (formOf (tableOf (now (table .entry)))) (now (set .exit)) r ⌝ }
+// What an accepted part of the rewritten table lists on a site.
+fn list(site: &[u8], part: &[u8], today: &mut [u8], work: &mut [u8]) -> u32
+    requires { ⌜ (length (now site) ≡ siteBytes) × (conditionVerdict (now part) ≡ Accepted) ⌝ }
+    requires { ⌜ (length (now today) ≡ setBytes) × (length (now work) ≡ workBytes) ⌝ }
+    ensures { λ r. ⌜ Listed (siteOf (now (site .entry))) (formOf (tableOf (now (part .entry)))) (now (today .exit)) r ⌝ }
     ensures { λ _. ⌜ now (work .exit) ≡ replicate workBytes 0 ⌝ }
 {
     let mut free = even_rule::no_masks();
-    even_rule::check(table, &mut free);
-    listing::list(site, table, &free, set, work)
+    even_rule::check(part, &mut free);
+    listing::list(site, part, &free, today, work)
 }
 
-// What the table of the first n nodes lists on a site.
-pub fn list_first(site: &[u8], table: &[u8], n: u32, set: &mut [u8], work: &mut [u8]) -> u32
+// What the first n nodes of the rewritten table list on a site.
+pub fn list_first(site: &[u8], table: &[u8], n: u32, today: &mut [u8], work: &mut [u8]) -> u32
     requires { ⌜ (length (now site) ≡ siteBytes) × ((6 * n ≤ length (now table)) × (conditionVerdict (take (6 * n) (now table)) ≡ Accepted)) ⌝ }
-    requires { ⌜ (length (now set) ≡ setBytes) × (length (now work) ≡ workBytes) ⌝ }
-    ensures { λ r. ⌜ Listed (siteOf (now (site .entry))) (formOf (tableOf (take (6 * n) (now (table .entry))))) (now (set .exit)) r ⌝ }
+    requires { ⌜ (length (now today) ≡ setBytes) × (length (now work) ≡ workBytes) ⌝ }
+    ensures { λ r. ⌜ Listed (siteOf (now (site .entry))) (formOf (tableOf (take (6 * n) (now (table .entry))))) (now (today .exit)) r ⌝ }
     ensures { λ _. ⌜ now (work .exit) ≡ replicate workBytes 0 ⌝ }
 {
     let end = 6 * (n as usize);
-    list(site, &table[..end], set, work)
+    list(site, &table[..end], today, work)
 }

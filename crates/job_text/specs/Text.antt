@@ -3,8 +3,8 @@ use mathlib.Core.List.{List, [], _∷_, _++_}
 use Prim.Native.Nat.{ℕ, suc, _/_, _%_, _^_}
 use Rattle.finite.specs.Tests.{below, first}
 use Rattle.io.specs.Digits.{glyph, digits}
-use Rattle.job_entry.specs.declared.Job.{Job}
-use Rattle.job_entry.specs.declared.Job.the-variants.{Done, Refused}
+use Rattle.job_run.specs.declared.Job.{Job}
+use Rattle.job_run.specs.declared.Job.the-variants.{Done, Refused}
 
 -- the fewest decimal digits that hold a number below 10 ^ 20, one at least; and the number in decimal
 unfoldable pub places : ℕ → ℕ

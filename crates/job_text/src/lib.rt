@@ -1,5 +1,5 @@
 // The print of a job as text, as document 01 lays it out: four lines, or `refused N W`.
-use job_entry::Job;
+use job_run::Job;
 use libc::STDOUT_FILENO;
 ghost use mathlib.Core.Path.{_≡_};
 ghost use Prim.Native.Nat.{_+_, _≤_, _<_};

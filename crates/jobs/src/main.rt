@@ -4,7 +4,7 @@
 // back as zeros too. What does not is said behind the answer.
 use bitset::SET_BYTES;
 use bitset::SET_SLOTS;
-use job_entry::Job;
+use job_run::Job;
 use libc::STDOUT_FILENO;
 use limits::TABLE_BYTES;
 use listing::WORK_BYTES;
@@ -39,8 +39,8 @@ fn print_word(word: &[u8], n: u64) {
     io::print_decimal(STDOUT_FILENO, n);
 }
 
-fn print_left(site: &[u8], table: &[u8], classes: &[u8]) {
-    print_word(b"site ", checksum(site));
+fn print_left(changed: &[u8], table: &[u8], classes: &[u8]) {
+    print_word(b"site ", checksum(changed));
     print_word(b" table ", checksum(table));
     io::write_all(STDOUT_FILENO, b" numbers ");
     pieces::print_bytes(classes);
@@ -69,7 +69,7 @@ fn is_item_1(answer: Job) -> bool {
 
 // Buffers that are a byte too short.
 fn short_is_refused(file: &[u8]) -> bool {
-    let mut site = [170u8; SITE_BYTES - 1];
+    let mut changed = [170u8; SITE_BYTES - 1];
     let mut table = [170u8; TABLE_BYTES - 1];
     let mut after = [170u8; SET_BYTES - 1];
     let mut today = [170u8; SET_BYTES - 1];
@@ -77,14 +77,16 @@ fn short_is_refused(file: &[u8]) -> bool {
     let mut work = [170u8; WORK_BYTES - 1];
     let r = job_entry::run(
         file,
-        &mut site,
+        &mut changed,
         &mut table,
         &mut after,
         &mut today,
         &mut classes,
         &mut work,
     );
-    let results = pieces::all_zero(&site) & pieces::all_zero(&table) & pieces::all_zero(&classes);
+    let results = pieces::all_zero(&changed)
+        & pieces::all_zero(&table)
+        & pieces::all_zero(&classes);
     is_item_1(r)
         & results
         & pieces::all_zero(&after)
@@ -93,7 +95,7 @@ fn short_is_refused(file: &[u8]) -> bool {
 }
 
 fn answer(file: &[u8]) {
-    let mut site = [170u8; SITE_BYTES];
+    let mut changed = [170u8; SITE_BYTES];
     let mut table = [170u8; TABLE_BYTES];
     let mut after = [170u8; SET_BYTES];
     let mut today = [170u8; SET_BYTES];
@@ -101,7 +103,7 @@ fn answer(file: &[u8]) {
     let mut work = [170u8; WORK_BYTES];
     let r = job_entry::run(
         file,
-        &mut site,
+        &mut changed,
         &mut table,
         &mut after,
         &mut today,
@@ -110,13 +112,13 @@ fn answer(file: &[u8]) {
     );
     job_text::print(r, &after, &today);
     if is_refused(r) {
-        complain(!pieces::all_zero(&site), b"site left\n");
+        complain(!pieces::all_zero(&changed), b"site left\n");
         complain(!pieces::all_zero(&table), b"table left\n");
         complain(!pieces::all_zero(&after), b"list after left\n");
         complain(!pieces::all_zero(&today), b"list today left\n");
         complain(!pieces::all_zero(&classes), b"classes left\n");
     } else {
-        print_left(&site, &table, &classes);
+        print_left(&changed, &table, &classes);
     }
     complain(!pieces::all_zero(&work), b"work left\n");
     complain(!short_is_refused(file), b"short buffers taken\n");

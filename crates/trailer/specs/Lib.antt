@@ -2,5 +2,7 @@
 pub mod File
 pub mod Refusal
 pub mod Pieces
+-- what the trailer is read as
+pub mod Cuts
 -- what is proved of them
 pub mod Laws

@@ -17,5 +17,9 @@ item2 file =
     || below (distance 2 file) (distance 1 file)
     || not (same (distance 2 file) (trailerAt file))
 
+-- the verdict where item 2 is met or not
+abbrev pub metVerdict : Bool → Verdict
+metVerdict met = cond met (Refused 2 0) Accepted
+
 unfoldable pub trailerVerdict : List ℕ → Verdict
-trailerVerdict file = cond (item2 file) (Refused 2 0) Accepted
+trailerVerdict file = metVerdict (item2 file)

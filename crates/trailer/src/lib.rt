@@ -5,8 +5,9 @@ ghost use mathlib.Core.Bool.{false};
 ghost use Prim.Native.Nat.{_+_, _*_, _<_, _≤_};
 ghost use lib.ListN.{length};
 ghost use Rattle.trailer.specs.File.{distance, startOf, trailerAt, trailerBytes};
-ghost use Rattle.trailer.specs.Refusal.{item2, trailerVerdict};
+ghost use Rattle.trailer.specs.Refusal.{item2, metVerdict};
 ghost use Rattle.trailer.specs.Pieces.{siteIn, conditionIn, sheetIn};
+ghost use Rattle.trailer.specs.Cuts.{Cut};
 
 const TRAILER_BYTES: usize = 12;
 
@@ -52,16 +53,6 @@ fn refused(file: &[u8]) -> bool
     (condition < sheet) | (site < condition) | (site != file.len() - TRAILER_BYTES)
 }
 
-// Item 2 as a verdict.
-pub fn check(file: &[u8]) -> Verdict
-    ensures { λ r. ⌜ r ≡ trailerVerdict (now (file .entry)) ⌝ }
-{
-    if refused(file) {
-        return Verdict::Refused(2, 0);
-    }
-    Verdict::Accepted
-}
-
 // Where the piece of distance k starts in an accepted file.
 fn start(file: &[u8], k: usize) -> usize
     requires { ⌜ (item2 (now file) ≡ false) × (k < 3) ⌝ }
@@ -70,36 +61,71 @@ fn start(file: &[u8], k: usize) -> usize
     file.len() - TRAILER_BYTES - read_distance(file, k)
 }
 
-// The pieces. A refused file has empty ones.
-pub fn site(file: &[u8]) -> &[u8]
-    ensures { λ r. ⌜ now r ≡ siteIn (now (file .entry)) ⌝ }
-{
-    if refused(file) {
-        return &file[..0];
-    }
-    let a = start(file, SITE);
-    let e = start(file, CONDITION);
-    &file[a..e]
+// What the trailer of a file says: whether item 2 is met, and where the site, the condition and the sheet end. Each piece starts where
+// the one before it ends, the site at 0. Where item 2 is met the pieces are empty and end at 0.
+pub struct Cuts {
+    pub met: bool,
+    pub site: usize,
+    pub condition: usize,
+    pub sheet: usize,
 }
 
-pub fn condition(file: &[u8]) -> &[u8]
-    ensures { λ r. ⌜ now r ≡ conditionIn (now (file .entry)) ⌝ }
+// Reads the trailer: the one place where item 2 is tested.
+pub fn read(file: &[u8]) -> Cuts
+    ensures { λ r. ⌜ Cut (now (file .entry)) (r .met) (r .site) (r .condition) (r .sheet) ⌝ }
 {
     if refused(file) {
-        return &file[..0];
+        return Cuts {
+            met: true,
+            site: 0,
+            condition: 0,
+            sheet: 0,
+        };
     }
     let a = start(file, CONDITION);
-    let e = start(file, SHEET);
+    let b = start(file, SHEET);
+    let e = file.len() - TRAILER_BYTES;
+    Cuts {
+        met: false,
+        site: a,
+        condition: b,
+        sheet: e,
+    }
+}
+
+// Item 2 as a verdict.
+pub fn check(c: Cuts) -> Verdict
+    ensures { λ r. ⌜ r ≡ metVerdict (c .met) ⌝ }
+{
+    if c.met {
+        return Verdict::Refused(2, 0);
+    }
+    Verdict::Accepted
+}
+
+// The pieces, as parts of the file that the cuts were read from.
+pub fn site(file: &[u8], c: Cuts) -> &[u8]
+    requires { ⌜ Cut (now file) (c .met) (c .site) (c .condition) (c .sheet) ⌝ }
+    ensures { λ r. ⌜ now r ≡ siteIn (now (file .entry)) ⌝ }
+{
+    let e = c.site;
+    &file[..e]
+}
+
+pub fn condition(file: &[u8], c: Cuts) -> &[u8]
+    requires { ⌜ Cut (now file) (c .met) (c .site) (c .condition) (c .sheet) ⌝ }
+    ensures { λ r. ⌜ now r ≡ conditionIn (now (file .entry)) ⌝ }
+{
+    let a = c.site;
+    let e = c.condition;
     &file[a..e]
 }
 
-pub fn sheet(file: &[u8]) -> &[u8]
+pub fn sheet(file: &[u8], c: Cuts) -> &[u8]
+    requires { ⌜ Cut (now file) (c .met) (c .site) (c .condition) (c .sheet) ⌝ }
     ensures { λ r. ⌜ now r ≡ sheetIn (now (file .entry)) ⌝ }
 {
-    if refused(file) {
-        return &file[..0];
-    }
-    let a = start(file, SHEET);
-    let e = file.len() - TRAILER_BYTES;
+    let a = c.condition;
+    let e = c.sheet;
     &file[a..e]
 }

@@ -22,7 +22,8 @@ use Rattle.rewrite_entry.specs.Refusal.{rewriteVerdict}
 use Rattle.rewrite_entry.specs.Laws.Refusal.{Rewritable}
 use Rattle.classes_entry.specs.Refusal.{classesBytes, classesVerdict}
 use Rattle.classes_entry.specs.Laws.Refusal as classes
-use Rattle.job_entry.specs.Buffers.{Buffers}
+use Rattle.job_run.specs.Buffers.{Buffers}
+use Rattle.job_run.specs.Laws.Refusal.{pieces-in}
 use Rattle.job_entry.specs.Refusal.{buffersVerdict, jobVerdict}
 use Rattle.job_entry.specs.Laws.Refusal.{JobAccepted}
 
@@ -45,22 +46,18 @@ unfolding classesVerdict
 classes-accepted classesLen site a = rw (buffer-in (a .classes-size)) (a .site-accepted)
 
 pub job-accepted : (b : Buffers) (file : List ℕ) → JobAccepted b file → jobVerdict b file ≡ Accepted
-unfolding jobVerdict buffersVerdict goesVerdict lengthVerdict
+unfolding jobVerdict buffersVerdict
 job-accepted b file a =
     rw (
-      buffer-in (a .sized .site-size),
+      buffer-in (a .sized .changed-size),
       buffer-in (a .sized .table-size),
       buffer-in (a .sized .sets .after-size),
       buffer-in (a .sized .sets .today-size),
       buffer-in (a .sized .sets .classes-size),
       buffer-in (a .sized .sets .work-size),
-      a .pieces .trailer-accepted,
-      a .pieces .site-accepted,
-      a .pieces .table-accepted,
-      a .pieces .sheet-accepted,
-      a .goes,
-      a .short,
+      a .trailer-accepted,
     )
+    (pieces-in _ _ _ (a .pieces))
 
 -- ---- the reasons are 0 to 14; of rewriting and of the job `rewrite-numbered` and `job-numbered` say it
 

@@ -14,7 +14,7 @@ use Rattle.rewriting.specs.Rewriting.{TableAfter}
 use Rattle.rewrite_entry.specs.Laws.Refusal.{rewrite-numbered}
 use Rattle.classes_entry.specs.Classing.{ClassesAfter}
 use Rattle.trailer.specs.Pieces.{siteIn, conditionIn, sheetIn}
-use Rattle.job_entry.specs.Job.{Left}
+use Rattle.job_run.specs.Job.{Left}
 use Rattle.job_entry.specs.Laws.Refusal.{job-numbered}
 use Rattle.demands.specs.Laws.Accepted.{list-numbered, apply-numbered, classes-numbered}
 use Rattle.demands.specs.Demand1.{Answers, Demand1Job, Demand1List, Demand1Apply, Demand1Rewrite, Demand1Classes, Demand1}
@@ -33,7 +33,7 @@ demand-1-job file b b′ reason w after today nodes classes r =
     (λ l. l)
     (λ n k l.
     record {
-      site-zero = l .site-after;
+      changed-zero = l .site-after;
       table-zero = l .table-after .1;
       after-zero = l .list-after .0;
       today-zero = l .list-today .0;

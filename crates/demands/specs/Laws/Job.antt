@@ -10,8 +10,8 @@ use Rattle.site.specs.Refusal.{siteVerdict}
 use Rattle.condition.specs.Refusal.{conditionVerdict}
 use Rattle.trailer.specs.Pieces.{siteIn, conditionIn, sheetIn}
 use Rattle.list_entry.specs.Listing.{SetAfter}
+use Rattle.job_run.specs.Job.{Left}
 use Rattle.job_entry.specs.Refusal.{jobVerdict}
-use Rattle.job_entry.specs.Job.{Left}
 use Rattle.job_entry.specs.Laws.Refusal.{job-accepts, job-reason}
 use Rattle.demands.specs.Demands.{Runnable, ApplyCall, RewriteCall, ListCall, ClassCall, rewrittenTable, Demand2, Demand3}
 use Rattle.demands.specs.Job.{JobCall, RunnableFile, JobAgrees, DemandJob}
@@ -28,15 +28,15 @@ module _ (file : List ℕ) (c : JobCall file) where
       (job-accepted (c .lent) file
       (record {
         sized = c .sized;
+        trailer-accepted = r .trailer-accepted;
         pieces =
             record {
-              trailer-accepted = r .trailer-accepted;
               site-accepted = r .pieces .going .site-accepted;
-              table-accepted = r .pieces .table-accepted;
+              cond-accepted = r .pieces .table-accepted;
               sheet-accepted = r .pieces .going .sheet-accepted;
+              goes = r .pieces .going .goes-through;
+              short = r .pieces .table-fits;
             };
-        goes = r .pieces .going .goes-through;
-        short = r .pieces .table-fits;
       }))
 
   module _ (e : c .reason ≡ 0) where
@@ -47,12 +47,12 @@ module _ (file : List ℕ) (c : JobCall file) where
     runnable =
         let a = job-accepts (c .lent) file accepted in
         record {
-          trailer-accepted = a .pieces .trailer-accepted;
+          trailer-accepted = a .trailer-accepted;
           pieces =
               record {
-                going = record { site-accepted = a .pieces .site-accepted; sheet-accepted = a .pieces .sheet-accepted; goes-through = a .goes };
-                table-accepted = a .pieces .table-accepted;
-                table-fits = a .short;
+                going = record { site-accepted = a .pieces .site-accepted; sheet-accepted = a .pieces .sheet-accepted; goes-through = a .pieces .goes };
+                table-accepted = a .pieces .cond-accepted;
+                table-fits = a .pieces .short;
               };
         }
 
@@ -67,19 +67,19 @@ module _ (file : List ℕ) (c : JobCall file) where
     abbrev applied : ApplyCall (siteIn file) (sheetIn file)
     applied =
         let v =
-        apply-accepted (length (c .lent .site)) (siteIn file) (sheetIn file)
+        apply-accepted (length (c .lent .changed)) (siteIn file) (sheetIn file)
         (record {
-          result-size = c .sized .site-size;
+          result-size = c .sized .changed-size;
           site-accepted = pieces .going .site-accepted;
           sheet-accepted = pieces .going .sheet-accepted;
           goes = pieces .going .goes-through;
         }) in
         record {
-          result = c .lent .site;
-          result′ = c .lent′ .site;
+          result = c .lent .changed;
+          result′ = c .lent′ .changed;
           reason = 0;
           place = 0;
-          result-size = c .sized .site-size;
+          result-size = c .sized .changed-size;
           returned = record { reason-is = sym (ap reasonOf v); where-is = sym (ap whereOf v); site-after = rw v (left .site-after) };
         }
 

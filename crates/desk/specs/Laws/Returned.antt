@@ -14,9 +14,9 @@ use Rattle.rewrite_entry.specs.Rewriting as rewriting
 use Rattle.classes_entry.specs.declared.Classing.{Classing}
 use Rattle.classes_entry.specs.Answer as number
 use Rattle.classes_entry.specs.Classing as classing
-use Rattle.job_entry.specs.declared.Job.{Job}
-use Rattle.job_entry.specs.Buffers.{Buffers}
-use Rattle.job_entry.specs.Answer as done
+use Rattle.job_run.specs.declared.Job.{Job}
+use Rattle.job_run.specs.Buffers.{Buffers}
+use Rattle.job_run.specs.Answer as done
 use Rattle.job_entry.specs.Job as job
 use Rattle.desk.specs.Returned.{ReturnedList, ReturnedApply, ReturnedRewrite, ReturnedClasses, ReturnedJob}
 

@@ -11,8 +11,8 @@ check-requires c κs = search needs
 enum-told : tie.Need-enum-told
 enum-told c = search needs
 
-judge-table-requires : tie.Need-judge-table-requires
-judge-table-requires c κs = search needs
+judge-condition-requires : tie.Need-judge-condition-requires
+judge-condition-requires c κs = search needs
 
 enum-known-v : tie.Need-enum-known-v
 enum-known-v c = search needs
@@ -21,7 +21,7 @@ same-length : tie.Need-same-length
 same-length c = search needs
 
 returns : tie.Need-returns
-returns c = judged-next (sym (c .before .before .before .before .before .before .check .ensures) ∙ c .before .before .before .before .enum-told .given .1) (c .before .before .judge-table .ensures)
+returns c = judged-next (sym (c .before .before .before .before .before .before .check .ensures) ∙ c .before .before .before .before .enum-told .given .1) (c .before .before .judge-condition .ensures)
 
 returns-2 : tie.Need-returns-2
 returns-2 c = judged-refused _ (sym (c .before .before .before .check .ensures) ∙ c .before .v .given .1)
@@ -32,7 +32,7 @@ judge-spec =
     (tie.spec
     check-requires
     enum-told
-    judge-table-requires
+    judge-condition-requires
     enum-known-v
     same-length
     returns

@@ -21,28 +21,28 @@ use Rattle.job_steps.specs.Steps.{Judged, changeVerdict, Changed}
 
 -- ---- the pieces are judged
 
--- the masks of an accepted table
-pub checked-rows : {table masks : List ℕ} {v : Verdict} → Checked table masks v → v ≡ Accepted → FreeRows table masks
+-- the masks of an accepted condition
+pub checked-rows : {cond masks : List ℕ} {v : Verdict} → Checked cond masks v → v ≡ Accepted → FreeRows cond masks
 unfolding FreeAfter
 checked-rows k e = rw e at (k .masks)
 
-module _ {table masks : List ℕ} where
+module _ {cond masks : List ℕ} where
   -- the first of two checks refuses
-  pub judged-refused : {u : Verdict} (w : Verdict) {item place : ℕ} → u ≡ Refused item place → Judged (u then w) table masks (Refused item place)
+  pub judged-refused : {u : Verdict} (w : Verdict) {item place : ℕ} → u ≡ Refused item place → Judged (u then w) cond masks (Refused item place)
   judged-refused w e = record { verdict = rw e; rows = λ f. refused f }
 
   -- it accepts, and the second judges
-  pub judged-next : {u w v : Verdict} → u ≡ Accepted → Judged w table masks v → Judged (u then w) table masks v
+  pub judged-next : {u w v : Verdict} → u ≡ Accepted → Judged w cond masks v → Judged (u then w) cond masks v
   judged-next e j = record { verdict = rw e (j .verdict); rows = j .rows }
 
-  pub judged-sheet : {u w v : Verdict} → Checked table masks u → u ≡ Accepted → v ≡ w → Judged w table masks v
+  pub judged-sheet : {u w v : Verdict} → Checked cond masks u → u ≡ Accepted → v ≡ w → Judged w cond masks v
   judged-sheet k e f = record { verdict = f; rows = λ _. checked-rows k e }
 
 -- ---- the sheet is applied, then the condition is rewritten
 
-module _ {site table sheet after after′ result result′ : List ℕ} {v : Verdict} (a : Applies site sheet after′ v) where
+module _ {site cond sheet changed changed′ table table′ : List ℕ} {v : Verdict} (a : Applies site sheet changed′ v) where
   pub changed-stuck : {item place : ℕ} → v ≡ Refused item place
-      → Changed site table sheet after after′ result result′ (answer.Refused item place)
+      → Changed site cond sheet changed changed′ table table′ (answer.Refused item place)
   unfolding changeVerdict
   changed-stuck e = record {
     verdict = rw (sym (a .answer) ∙ e);
@@ -50,8 +50,8 @@ module _ {site table sheet after after′ result result′ : List ℕ} {v : Verd
     table-after = λ n f. let z : _≡_ {A = ℕ} 0 1 = cc in absurd (omega arith);
   }
 
-  pub changed-then : v ≡ Accepted → {r : Rewriting} → Rewrote table sheet result result′ (verdictOf r) (nodesOf r)
-      → Changed site table sheet after after′ result result′ r
+  pub changed-then : v ≡ Accepted → {r : Rewriting} → Rewrote cond sheet table table′ (verdictOf r) (nodesOf r)
+      → Changed site cond sheet changed changed′ table table′ r
   unfolding changeVerdict SiteAfter
   changed-then e w =
       let g = sym (a .answer) ∙ e in

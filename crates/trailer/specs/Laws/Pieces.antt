@@ -3,6 +3,7 @@ use mathlib.Core.Path.{_≡_, sym, ap, _∙_}
 use mathlib.Core.Bool.{true, false}
 use mathlib.Core.List.{List, [], _++_}
 use Prim.Native.Nat.{ℕ, zero, suc, _+_, _-_, _≤_, _<_}
+use native.Mathlib.Nat.{sub-zero}
 use native.Mathlib.Omega.{arith}
 use lib.ListN.{length, take, drop, length-drop, take-append-drop}
 use lib.Seq.{drop-drop}
@@ -10,7 +11,8 @@ use Rattle.verdict.specs.declared.Verdict.the-variants.{Accepted}
 use Rattle.trailer.specs.File.{trailerBytes, trailerAt, distance, startOf}
 use Rattle.trailer.specs.Refusal.{item2, trailerVerdict}
 use Rattle.trailer.specs.Pieces.{pieceIn, siteIn, conditionIn, sheetIn}
-use Rattle.trailer.specs.Laws.Verdict.{Laid, unrefused, accepted-laid}
+use Rattle.trailer.specs.Cuts.{Cut}
+use Rattle.trailer.specs.Laws.Verdict.{Laid, laid, unrefused, accepted-laid}
 
 -- ---- where the pieces start
 
@@ -46,9 +48,33 @@ pub piece-is : (a e : ℕ) (file : List ℕ) → item2 file ≡ false → pieceI
 unfolding pieceIn
 piece-is a e file p = rw p
 
--- the part that is handed back, from where it starts and ends
-pub piece-at : (file : List ℕ) {a e a′ e′ : ℕ} → a ≡ a′ → e ≡ e′ → item2 file ≡ false → take (e - a) (drop a file) ≡ pieceIn a′ e′ file
-piece-at file p q u = rw (p, q) (sym (piece-is _ _ file u))
+-- ---- the places that the trailer is read as
+
+pub cut-none : (file : List ℕ) → item2 file ≡ true → Cut file true 0 0 0
+unfolding siteIn conditionIn sheetIn
+cut-none file p = record {
+  met-is = sym p;
+  site-is = sym (piece-none _ _ file p);
+  condition-is = sym (piece-none _ _ file p);
+  sheet-is = sym (piece-none _ _ file p);
+  condition-next = omega arith;
+  sheet-next = omega arith;
+  inside = omega arith;
+}
+
+pub cut-read : (file : List ℕ) → item2 file ≡ false → {a b e : ℕ} → a ≡ startOf 1 file → b ≡ startOf 0 file → e ≡ trailerAt file → Cut file false a b e
+unfolding siteIn conditionIn sheetIn
+cut-read file u p q r =
+    let l = laid file u in
+    record {
+      met-is = sym u;
+      site-is = rw (p, piece-is (startOf 2 file) (startOf 1 file) file u, site-start file l, sub-zero (startOf 1 file));
+      condition-is = rw (p, q) (sym (piece-is _ _ file u));
+      sheet-is = rw (q, r) (sym (piece-is _ _ file u));
+      condition-next = omega (arith, p, q, sheet-start file l);
+      sheet-next = omega (arith, q, r, start-in 0 file);
+      inside = omega (arith, r);
+    }
 
 -- ---- the pieces and the trailer are the file
 

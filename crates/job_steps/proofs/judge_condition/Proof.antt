@@ -2,8 +2,8 @@
 use Rattle.job_steps.specs.Laws.Steps.{judged-next, judged-sheet, judged-refused}
 use mathlib.Core.Path.{sym, _∙_}
 use borrow.Author.Needs.{needs}
-use Rattle.job_steps.proofs.judge_table.Statement.{statement}
-use Rattle.job_steps.proofs.judge_table.Tie as tie
+use Rattle.job_steps.proofs.judge_condition.Statement.{statement}
+use Rattle.job_steps.proofs.judge_condition.Tie as tie
 
 check-requires : tie.Need-check-requires
 check-requires c κs = search needs
@@ -29,8 +29,8 @@ same-length-2 c = search needs
 returns-2 : tie.Need-returns-2
 returns-2 c = judged-refused _ (sym (c .before .before .before .before .before .check .ensures .verdict) ∙ c .before .v .given .1)
 
-pub judge-table-spec : {M : Type 1} → statement M
-judge-table-spec =
+pub judge-condition-spec : {M : Type 1} → statement M
+judge-condition-spec =
     tie.close
     (tie.spec
     check-requires

@@ -2,8 +2,8 @@
 use Prim.Native.Nat.{ℕ}
 use Rattle.verdict.specs.declared.Verdict.{Verdict}
 use Rattle.verdict.specs.declared.Verdict.the-variants as verdict
-use Rattle.job_entry.specs.declared.Job.{Job}
-use Rattle.job_entry.specs.declared.Job.the-variants.{Done, Refused}
+use Rattle.job_run.specs.declared.Job.{Job}
+use Rattle.job_run.specs.declared.Job.the-variants.{Done, Refused}
 
 -- the verdict, of which `reasonOf` gives the number (0 where no item is met) and `whereOf` gives W
 abbrev pub verdictOf : Job → Verdict

@@ -9,17 +9,18 @@ use Rattle.limits.specs.Limits.{tableBytes}
 use Rattle.listing.specs.Listed.{workBytes}
 use Rattle.classes_entry.specs.Refusal.{classesBytes}
 
--- the results, and the work buffer
+-- the results, which are the site after, the rewritten table, the lists on the site after and today and the class numbers; and the work
+-- buffer
 pub record Buffers : Type 0 where
-  pub site : List ℕ
+  pub changed : List ℕ
   pub table : List ℕ
   pub after : List ℕ
   pub today : List ℕ
   pub classes : List ℕ
   pub work : List ℕ
 
-abbrev pub six : (site table after today classes work : List ℕ) → Buffers
-six s t a d c w = record { site = s; table = t; after = a; today = d; classes = c; work = w }
+abbrev pub six : (changed table after today classes work : List ℕ) → Buffers
+six s t a d c w = record { changed = s; table = t; after = a; today = d; classes = c; work = w }
 
 -- the four buffers that listing and numbering write have the stated lengths; all six have
 pub record Sets (after today classes work : List ℕ) : Type 0 where
@@ -29,6 +30,6 @@ pub record Sets (after today classes work : List ℕ) : Type 0 where
   pub work-size : length work ≡ workBytes
 
 pub record Sized (b : Buffers) : Type 0 where
-  pub site-size : length (b .site) ≡ siteBytes
+  pub changed-size : length (b .changed) ≡ siteBytes
   pub table-size : length (b .table) ≡ tableBytes
   pub sets : Sets (b .after) (b .today) (b .classes) (b .work)

@@ -2,8 +2,8 @@
 use native.Mathlib.Omega.{arith}
 use mathlib.Core.Path.{refl}
 use borrow.Author.Needs.{needs}
-use Rattle.job_entry.proofs.refused.Statement.{statement}
-use Rattle.job_entry.proofs.refused.Tie as tie
+use Rattle.job_run.proofs.refuse.Statement.{statement}
+use Rattle.job_run.proofs.refuse.Tie as tie
 
 zero-three-requires : tie.Need-zero-three-requires
 zero-three-requires c κs = search needs
@@ -30,10 +30,13 @@ same-length-6 : tie.Need-same-length-6
 same-length-6 c = omega arith
 
 returns : tie.Need-returns
-returns c = let y = c .before .before .before .before .before .before .before .before .before .before .before .before .before .before .before .before .zero-three .ensures in let z = c .before .before .before .before .before .before .zero-three2 .ensures in (refl, record { site-zero = y .0; table-zero = y .1 .0; after-zero = y .1 .1; today-zero = z .0; classes-zero = z .1 .0; work-zero = z .1 .1 })
+returns c =
+    let y = c .before .before .before .before .before .before .before .before .before .before .before .before .before .before .before .before .zero-three .ensures in
+    let z = c .before .before .before .before .before .before .zero-three2 .ensures in
+    (refl, record { changed-zero = y .0; table-zero = y .1 .0; after-zero = y .1 .1; today-zero = z .0; classes-zero = z .1 .0; work-zero = z .1 .1 })
 
-pub refused-spec : {M : Type 1} → statement M
-refused-spec =
+pub refuse-spec : {M : Type 1} → statement M
+refuse-spec =
     tie.close
     (tie.spec
     zero-three-requires

@@ -1,0 +1,3 @@
+-- Laws, by topic.
+pub mod Refusal
+pub mod Job

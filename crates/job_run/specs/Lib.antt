@@ -1,0 +1,11 @@
+-- The six buffers that a caller lends, and which pieces are refused, in document 01's order.
+pub mod Buffers
+pub mod Refusal
+-- the numbers and values of the answer
+pub mod Answer
+-- what a job on three pieces answers and leaves in its buffers
+pub mod Job
+-- what its parts answer
+pub mod Steps
+-- what is proved of them
+pub mod Laws

@@ -1,0 +1,22 @@
+-- Which pieces of a job are refused: the items of document 01, "Reasons for sending a job back", in their order.
+use mathlib.Core.List.{List}
+use Prim.Native.Nat.{ℕ}
+use Rattle.verdict.specs.Verdict.{_then_}
+use Rattle.verdict.specs.declared.Verdict.{Verdict}
+use Rattle.site.specs.Site.{siteOf}
+use Rattle.site.specs.Refusal.{siteVerdict}
+use Rattle.condition.specs.Bytes.{tableOf}
+use Rattle.condition.specs.Refusal.{conditionVerdict}
+use Rattle.sheet.specs.Bytes.{editsOf}
+use Rattle.sheet.specs.Refusal.{sheetVerdict}
+use Rattle.applying.specs.Refusal.{goesVerdict}
+use Rattle.rewriting.specs.Refusal.{lengthVerdict}
+
+-- 3 to 6 of the site, 7 to 10 of the condition, 11 and 12 of the sheet, then 13, then 14
+unfoldable pub piecesVerdict : (site cond sheet : List ℕ) → Verdict
+piecesVerdict site cond sheet =
+    siteVerdict site
+    then conditionVerdict cond
+    then sheetVerdict sheet
+    then goesVerdict (editsOf sheet) (siteOf site)
+    then lengthVerdict (editsOf sheet) (tableOf cond)

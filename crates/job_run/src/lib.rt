@@ -1,0 +1,145 @@
+// A job on the pieces `site`, `cond` and `sheet` of its file. The caller's buffers are `changed` for the site after, `table` for the
+// rewritten table, `after` and `today` for the lists on the site after and on the site, `classes` for the class numbers, and `work`.
+use rewriting::Rewriting;
+use verdict::Verdict;
+ghost use mathlib.Core.Path.{_≡_};
+ghost use lib.ListN.{length, replicate};
+ghost use Rattle.verdict.specs.Verdict.{_then_};
+ghost use Rattle.verdict.specs.declared.Verdict.the-variants.{Accepted};
+ghost use Rattle.site.specs.Layout.{siteBytes};
+ghost use Rattle.site.specs.Refusal.{siteVerdict};
+ghost use Rattle.condition.specs.Refusal.{conditionVerdict};
+ghost use Rattle.sheet.specs.Refusal.{sheetVerdict};
+ghost use Rattle.limits.specs.Limits.{tableNodes, tableBytes};
+ghost use Rattle.job_steps.specs.Steps.{Judged};
+ghost use Rattle.job_run.specs.Buffers.{six, Sets, Sized};
+ghost use Rattle.job_run.specs.Job.{Ran};
+ghost use Rattle.job_run.specs.Steps.{Zeros, Prepared, Listable, Finished};
+
+// The answer of a job: how many slots are listed on the site after and today, how many nodes the rewritten table has, and how many
+// different class numbers there are; or the item that is met and its W.
+pub enum Job {
+    Done(u32, u32, u32, u32),
+    Refused(u8, u16),
+}
+
+fn zero_three(a: &mut [u8], b: &mut [u8], c: &mut [u8])
+    ensures { λ _. ⌜ now (a .exit) ≡ replicate (length (now (a .entry))) 0 ⌝ }
+    ensures { λ _. ⌜ now (b .exit) ≡ replicate (length (now (b .entry))) 0 ⌝ }
+    ensures { λ _. ⌜ now (c .exit) ≡ replicate (length (now (c .entry))) 0 ⌝ }
+{
+    buffer::zero(a);
+    buffer::zero(b);
+    buffer::zero(c);
+}
+
+// The answer to a job that meets an item: every buffer becomes zeros, whatever its length.
+fn refuse(
+    item: u8,
+    place: u16,
+    changed: &mut [u8],
+    table: &mut [u8],
+    after: &mut [u8],
+    today: &mut [u8],
+    classes: &mut [u8],
+    work: &mut [u8],
+) -> Job
+    ensures { λ r. ⌜ r ≡ Job.Refused item place ⌝ }
+    ensures { λ _. ⌜ Zeros (six (now (changed .entry)) (now (table .entry)) (now (after .entry)) (now (today .entry)) (now (classes .entry)) (now (work .entry))) (six (now (changed .exit)) (now (table .exit)) (now (after .exit)) (now (today .exit)) (now (classes .exit)) (now (work .exit))) ⌝ }
+{
+    zero_three(changed, table, after);
+    zero_three(today, classes, work);
+    Job::Refused(item, place)
+}
+
+// The verdict `first`, then items 3 to 12. The free variables of an accepted condition's nodes are written to `free`.
+fn judge(first: Verdict, site: &[u8], cond: &[u8], sheet: &[u8], free: &mut [u16]) -> Verdict
+    requires { ⌜ length (now free) ≡ tableNodes ⌝ }
+    ensures { λ r. ⌜ Judged (first then siteVerdict (now (site .entry)) then conditionVerdict (now (cond .entry)) then sheetVerdict (now (sheet .entry))) (now (cond .entry)) (now (free .exit)) r ⌝ }
+{
+    match first {
+        Verdict::Accepted => job_steps::judge(site, cond, sheet, free),
+        Verdict::Refused(item, place) => Verdict::Refused(item, place),
+    }
+}
+
+// The verdict `first`, then items 3 to 14. Where none is met the site after and the rewritten table are written.
+fn prepare(
+    first: Verdict,
+    site: &[u8],
+    cond: &[u8],
+    sheet: &[u8],
+    free: &mut [u16],
+    changed: &mut [u8],
+    table: &mut [u8],
+) -> Rewriting
+    requires { ⌜ length (now free) ≡ tableNodes ⌝ }
+    requires { ⌜ (first ≡ Accepted → (length (now changed) ≡ siteBytes) × (length (now table) ≡ tableBytes)) ⌝ }
+    ensures { λ r. ⌜ Prepared first (now (site .entry)) (now (cond .entry)) (now (sheet .entry)) (now (free .exit)) (now (changed .entry)) (now (changed .exit)) (now (table .entry)) (now (table .exit)) r ⌝ }
+{
+    let v = judge(first, site, cond, sheet, free);
+    match v {
+        Verdict::Accepted => job_steps::change(site, cond, sheet, changed, table),
+        Verdict::Refused(item, place) => Rewriting::Refused(item, place),
+    }
+}
+
+// The answer where no item is met: the condition is listed on the site after, the n nodes of the rewritten table on the site, and the
+// slots of the site after are numbered.
+fn finish(
+    site: &[u8],
+    cond: &[u8],
+    free: &[u16],
+    changed: &[u8],
+    table: &[u8],
+    n: u32,
+    after: &mut [u8],
+    today: &mut [u8],
+    classes: &mut [u8],
+    work: &mut [u8],
+) -> Job
+    requires { ⌜ Listable (now site) (now cond) (now free) (now changed) (now table) n ⌝ }
+    requires { ⌜ Sets (now after) (now today) (now classes) (now work) ⌝ }
+    ensures { λ r. ⌜ Finished (now (site .entry)) (now (cond .entry)) (now (changed .entry)) (now (table .entry)) n (now (after .exit)) (now (today .exit)) (now (classes .exit)) (now (work .exit)) r ⌝ }
+{
+    let a = listing::list(changed, cond, free, after, work);
+    let t = job_steps::list_first(site, table, n, today, work);
+    let c = classes_entry::number(changed, classes);
+    Job::Done(a, t, n, c)
+}
+
+// Does the job of three pieces, whatever they are. `first` is the verdict on all that is tested before them: item 1, so that buffers
+// which pass have the stated lengths, and the file that they come from.
+pub fn run(
+    first: Verdict,
+    site: &[u8],
+    cond: &[u8],
+    sheet: &[u8],
+    changed: &mut [u8],
+    table: &mut [u8],
+    after: &mut [u8],
+    today: &mut [u8],
+    classes: &mut [u8],
+    work: &mut [u8],
+) -> Job
+    requires { ⌜ (first ≡ Accepted → Sized (six (now changed) (now table) (now after) (now today) (now classes) (now work))) ⌝ }
+    ensures { λ r. ⌜ Ran first (now (site .entry)) (now (cond .entry)) (now (sheet .entry)) (six (now (changed .entry)) (now (table .entry)) (now (after .entry)) (now (today .entry)) (now (classes .entry)) (now (work .entry))) (six (now (changed .exit)) (now (table .exit)) (now (after .exit)) (now (today .exit)) (now (classes .exit)) (now (work .exit))) r ⌝ }
+{
+    let mut free = even_rule::no_masks();
+    let r = prepare(first, site, cond, sheet, &mut free, changed, table);
+    match r {
+        Rewriting::Rewritten(n) => finish(
+            site,
+            cond,
+            &free,
+            changed,
+            table,
+            n,
+            after,
+            today,
+            classes,
+            work,
+        ),
+        Rewriting::Refused(item, w) => refuse(item, w, changed, table, after, today, classes, work),
+    }
+}
