@@ -332,7 +332,7 @@ fn high(x: usize) -> u8
 }
 
 // Writes one node at place i, where there is room for it.
-fn put_node(out: &mut [u8], i: usize, kind: u8, param: u8, left: usize, right: usize)
+pub fn put_node(out: &mut [u8], i: usize, kind: u8, param: u8, left: usize, right: usize)
     requires { ⌜ (i < 65536) × (left < 65536) × (right < 65536) ⌝ }
     ensures { λ _. ⌜ now (out .exit) ≡ put (now (out .entry)) i (record { kind = kind; param = param; left = left; right = right }) ⌝ }
 {
@@ -437,13 +437,18 @@ fn write_row(out: &mut [u8], at: usize, s: Spelling, t: usize)
     }
 }
 
-// Writes the block from number at on; t and u are the images of the old node's children. Nodes that do not fit are left out.
+// Writes the block from number at on; t and u are the images of the old node's children. Nodes that do not fit are left out. The rows of
+// leaves have no child; two calls keep `write_row` apart from whoever calls this.
 pub fn write(out: &mut [u8], at: usize, s: Spelling, t: usize, u: usize)
     requires { ⌜ (s .row < rowCount) × (at < 60000) × (t < 60000) × (u < 60000) ⌝ }
     ensures { λ _. ⌜ now (out .exit) ≡ puts (now (out .entry)) at 0 (emit (spelled s t u) at) ⌝ }
 {
     if s.row < COPIES {
         write_copy(out, at, s.row, s.w, t, u);
+        return;
+    }
+    if s.row < AT_WAYS {
+        write_row(out, at, s, 0);
         return;
     }
     write_row(out, at, s, t);

@@ -3,6 +3,7 @@
 pub mod Sizes
 -- images and starts; bytes written; blocks placed
 pub mod State
+pub mod Copied
 pub mod Numbered
 pub mod Puts
 pub mod Placed

@@ -6,10 +6,10 @@ use Prim.Native.Nat.{ℕ, zero, suc, _+_, _*_, _≤_, _<_}
 use lib.ListN.{length, getD}
 use lib.Dec.{ltb}
 use Rattle.semantics.specs.Table.{Node, kindOf}
-use Rattle.semantics.specs.Edit.{Edit}
+use Rattle.semantics.specs.Edit.{Edit, CN1, CN2, AP, DP, AT, DT1, DT2, AS, DS}
 use Rattle.semantics.specs.Block.{Block, old, block, root, emit}
 use Rattle.condition.specs.Bytes.{nodeAt, bytesOf}
-use Rattle.limits.specs.Limits.{tableNodes, tableBytes, notNo, orNo, diaNo, slotNo}
+use Rattle.limits.specs.Limits.{tableNodes, tableBytes, hereNo, labelNo, nameNo, varNo, notNo, orNo, diaNo, muNo, slotNo}
 use Rattle.blocks.specs.declared.Spelling.{Spelling}
 use Rattle.blocks.specs.Spelling.{Spells, firstOf, secondOf}
 
@@ -74,15 +74,38 @@ imageIn images i c = cond (ltb c i) (getD images c 0) 0
 abbrev pub placedRow : ℕ
 placedRow = 255
 
--- the spelling of node j by a row
-abbrev pub spellingBy : Edit → List ℕ → ℕ → ℕ → Spelling
-spellingBy e s j row = record { row = row; w = nodeAt s j .param; a = firstOf e; b = secondOf e }
+-- the spelling of a node with parameter w by a row
+abbrev pub spellingOf : Edit → ℕ → ℕ → Spelling
+spellingOf e w row = record { row = row; w = w; a = firstOf e; b = secondOf e }
+
+-- an edit changes nodes of the kinds from `firstKind` to below `endKind` at most
+abbrev pub firstKind : Edit → ℕ
+firstKind (CN1 n1 n2) = nameNo
+firstKind (CN2 n1 n2 f) = nameNo
+firstKind (AP n p) = labelNo
+firstKind (DP n p) = labelNo
+firstKind (AT m n1 n2) = diaNo
+firstKind (DT1 m n1 n2) = diaNo
+firstKind (DT2 f n) = diaNo
+firstKind (AS n k) = hereNo
+firstKind (DS n) = hereNo
+
+abbrev pub endKind : Edit → ℕ
+endKind (CN1 n1 n2) = varNo
+endKind (CN2 n1 n2 f) = varNo
+endKind (AP n p) = nameNo
+endKind (DP n p) = nameNo
+endKind (AT m n1 n2) = muNo
+endKind (DT1 m n1 n2) = muNo
+endKind (DT2 f n) = muNo
+endKind (AS n k) = varNo
+endKind (DS n) = muNo
 
 -- the rows of the nodes below n spell their blocks, where the nodes are not placed
 pub record Rowed (s : List ℕ) (e : Edit) (rows : List ℕ) (n : ℕ) : Type 0 where
   pub size : length rows ≡ tableNodes
   pub spells : (j : ℕ) → j < n → (getD rows j 0 ≡ placedRow → ⊥)
-      → Spells e (nodeAt s j .kind) (nodeAt s j .param) (spellingBy e s j (getD rows j 0))
+      → Spells e (nodeAt s j .kind) (nodeAt s j .param) (spellingOf e (nodeAt s j .param) (getD rows j 0))
 
 -- none of the nodes below n is placed
 abbrev pub NonePlaced : List ℕ → ℕ → Type 0

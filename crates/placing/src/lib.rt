@@ -1,9 +1,18 @@
 // A table of nodes rewritten through one edit: a first pass gives each block its place, a second writes the blocks, by recursion on children.
 // Document 01, "Rewriting".
 use blocks::Spelling;
+use blocks::put_node;
+use blocks::size;
+use blocks::write;
 use condition::kind;
 use condition::param;
+use limits::AND;
 use limits::DIA;
+use limits::HERE;
+use limits::KINDS;
+use limits::LABEL;
+use limits::MU;
+use limits::NAME;
 use limits::NODE_BYTES;
 use limits::NOT;
 use limits::OR;
@@ -11,6 +20,7 @@ use limits::SLOT;
 use limits::TABLE_BYTES;
 use limits::TABLE_NODES;
 use limits::TRUE;
+use limits::VAR;
 use sheet::Op;
 ghost use mathlib.Core.Path.{_≡_};
 ghost use mathlib.Core.Bool.{true, false};
@@ -20,10 +30,10 @@ ghost use Rattle.semantics.specs.Edit.{legal};
 ghost use Rattle.semantics.specs.Block.{rewriteTable};
 ghost use Rattle.condition.specs.Bytes.{nodes};
 ghost use Rattle.sheet.specs.Bytes.{editOf};
-ghost use Rattle.limits.specs.Limits.{nodeSize, tableNodes, tableBytes};
-ghost use Rattle.blocks.specs.Spelling.{firstOf, secondOf};
+ghost use Rattle.limits.specs.Limits.{tableNodes, tableBytes, orNo, diaNo, slotNo};
+ghost use Rattle.blocks.specs.Spelling.{firstOf, secondOf, Spells};
 ghost use Rattle.blocks.specs.Write.{Written};
-ghost use Rattle.placing.specs.State.{leftAt, rightAt, startOf, Numbered, imageIn, placedRow, Rowed, NonePlaced, Ready, Placing, lowerOf, higherOf};
+ghost use Rattle.placing.specs.State.{leftAt, rightAt, startOf, Numbered, imageIn, placedRow, spellingOf, firstKind, endKind, Rowed, NonePlaced, Ready, Placing, lowerOf, higherOf};
 
 // Tables, images and rows are lent as whole arrays: a call passes a pointer for each, in a register, and a last call becomes a jump.
 
@@ -93,32 +103,102 @@ fn waits(rows: &[u8; TABLE_NODES], i: usize, c: usize) -> bool
     false
 }
 
+// An edit changes nodes of the kinds from `first_kind` to below `end_kind` at most.
+fn first_kind(e: Op) -> u8
+    ensures { λ r. ⌜ r ≡ firstKind (editOf e) ⌝ }
+{
+    match e {
+        Op::Cn1(_, _) => NAME,
+        Op::Cn2(_, _, _) => NAME,
+        Op::Ap(_, _) => LABEL,
+        Op::Dp(_, _) => LABEL,
+        Op::At(_, _, _) => DIA,
+        Op::Dt1(_, _, _) => DIA,
+        Op::Dt2(_, _) => DIA,
+        Op::As(_, _) => HERE,
+        Op::Ds(_) => HERE,
+    }
+}
+
+fn end_kind(e: Op) -> u8
+    ensures { λ r. ⌜ r ≡ endKind (editOf e) ⌝ }
+{
+    match e {
+        Op::Cn1(_, _) => VAR,
+        Op::Cn2(_, _, _) => VAR,
+        Op::Ap(_, _) => NAME,
+        Op::Dp(_, _) => NAME,
+        Op::At(_, _, _) => MU,
+        Op::Dt1(_, _, _) => MU,
+        Op::Dt2(_, _) => MU,
+        Op::As(_, _) => VAR,
+        Op::Ds(_) => MU,
+    }
+}
+
+// The row of a node of this kind, with parameter w: the kind itself where the edit changes no node of it.
+fn row_of(e: Op, from: u8, to: u8, kind: u8, w: u8) -> u8
+    requires { ⌜ (from ≡ firstKind (editOf e)) × (to ≡ endKind (editOf e)) × (legal (editOf e) ≡ true) ⌝ }
+    ensures { λ r. ⌜ Spells (editOf e) kind w (spellingOf (editOf e) w r) ⌝ }
+{
+    if kind < from {
+        return kind;
+    }
+    if to <= kind {
+        if kind < KINDS {
+            return kind;
+        }
+    }
+    let s = blocks::spell(e, kind, w);
+    s.row
+}
+
 // The first pass: the rows of the first n nodes, and their images by the sizes of their blocks. Gives how many nodes the blocks have.
 fn number(
     table: &[u8; TABLE_BYTES],
     n: usize,
     e: Op,
+    a: u8,
+    b: u8,
     images: &mut [u16; TABLE_NODES],
     rows: &mut [u8; TABLE_NODES],
 ) -> usize
     requires { ⌜ (length (now table) ≡ tableBytes) × (n ≤ tableNodes) × (length (now images) ≡ tableNodes) × (length (now rows) ≡ tableNodes) ⌝ }
-    requires { ⌜ legal (editOf e) ≡ true ⌝ }
+    requires { ⌜ (a ≡ firstOf (editOf e)) × (b ≡ secondOf (editOf e)) × (legal (editOf e) ≡ true) ⌝ }
     ensures { λ r. ⌜ (r ≡ startOf (editOf e) (now (table .entry)) n) × (r ≤ 22528) × Numbered (now (table .entry)) (editOf e) (now (images .exit)) n ⌝ }
     ensures { λ _. ⌜ Rowed (now (table .entry)) (editOf e) (now (rows .exit)) n × NonePlaced (now (rows .exit)) n ⌝ }
 {
+    let from = first_kind(e);
+    let to = end_kind(e);
     let mut i = 0;
     let mut next = 0;
     while i < n {
-        let s = blocks::spell(e, kind(table, i), param(table, i));
-        next += blocks::size(s);
+        let w = param(table, i);
+        let row = row_of(e, from, to, kind(table, i), w);
+        next += size(Spelling { row, w, a, b });
         images[i] = narrow(next - 1);
-        rows[i] = s.row;
+        rows[i] = row;
         i += 1;
     }
     next
 }
 
-// Node c is placed: its block is written at its place. Gives whether one of its children waits. The edit stands in the contract alone.
+// A row that copies a diamond, a box, a mu or a nu.
+fn one_child(row: u8) -> bool
+    ensures { λ r. ⌜ (r ≡ true → (diaNo ≤ row) × (row < slotNo)) ⌝ }
+{
+    (DIA <= row) & (row < SLOT)
+}
+
+// A row that copies an or or an and.
+fn two_children(row: u8) -> bool
+    ensures { λ r. ⌜ (r ≡ true → (orNo ≤ row) × (row < diaNo)) ⌝ }
+{
+    (row == OR) | (row == AND)
+}
+
+// Node c is placed: its block is written, copies of most kinds at once. Gives whether one of its children waits. The edit stands in the
+// contract alone.
 fn place(
     table: &[u8; TABLE_BYTES],
     images: &[u16; TABLE_NODES],
@@ -137,19 +217,29 @@ fn place(
         return false;
     }
     rows[c] = PLACED;
-    let s = Spelling {
-        row,
-        w: param(table, c),
-        a,
-        b,
-    };
-    let end = widen(images[c]) + 1;
+    let w = param(table, c);
+    let last = widen(images[c]);
+    if row < NOT {
+        put_node(out, last, row, w, 0, 0);
+        return false;
+    }
     let l = left_of(table, c);
-    let r = right_of(table, c);
     let t = image(images, c, l);
+    let left = waits(rows, c, l);
+    if one_child(row) {
+        put_node(out, last, row, w, t, 0);
+        return left;
+    }
+    let r = right_of(table, c);
     let u = image(images, c, r);
-    blocks::write(out, end - blocks::size(s), s, t, u);
-    waits(rows, c, l) | waits(rows, c, r)
+    let right = waits(rows, c, r);
+    if two_children(row) {
+        put_node(out, last, row, 0, t, u);
+        return left | right;
+    }
+    let s = Spelling { row, w, a, b };
+    write(out, last + 1 - size(s), s, t, u);
+    left | right
 }
 
 // Node c is placed, where it is below i. Gives 1 where one of its children waits, and else 0.
@@ -335,8 +425,8 @@ pub fn rewrite(
     ensures { λ r. ⌜ (r ≡ length (rewriteTable (editOf e) (nodes (now (table .entry)) n))) × Written (now (out .exit)) (rewriteTable (editOf e) (nodes (now (table .entry)) n)) × (r ≤ 22528) ⌝ }
     ensures { λ _. ⌜ (length (now (images .exit)) ≡ tableNodes) × (length (now (rows .exit)) ≡ tableNodes) × (length (now (out .exit)) ≡ tableBytes) ⌝ }
 {
-    let made = number(table, n, e, images, rows);
     let s = blocks::spell(e, TRUE, 0);
+    let made = number(table, n, e, s.a, s.b, images, rows);
     place_down(table, images, rows, out, e, s.a, s.b, n);
     made
 }

@@ -1,6 +1,6 @@
 -- A block written: the copy of a node, or a row.
 use native.Mathlib.Omega.{arith}
-use Rattle.blocks.specs.Laws.Rows.{spelled-row, copy-written}
+use Rattle.blocks.specs.Laws.Rows.{spelled-row, spelled-leaf, copy-written}
 use Rattle.blocks.proofs.write.Statement.{statement}
 use Rattle.blocks.proofs.write.Tie as tie
 
@@ -23,10 +23,30 @@ same-length-2 c = omega arith
 
 returns-2 : tie.Need-returns-2
 returns-2 c =
-    let p = c .before .before in let a = p .before .before .before .before .before .args in
-    rw (spelled-row (a .s) (a .t) (a .u) (omega arith)) (p .write-row .ensures)
+    let p = c .before .before in let a = p .before .before .before .before .before .before .before .args in
+    rw (spelled-leaf (a .s) (a .t) (a .u) (omega arith) (omega arith)) (p .write-row .ensures)
+
+write-row-requires-2 : tie.Need-write-row-requires-2
+write-row-requires-2 c κs = omega arith
+
+same-length-3 : tie.Need-same-length-3
+same-length-3 c = omega arith
+
+returns-3 : tie.Need-returns-3
+returns-3 c =
+    let p = c .before .before in let a = p .before .before .before .before .before .before .before .args in
+    rw (spelled-row (a .s) (a .t) (a .u) (omega arith)) (p .write-row2 .ensures)
 
 pub write-spec : {M : Type 1} → statement M
 write-spec =
     tie.close
-    (tie.spec write-copy-requires same-length returns write-row-requires same-length-2 returns-2)
+    (tie.spec
+    write-copy-requires
+    same-length
+    returns
+    write-row-requires
+    same-length-2
+    returns-2
+    write-row-requires-2
+    same-length-3
+    returns-3)

@@ -146,6 +146,16 @@ module _ (s : Spelling) (t u : ℕ) where
       let C = copies (s .w) (old t) (old u) in let R = rows (s .w) (s .a) (s .b) (reverseOf s) everyWay (old t) in
       ap (λ (r : ℕ). getD (C ++ R) r (old 0)) e ∙ getD-append-add C R (s .row - copyCount) (old 0)
 
+  -- the rows before those of ways refer to no child
+  pub spelled-leaf : copyCount ≤ s .row → s .row < 21 → spelled s t u ≡ rowSpelled s 0
+  unfolding rowSpelled rows
+  spelled-leaf g h =
+      spelled-row g
+      ∙ each-kind (λ r. r < 8 → getD (rows (s .w) (s .a) (s .b) (reverseOf s) everyWay (old t)) r (old 0) ≡ getD (rows (s .w) (s .a) (s .b) (reverseOf s) everyWay (old 0)) r (old 0))
+      (λ q. refl) (λ q. refl) (λ q. refl) (λ q. refl) (λ q. refl) (λ q. refl) (λ q. refl) (λ q. refl)
+      (λ q. absurd (omega arith)) (λ q. absurd (omega arith)) (λ q. absurd (omega arith)) (λ q. absurd (omega arith)) (λ r q z. absurd (omega arith))
+      (s .row - copyCount) (omega arith)
+
   pub spelled-copy : (at : ℕ) → s .row < copyCount → emit (spelled s t u) at ≡ copyOf (s .row) (s .w) t u ∷ []
   unfolding spelled copies copyOf usedBy keptBy below emit root kindNo
   spelled-copy at =

@@ -9,25 +9,31 @@ use Rattle.placing.proofs.number.Statement.{statement}
 use Rattle.placing.proofs.number.Tie as tie
 
 abbrev Inv-loop : tie.InvT-loop
-Inv-loop table n e images₀ rows₀ i₀ next₀ images rows i next = (i ≤ n) × (next ≤ 11 * i) × (next ≡ startOf (editOf e) table i) × Numbered table (editOf e) images i × (Rowed table (editOf e) rows i × NonePlaced rows i)
+Inv-loop table n e a b images₀ rows₀ from to i₀ next₀ images rows i next = (i ≤ n) × (next ≤ 11 * i) × (next ≡ startOf (editOf e) table i) × Numbered table (editOf e) images i × (Rowed table (editOf e) rows i × NonePlaced rows i)
 
 abbrev μ-loop : tie.MeasureT-loop
-μ-loop table n e images₀ rows₀ i₀ next₀ images rows i next = n - i
+μ-loop table n e a b images₀ rows₀ from to i₀ next₀ images rows i next = n - i
+
+first-kind-requires : tie.Need-first-kind-requires Inv-loop μ-loop
+first-kind-requires c κs = tt
+
+end-kind-requires : tie.Need-end-kind-requires Inv-loop μ-loop
+end-kind-requires c κs = tt
 
 loop-holds : tie.Need-loop-holds Inv-loop μ-loop
-loop-holds c = let p = c .pre .0 in (omega arith, omega arith, start-none _ _, numbered-none _ _ _ (p .2), rowed-none _ _ _ (p .3))
-
-kind-requires : tie.Need-kind-requires Inv-loop μ-loop
-kind-requires c κs = omega arith
+loop-holds c = let p = c .before .before .pre .0 in (omega arith, omega arith, start-none _ _, numbered-none _ _ _ (p .2), rowed-none _ _ _ (p .3))
 
 param-requires : tie.Need-param-requires Inv-loop μ-loop
 param-requires c κs = omega arith
 
-spell-requires : tie.Need-spell-requires Inv-loop μ-loop
-spell-requires c κs = c .before .before .before .before .before .before .pre .1
+kind-requires : tie.Need-kind-requires Inv-loop μ-loop
+kind-requires c κs = omega arith
+
+row-of-requires : tie.Need-row-of-requires Inv-loop μ-loop
+row-of-requires c κs = let k = c .before .before .before .before .before .before in (k .before .first-kind .ensures, k .end-kind .ensures, k .before .before .pre .1 .2)
 
 size-requires : tie.Need-size-requires Inv-loop μ-loop
-size-requires c κs = c .spell .ensures .known
+size-requires c κs = c .row-of .ensures .known
 
 add-next : tie.Need-add-next Inv-loop μ-loop
 add-next c = omega (arith, c .size .ensures .few)
@@ -55,13 +61,13 @@ loop-less c = omega arith
 
 loop-again : tie.Need-loop-again Inv-loop μ-loop
 loop-again c =
-    let z = c .before in let x = z .before in let p = x .before in let k = p .before .before in
-    let t = k .before .before in let l = t .before .loop .inv in let b = t .before .before .pre .0 in
-    let r = sized (x .spell .ensures) (z .size .ensures) in
-    (omega arith, omega (arith, z .size .ensures .few), next-start (l .3) _ _ _ _ (k .kind .ensures) (p .param .ensures) (l .2) r, numbered-more (l .3) _ _ _ _ (k .kind .ensures) (p .param .ensures) (l .2) r (omega (arith, b .1, t .loop-test .taken)) (omega (arith, b .0, b .1, t .loop-test .taken)) (z .size .ensures .few) (l .1) _ (c .narrow .ensures), rowed-more (l .4) (omega (arith, b .1, t .loop-test .taken)) (k .kind .ensures) (p .param .ensures) (x .spell .ensures))
+    let z = c .before in let x = z .before in let k = x .before in let p = k .before .before in
+    let t = p .before .before in let l = t .before .loop .inv in let b = t .before .before .before .before .pre in
+    let r = sized (x .row-of .ensures) (b .1 .0) (b .1 .1) (z .size .ensures) in
+    (omega arith, omega (arith, z .size .ensures .few), next-start (l .3) _ _ _ _ (k .kind .ensures) (p .param .ensures) (l .2) r, numbered-more (l .3) _ _ _ _ (k .kind .ensures) (p .param .ensures) (l .2) r (omega (arith, b .0 .1, t .loop-test .taken)) (omega (arith, b .0 .0, b .0 .1, t .loop-test .taken)) (z .size .ensures .few) (l .1) _ (c .narrow .ensures), rowed-more (l .4) (omega (arith, b .0 .1, t .loop-test .taken)) (k .kind .ensures) (p .param .ensures) (x .row-of .ensures))
 
 returns : tie.Need-returns Inv-loop μ-loop
-returns c = let l = c .before .loop .inv in let r = ended {n = c .before .before .args .n} (omega arith) (l .3) (l .2) in ((r .1, omega arith, r .0), rowed-ended (omega arith) (l .4))
+returns c = let l = c .before .loop .inv in let r = ended {n = c .before .before .before .before .args .n} (omega arith) (l .3) (l .2) in ((r .1, omega arith, r .0), rowed-ended (omega arith) (l .4))
 
 pub number-spec : {M : Type 1} → statement M
 number-spec =
@@ -69,10 +75,12 @@ number-spec =
     (tie.spec
     Inv-loop
     μ-loop
+    first-kind-requires
+    end-kind-requires
     loop-holds
-    kind-requires
     param-requires
-    spell-requires
+    kind-requires
+    row-of-requires
     size-requires
     add-next
     sub-narrow

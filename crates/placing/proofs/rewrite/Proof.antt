@@ -4,21 +4,21 @@ use Rattle.placing.specs.Laws.Placed.{counted}
 use Rattle.placing.proofs.rewrite.Statement.{statement}
 use Rattle.placing.proofs.rewrite.Tie as tie
 
-number-requires : tie.Need-number-requires
-number-requires c κs = let p = c .before .before .pre in ((p .0 .0, p .0 .1, p .0 .2, p .0 .3), p .1)
-
 spell-requires : tie.Need-spell-requires
-spell-requires c κs = c .before .before .before .pre .1
+spell-requires c κs = c .pre .1
+
+number-requires : tie.Need-number-requires
+number-requires c κs = let x = c .before .before in let p = x .before .pre in ((p .0 .0, p .0 .1, p .0 .2, p .0 .3), (x .spell .ensures .first, x .spell .ensures .second, p .1))
 
 place-down-requires : tie.Need-place-down-requires
 place-down-requires c κs =
-    let x = c .before .before .before in let n = x .before in let p = n .before .before .before .pre .0 in
+    let n = c .before .before .before in let x = n .before .before .before in let p = x .before .pre .0 in
     (record { whole = p .0; numbered = n .number .ensures .0 .2; rowed = n .number .ensures .1 .0; first = x .spell .ensures .first; second = x .spell .ensures .second; room = p .4 }, n .number .ensures .1 .1)
 
 returns : tie.Need-returns
 returns c =
-    let n = c .before .before .before .before .before in let r = counted (n .number .ensures .0 .2) (n .number .ensures .0 .0) in
+    let n = c .before .before .before .before in let r = counted (n .number .ensures .0 .2) (n .number .ensures .0 .0) in
     ((r .0, c .place-down .ensures .0, r .1), (n .number .ensures .0 .2 .size, c .place-down .ensures .1 .0, c .place-down .ensures .1 .1))
 
 pub rewrite-spec : {M : Type 1} → statement M
-rewrite-spec = tie.close (tie.spec number-requires spell-requires place-down-requires returns)
+rewrite-spec = tie.close (tie.spec spell-requires number-requires place-down-requires returns)

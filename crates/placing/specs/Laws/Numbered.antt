@@ -19,7 +19,7 @@ use Rattle.condition.specs.Bytes.{nodeAt}
 use Rattle.limits.specs.Limits.{tableNodes}
 use Rattle.blocks.specs.declared.Spelling.{Spelling}
 use Rattle.blocks.specs.Spelling.{firstOf, secondOf, Spells, Sized}
-use Rattle.placing.specs.State.{blockIn, step, stateAt, imageOf, startOf, Numbered, imageIn, placedRow, spellingBy, Rowed, NonePlaced}
+use Rattle.placing.specs.State.{blockIn, step, stateAt, imageOf, startOf, Numbered, imageIn, placedRow, spellingOf, Rowed, NonePlaced}
 use Rattle.placing.specs.Laws.State.{images-length, image-at}
 use Rattle.placing.specs.Laws.Sizes.{block-some}
 
@@ -108,36 +108,29 @@ ended {s} {e} {images} {i} {n} {next} q N h = subst (λ (m : ℕ). Numbered s e 
 
 -- ---- rows
 
--- a spelling by its parts
-spells-by : {e : Edit} {k p : ℕ} {x : Spelling} {k′ p′ : ℕ} → k ≡ k′ → p ≡ p′ → Spells e k p x
-    → Spells e k′ p′ (record { row = x .row; w = p′; a = firstOf e; b = secondOf e })
-spells-by {e} {k} {p} {x} {k′} {p′} ek ep S =
-    subst (λ (n : ℕ). Spells e n p′ (record { row = x .row; w = p′; a = firstOf e; b = secondOf e })) ek
-    (subst (λ (n : ℕ). Spells e k n (record { row = x .row; w = n; a = firstOf e; b = secondOf e })) ep
-    (subst (λ (n : ℕ). Spells e k p (record { row = x .row; w = n; a = firstOf e; b = secondOf e })) (S .own)
-    (subst (λ (n : ℕ). Spells e k p (record { row = x .row; w = x .w; a = n; b = secondOf e })) (S .first)
-    (subst (λ (n : ℕ). Spells e k p (record { row = x .row; w = x .w; a = x .a; b = n })) (S .second) S))))
-
 -- its size is the block's
-pub sized : {e : Edit} {k p : ℕ} {x : Spelling} {r : ℕ} → Spells e k p x → Sized x r → (t u : ℕ) → r ≡ size (block e (kindOf k) p (old t) (old u))
-sized S Z t u = Z .right t u ∙ ap size (S .right t u)
+pub sized : {e : Edit} {k p row a b r : ℕ} → Spells e k p (spellingOf e p row) → a ≡ firstOf e → b ≡ secondOf e
+    → Sized (record { row = row; w = p; a = a; b = b }) r → (t u : ℕ) → r ≡ size (block e (kindOf k) p (old t) (old u))
+sized {e} {k} {p} {row} {a} {b} {r} S ea eb Z t u =
+    let z : Sized (spellingOf e p row) r = subst (λ (m : ℕ). Sized (record { row = row; w = p; a = m; b = secondOf e }) r) ea
+    (subst (λ (m : ℕ). Sized (record { row = row; w = p; a = a; b = m }) r) eb Z) in
+    z .right t u ∙ ap size (S .right t u)
 
 pub rowed-none : (s : List ℕ) (e : Edit) (rows : List ℕ) → length rows ≡ tableNodes → Rowed s e rows 0 × NonePlaced rows 0
 rowed-none s e rows h = (record { size = h; spells = λ j q. absurd (not-suc-le-zero q) }, λ j q. absurd (not-suc-le-zero q))
 
 -- one row more
-pub rowed-more : {s : List ℕ} {e : Edit} {rows : List ℕ} {n k p : ℕ} {x : Spelling} → Rowed s e rows n × NonePlaced rows n → n < tableNodes
-    → k ≡ nodeAt s n .kind → p ≡ nodeAt s n .param → Spells e k p x
-    → Rowed s e (set rows n (x .row)) (n + 1) × NonePlaced (set rows n (x .row)) (n + 1)
-rowed-more {s} {e} {rows} {n} {k} {p} {x} R b ek ep S =
-    let row = x .row in
+pub rowed-more : {s : List ℕ} {e : Edit} {rows : List ℕ} {n k p row : ℕ} → Rowed s e rows n × NonePlaced rows n → n < tableNodes
+    → k ≡ nodeAt s n .kind → p ≡ nodeAt s n .param → Spells e k p (spellingOf e p row)
+    → Rowed s e (set rows n row) (n + 1) × NonePlaced (set rows n row) (n + 1)
+rowed-more {s} {e} {rows} {n} {k} {p} {row} R b ek ep S =
     let here : getD (set rows n row) n 0 ≡ row = getD-set-same rows n row 0 (omega (arith, R .0 .size)) in (
       record {
         size = length-set rows n row ∙ R .0 .size;
         spells = λ j h ne.
             either
             (equal? j n)
-            (λ g. rw (g, here) (spells-by ek ep S))
+            (λ g. rw (g, here, ← ek, ← ep) S)
             (λ g. let o : getD (set rows n row) j 0 ≡ getD rows j 0 = getD-set-other rows n j row 0 g in
             rw o (R .0 .spells j (omega arith) (λ z. ne (o ∙ z))));
       },

@@ -9,20 +9,21 @@ use lib.Dec.{ltb}
 use lib.Seq.{getD-take, getD-set-same, getD-set-other, getD-append-add, ext-getD, length-take-le}
 use Rattle.finite.specs.Tests.{below}
 use Rattle.finite.specs.Laws.Bools.{either, look}
-use Rattle.finite.specs.Laws.Below.{below-out, not-below, equal?}
+use Rattle.finite.specs.Laws.Below.{below-in, below-out, below-not, not-below, equal?}
 use Rattle.semantics.specs.Edit.{Edit}
 use Rattle.semantics.specs.Table.{kindOf, Node}
 use Rattle.semantics.specs.Block.{Block, old, size, emit, block, rewriteTable}
 use Rattle.semantics.specs.Laws.Emit.{emit-length}
 use Rattle.condition.specs.Bytes.{nodeAt, nodes, bytesOf}
 use Rattle.condition.specs.Laws.Bytes.{length-bytes}
-use Rattle.limits.specs.Limits.{tableNodes, tableBytes}
+use Rattle.limits.specs.Limits.{tableNodes, tableBytes, notNo, orNo, diaNo, slotNo, kinds}
 use Rattle.blocks.specs.declared.Spelling.{Spelling}
 use Rattle.blocks.specs.Rows.{rowCount}
-use Rattle.blocks.specs.Spelling.{spelled, Spells, Sized}
-use Rattle.blocks.specs.Write.{puts, Written}
+use Rattle.blocks.specs.Spelling.{spelled, Spells, Sized, keptBy, usedBy, copyOf}
+use Rattle.blocks.specs.Laws.Rows.{sized-copy, copy-written}
+use Rattle.blocks.specs.Write.{put, puts, Written}
 use Rattle.blocks.specs.Laws.Write.{length-puts}
-use Rattle.placing.specs.State.{blockIn, step, stateAt, leftAt, rightAt, startOf, Numbered, imageIn, placedRow, spellingBy, Rowed, NonePlaced, Ready, Stands, Placing, lowerOf, higherOf}
+use Rattle.placing.specs.State.{blockIn, step, stateAt, leftAt, rightAt, startOf, Numbered, imageIn, placedRow, spellingOf, Rowed, NonePlaced, Ready, Stands, Placing, lowerOf, higherOf}
 use Rattle.placing.specs.Laws.State.{state-out, block-used}
 use Rattle.placing.specs.Laws.Numbered.{blockAt, start-more, starts-up, numbered-low, start-none, image-is, image-last, rowed-low}
 use Rattle.placing.specs.Laws.Puts.{puts-low, puts-high, puts-in, bytes-append}
@@ -108,7 +109,7 @@ ready-then {s} {e} {images} {rows} {out} {rows′} {out′} {a} {b} {n} Y P = re
     size = P .size ∙ Y .rowed .size;
     spells = λ j h ne.
         let o = P .same j ne in
-        subst (λ (m : ℕ). Spells e (nodeAt s j .kind) (nodeAt s j .param) (spellingBy e s j m)) (sym o) (Y .rowed .spells j h (λ z. ne (o ∙ z)));
+        subst (λ (m : ℕ). Spells e (nodeAt s j .kind) (nodeAt s j .param) (spellingOf e (nodeAt s j .param) m)) (sym o) (Y .rowed .spells j h (λ z. ne (o ∙ z)));
   };
   first = Y .first;
   second = Y .second;
@@ -165,6 +166,48 @@ module _ {s : List ℕ} {e : Edit} {images rows out : List ℕ} {a b : ℕ} (c :
 
       pub room-before : (n ≤ m + 1) × (m + 1 ≤ 22528)
       room-before = (omega (arith, ends), omega (arith, em, Y .numbered .imaged c (omega arith), image-last e s c, Y .numbered .few, ap (startOf e s) (add-one c)))
+
+-- ---- copies, written at once
+
+-- the copies of leaves, of nodes with one child but nots, and of those with two
+copy-leaf : (k p t u : ℕ) → k < notNo → record { kind = k; param = p; left = 0; right = 0 } ≡ copyOf k p t u
+unfolding copyOf keptBy usedBy
+copy-leaf k p t u h = let g : k < orNo = omega arith in rw (below-in k notNo h, below-in k orNo g) refl
+
+copy-one : (k p t u : ℕ) → diaNo ≤ k → k < slotNo → record { kind = k; param = p; left = t; right = 0 } ≡ copyOf k p t u
+unfolding copyOf keptBy usedBy
+copy-one k p t u g h =
+    let a : notNo ≤ k = omega arith in let b : orNo ≤ k = omega arith in
+    rw (below-not k notNo a, below-not k orNo b, below-not k diaNo g, below-in k slotNo h) refl
+
+copy-two : (k p t u : ℕ) → orNo ≤ k → k < diaNo → record { kind = k; param = 0; left = t; right = u } ≡ copyOf k p t u
+unfolding copyOf keptBy usedBy
+copy-two k p t u g h =
+    let a : notNo ≤ k = omega arith in let b : k < slotNo = omega arith in
+    rw (below-not k notNo a, below-not k orNo g, below-in k diaNo h, below-in k slotNo b) refl
+
+module _ {s : List ℕ} {e : Edit} {images rows out : List ℕ} {a b : ℕ} (c : ℕ) (Y : Ready s e images rows out a b (c + 1)) {row p m : ℕ}
+    (er : row ≡ getD rows c 0) (ne : row ≡ placedRow → ⊥) (ep : p ≡ nodeAt s c .param) (em : m ≡ getD images c 0) {rows′ out′ : List ℕ}
+    (e′ : rows′ ≡ set rows c placedRow) where
+  copy-placed : {t u : ℕ} (x : Node) → row < kinds → x ≡ copyOf row p t u → t ≡ imageIn images c (leftAt s c) → u ≡ imageIn images c (rightAt s c)
+      → out′ ≡ put out m x → Placing s e rows out rows′ out′ × (getD rows′ c 0 ≡ placedRow)
+  copy-placed {t} {u} x h ex et eu eo =
+      let y : Spelling = record { row = row; w = p; a = a; b = b } in
+      let z : m + 1 - 1 ≡ m = omega arith in
+      placed c Y er ne ep refl refl et eu (sized-copy y h) em (rw z (copy-written out y t u m h (eo ∙ ap (put out m) ex))) e′
+
+  pub placed-leaf : row < notNo → out′ ≡ put out m (record { kind = row; param = p; left = 0; right = 0 })
+      → Placing s e rows out rows′ out′ × (getD rows′ c 0 ≡ placedRow)
+  placed-leaf h eo = copy-placed _ (omega arith) (copy-leaf row p _ _ h) refl refl eo
+
+  pub placed-one : {l t : ℕ} → (diaNo ≤ row) × (row < slotNo) → l ≡ leftAt s c → t ≡ imageIn images c l
+      → out′ ≡ put out m (record { kind = row; param = p; left = t; right = 0 }) → Placing s e rows out rows′ out′ × (getD rows′ c 0 ≡ placedRow)
+  placed-one {l} {t} h el et eo = copy-placed _ (omega arith) (copy-one row p t _ (h .0) (h .1)) (et ∙ ap (imageIn images c) el) refl eo
+
+  pub placed-two : {l t r u : ℕ} → (orNo ≤ row) × (row < diaNo) → l ≡ leftAt s c → t ≡ imageIn images c l → r ≡ rightAt s c → u ≡ imageIn images c r
+      → out′ ≡ put out m (record { kind = row; param = 0; left = t; right = u }) → Placing s e rows out rows′ out′ × (getD rows′ c 0 ≡ placedRow)
+  placed-two {l} {t} {r} {u} h el et eq eu eo =
+      copy-placed _ (omega arith) (copy-two row p t u (h .0) (h .1)) (et ∙ ap (imageIn images c) el) (eu ∙ ap (imageIn images c) eq) eo
 
 -- ---- two nodes, one after the other
 
