@@ -17,6 +17,8 @@ def first_error(log):
         for line in f:
             if re.search(r": error", line):
                 return line.strip()
+            if re.search(r": no proof", line):
+                return "error: a function that is proved without a file is not: " + line.strip()
     return "no error line"
 
 
@@ -28,7 +30,7 @@ def main(crates):
         if crates and crate not in crates:
             continue
         error = first_error(log)
-        text = error.split(": error", 1)[-1]
+        text = error.split("error", 1)[-1]
         shows_nothing = error == "no error line" or any(word in text for word in NOTHING)
         weak += shows_nothing
         if shows_nothing or crates:
