@@ -18,7 +18,7 @@
  *   desk_classes   265 KB for any site
  *   desk_list      20 KB, and 430 bytes for each node on the condition's longest path, 810 where the node is a mu or nu:
  *                  0.9 MB for a line of 2,048 nodes, 1.7 MB for 2,047 loops inside each other
- *   desk_rewrite   under 100 KB, and 370 bytes for each node on the longest path of the tables that it goes through: under 1 MB in all
+ *   desk_rewrite   under 100 KB, and 210 bytes for each node on the longest path of the condition: 0.45 MB for a line of 2,048 nodes
  *   desk_job       what the largest of the four needs, and 5 KB. It lists two tables, the condition and the REWRITTEN one, and the
  *                  second has longer paths: DS, for instance, puts three nodes on the path for each diamond
  *
