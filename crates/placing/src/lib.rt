@@ -33,7 +33,7 @@ ghost use Rattle.sheet.specs.Bytes.{editOf};
 ghost use Rattle.limits.specs.Limits.{tableNodes, tableBytes, orNo, diaNo, slotNo};
 ghost use Rattle.blocks.specs.Spelling.{firstOf, secondOf, Spells};
 ghost use Rattle.blocks.specs.Write.{Written};
-ghost use Rattle.placing.specs.State.{leftAt, rightAt, startOf, Numbered, imageIn, placedRow, spellingOf, firstKind, endKind, Rowed, NonePlaced, Ready, Placing, lowerOf, higherOf};
+ghost use Rattle.placing.specs.State.{usedChild, leftAt, rightAt, startOf, Numbered, imageIn, placedRow, spellingOf, firstKind, endKind, Rowed, NonePlaced, Ready, Placing, lowerOf, higherOf};
 
 // Tables, images and rows are lent as whole arrays: a call passes a pointer for each, in a register, and a last call becomes a jump.
 
@@ -53,19 +53,26 @@ fn widen(x: u16) -> usize
     x as usize
 }
 
+// The field c of node i, of kind k, where it is a child, that is for the kinds from lo to below hi; and i where it is not used.
+fn used_child(k: u8, lo: u8, hi: u8, c: usize, i: usize) -> usize
+    ensures { λ r. ⌜ r ≡ usedChild lo hi k c i ⌝ }
+{
+    if k < lo {
+        return i;
+    }
+    if k < hi {
+        return c;
+    }
+    i
+}
+
 // The children of node i, and i where it has none.
 fn left_of(table: &[u8; TABLE_BYTES], i: usize) -> usize
     requires { ⌜ (length (now table) ≡ tableBytes) × (i < tableNodes) ⌝ }
     ensures { λ r. ⌜ r ≡ leftAt (now (table .entry)) i ⌝ }
 {
     let k = kind(table, i);
-    if k < NOT {
-        return i;
-    }
-    if k < SLOT {
-        return condition::left(table, i);
-    }
-    i
+    used_child(k, NOT, SLOT, condition::left(table, i), i)
 }
 
 fn right_of(table: &[u8; TABLE_BYTES], i: usize) -> usize
@@ -73,13 +80,7 @@ fn right_of(table: &[u8; TABLE_BYTES], i: usize) -> usize
     ensures { λ r. ⌜ r ≡ rightAt (now (table .entry)) i ⌝ }
 {
     let k = kind(table, i);
-    if k < OR {
-        return i;
-    }
-    if k < DIA {
-        return condition::right(table, i);
-    }
-    i
+    used_child(k, OR, DIA, condition::right(table, i), i)
 }
 
 // The image of the child c of node i, and 0 where c is not lower.

@@ -1,23 +1,23 @@
--- The left child, by kind.
+-- The left child of a node.
 use native.Mathlib.Omega.{arith}
-use Rattle.placing.specs.Laws.State.{left-low, left-in, left-high}
+use Rattle.limits.specs.Limits.{notNo, slotNo}
+use Rattle.placing.specs.Laws.State.{used}
+use Rattle.placing.specs.State.{leftAt}
 use Rattle.placing.proofs.left_of.Statement.{statement}
 use Rattle.placing.proofs.left_of.Tie as tie
 
 kind-requires : tie.Need-kind-requires
 kind-requires c κs = omega arith
 
-returns : tie.Need-returns
-returns c = left-low _ _ (c .before .kind .ensures) (c .if1 .taken)
-
 left-requires : tie.Need-left-requires
 left-requires c κs = omega arith
 
-returns-2 : tie.Need-returns-2
-returns-2 c = left-in _ _ (c .before .before .before .before .kind .ensures) (c .before .before .before .if1 .left) (c .before .before .if2 .taken) (c .left .ensures .0)
+used-child-requires : tie.Need-used-child-requires
+used-child-requires c κs = tt
 
-returns-3 : tie.Need-returns-3
-returns-3 c = left-high _ _ (c .before .before .kind .ensures) (c .before .if1 .left) (c .if2 .left)
+returns : tie.Need-returns
+unfolding leftAt
+returns c = used notNo slotNo _ (c .before .before .before .kind .ensures) (c .before .left .ensures .0) (c .used-child .ensures)
 
 pub left-of-spec : {M : Type 1} → statement M
-left-of-spec = tie.close (tie.spec kind-requires returns left-requires returns-2 returns-3)
+left-of-spec = tie.close (tie.spec kind-requires left-requires used-child-requires returns)

@@ -1,10 +1,10 @@
 -- Laws of the states of rewriting for one edit, and of a node's children.
-use mathlib.Core.Path.{_≡_, refl, sym, _∙_, ap}
+use mathlib.Core.Path.{_≡_, refl, sym, _∙_, ap, ap₂}
 use mathlib.Core.List.{List, [], _∷_, _++_}
 use Prim.Native.Nat.{ℕ, zero, suc, _≤_, _<_}
 use native.Mathlib.Omega.{arith}
 use native.Mathlib.Nat.{not-suc-le-zero}
-use borrow.Author.Tests.{lt-ltb, le-ltb}
+use borrow.Author.Tests.{le-ltb}
 use lib.ListN.{length, getD, length-append, List·getD-append}
 use Rattle.finite.specs.Laws.Bools.{either}
 use Rattle.finite.specs.Laws.Below.{equal?}
@@ -15,7 +15,7 @@ use Rattle.condition.specs.Bytes.{nodeAt, nodes}
 use Rattle.condition.specs.Laws.Bytes.{nodes-more}
 use Rattle.condition.specs.Laws.Limits.{each-kind, kind-past}
 use Rattle.limits.specs.Limits.{notNo, orNo, diaNo, slotNo}
-use Rattle.placing.specs.State.{State, blockIn, step, stateAt, imageOf, usedChild, leftAt, rightAt}
+use Rattle.placing.specs.State.{State, blockIn, step, stateAt, imageOf, usedChild}
 
 run : Edit → State → List Node → State
 run e st [] = st
@@ -67,13 +67,13 @@ rightBy (leaf k) r i = i
 rightBy (unary k) r i = i
 rightBy (binary k) r i = r
 
-left-used : (l i k : ℕ) → leftBy (kindOf k) l i ≡ usedChild 5 12 k l i
+left-used : (l i k : ℕ) → leftBy (kindOf k) l i ≡ usedChild notNo slotNo k l i
 unfolding kindOf leftBy
 left-used l i =
     each-kind _ refl refl refl refl refl refl refl refl refl refl refl refl
     (λ k h. rw (kind-past k h, le-ltb k 5 (omega arith), le-ltb k 12 h) refl)
 
-right-used : (r i k : ℕ) → rightBy (kindOf k) r i ≡ usedChild 6 8 k r i
+right-used : (r i k : ℕ) → rightBy (kindOf k) r i ≡ usedChild orNo diaNo k r i
 unfolding kindOf rightBy
 right-used r i =
     each-kind _ refl refl refl refl refl refl refl refl refl refl refl refl
@@ -89,34 +89,12 @@ block-by e (unary kMu) p images l r i = refl
 block-by e (unary kNu) p images l r i = refl
 block-by e (binary k) p images l r i = refl
 
--- the fields of node i that are no child, and those that are
-module _ (s : List ℕ) (i : ℕ) {k : ℕ} (e : k ≡ nodeAt s i .kind) where
-  pub left-low : k < notNo → i ≡ leftAt s i
-  unfolding leftAt
-  left-low h = rw (← e, lt-ltb k notNo h) refl
-
-  pub left-in : {l : ℕ} → notNo ≤ k → k < slotNo → l ≡ nodeAt s i .left → l ≡ leftAt s i
-  unfolding leftAt
-  left-in g h q = q ∙ rw (← e, le-ltb k notNo g, lt-ltb k slotNo h) refl
-
-  pub left-high : notNo ≤ k → slotNo ≤ k → i ≡ leftAt s i
-  unfolding leftAt
-  left-high g h = rw (← e, le-ltb k notNo g, le-ltb k slotNo h) refl
-
-  pub right-low : k < orNo → i ≡ rightAt s i
-  unfolding rightAt
-  right-low h = rw (← e, lt-ltb k orNo h) refl
-
-  pub right-in : {r : ℕ} → orNo ≤ k → k < diaNo → r ≡ nodeAt s i .right → r ≡ rightAt s i
-  unfolding rightAt
-  right-in g h q = q ∙ rw (← e, le-ltb k orNo g, lt-ltb k diaNo h) refl
-
-  pub right-high : orNo ≤ k → diaNo ≤ k → i ≡ rightAt s i
-  unfolding rightAt
-  right-high g h = rw (← e, le-ltb k orNo g, le-ltb k diaNo h) refl
+-- a child by the fields that were read
+pub used : (lo hi i : ℕ) {k k′ c c′ r : ℕ} → k ≡ k′ → c ≡ c′ → r ≡ usedChild lo hi k c i → r ≡ usedChild lo hi k′ c′ i
+used lo hi i e f h = h ∙ ap₂ (λ (k c : ℕ). usedChild lo hi k c i) e f
 
 -- a block reads the images of the used children alone
 pub block-used : (e : Edit) (k p : ℕ) (images : List ℕ) (l r i : ℕ)
-    → block e (kindOf k) p (old (getD images (usedChild 5 12 k l i) 0)) (old (getD images (usedChild 6 8 k r i) 0))
+    → block e (kindOf k) p (old (getD images (usedChild notNo slotNo k l i) 0)) (old (getD images (usedChild orNo diaNo k r i) 0))
     ≡ block e (kindOf k) p (old (getD images l 0)) (old (getD images r 0))
 block-used e k p images l r i = rw (← left-used l i k, ← right-used r i k) (block-by e (kindOf k) p images l r i)
