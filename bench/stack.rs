@@ -60,14 +60,14 @@ pub fn show() {
     let base = used(None);
     println!("\nStack of the library, bytes");
     for (what, call) in [
-        ("listing, 2,047 loops in each other", Call::List(dense.clone(), loops.clone())),
+        ("listing, 2,047 nested loops", Call::List(dense.clone(), loops.clone())),
         ("listing, a line of 2,048 nodes", Call::List(dense.clone(), inputs::line(NODES))),
         ("listing, one node", Call::List(dense.clone(), inputs::shared(1))),
         ("applying, 64 edits", Call::Apply(dense.clone(), inputs::slots_gone(64))),
         ("rewriting, to 1,792 nodes", Call::Rewrite(mixed.clone(), sheet.clone())),
         ("rewriting, a line of 2,048 nodes", Call::Rewrite(inputs::line(NODES), inputs::labels(0))),
         ("classes", Call::Classes(dense.clone())),
-        ("the job, 2,047 loops in each other", Call::job(dense, loops, inputs::labels(0))),
+        ("the job, 2,047 nested loops", Call::job(dense, loops, inputs::labels(0))),
     ] {
         println!("{what:40} {:>9}", used(Some(&call)) - base);
     }
