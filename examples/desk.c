@@ -1,5 +1,5 @@
-/* The desk called from C: site A, the condition R and the job J of the specification, built by hand. Each answer is compared with the one
- * that the specification gives; the program returns 1 if one differs. */
+/* The desk called from C, on the examples of docs/SPEC.md, "A worked job" and "More examples": site A, the condition R and the job J, built
+ * byte by byte. Each answer is compared with the one that the specification gives. The program returns 1 if an answer differs. */
 #include "desk.h"
 
 #include <stdio.h>
@@ -20,7 +20,7 @@ static void put_slot(uint8_t *set, int slot)
     set[slot / 8] |= (uint8_t)(1 << slot % 8);
 }
 
-/* Slots 0 to 3, label 0 on 1, link 4 from 2 to 1 and from 3 to 2, name 1 at 2, name 2 at 3. */
+/* Site A: slots 0 to 3 are present, label 0 is on slot 1, link 4 leads from 2 to 1 and from 3 to 2, name 1 is at 2, name 2 at 3. */
 static void build_a(uint8_t *site)
 {
     memset(site, 0, DESK_SITE_BYTES);
@@ -33,7 +33,7 @@ static void build_a(uint8_t *site)
     site[DESK_TARGETS_AT + 3] = 2;
 }
 
-/* mu 0 (label 0 or diamond 4 variable 0): kind, parameter, left, right */
+/* Condition R, mu 0 (label 0 or diamond 4 of variable 0): kind, parameter, left (2 bytes), right (2 bytes) */
 static const uint8_t condition_r[] = {
     2,  0, 0, 0, 0, 0, /* 0: label 0 */
     4,  0, 0, 0, 0, 0, /* 1: variable 0 */
@@ -54,7 +54,7 @@ static const uint8_t even[] = {4, 0, 0, 0, 0, 0, 5, 0, 0, 0, 0, 0, 5, 0, 1, 0, 0
 static uint8_t site_a[DESK_SITE_BYTES];
 static uint8_t result[DESK_SITE_BYTES], table[DESK_TABLE_BYTES], set[DESK_SET_BYTES], classes[DESK_CLASSES_BYTES], work[DESK_WORK_BYTES];
 
-/* Whether the condition lists exactly these slots, slot s being weight 2 to the power s of `slots`. */
+/* Whether the condition lists exactly the slots s whose bit, of weight 2 to the power s, is in `slots`. */
 static int lists(const uint8_t *site, const uint8_t *cond, size_t cond_len, uint8_t slots)
 {
     const uint8_t wanted[DESK_SET_BYTES] = {slots};
@@ -65,7 +65,7 @@ static int lists(const uint8_t *site, const uint8_t *cond, size_t cond_len, uint
     return r.reason == DESK_OK && r.where == 0 && r.count == count && memcmp(set, wanted, sizeof set) == 0;
 }
 
-/* Whether the condition lists these slots on the site that the sheet leaves, and rewritten on A. */
+/* Whether the condition lists these slots on the site that the sheet leaves, and the rewritten condition lists them on A. */
 static int both_list(const uint8_t *cond, size_t cond_len, const uint8_t *sheet, size_t sheet_len, uint8_t slots)
 {
     struct desk_applied a = desk_apply(site_a, sizeof site_a, sheet, sheet_len, result, sizeof result);
@@ -79,7 +79,7 @@ static uint32_t nodes(const uint8_t *sheet, size_t sheet_len)
     return desk_rewrite(condition_r, sizeof condition_r, sheet, sheet_len, table, sizeof table).nodes;
 }
 
-/* Whether the first edit of the sheet does not go through on A, and the result is zeros. */
+/* Whether the sheet is refused because its first edit does not go through on A, and the result is all zeros. */
 static int does_not_go_through(const uint8_t *sheet, size_t sheet_len)
 {
     struct desk_applied r = desk_apply(site_a, sizeof site_a, sheet, sheet_len, result, sizeof result);

@@ -1,6 +1,6 @@
-/* A cooperative plans to pull a probe. Which places still have a chain of uplinks to a gateway afterwards, and which fans does no connected
- * probe drive then? All that it uses is explained in docs/SPEC.md and include/desk.h. It prints examples/plan.out, and returns 1 if a call
- * is refused.
+/* A cooperative plans to pull a probe. Which places will still have a chain of uplinks to a gateway, and which fans will no longer be driven
+ * by a connected probe? Everything that this program uses is explained in docs/SPEC.md and include/desk.h. It prints examples/plan.out, and
+ * returns 1 if a call is refused.
  *
  *     rt staticlib desk
  *     gcc -std=c11 -Iinclude examples/plan.c target/staticlib/libdesk.a -o plan && ./plan
@@ -11,11 +11,11 @@
 #include <stdio.h>
 #include <string.h>
 
-/* ---- what our numbers stand for */
+/* ---- what the numbers stand for */
 
 enum { GATEWAY, RELAY, PROBE, FAN };                            /* labels */
-enum { DRIVES, UPLINK = DESK_GENERAL_LINKS };                   /* links: a probe drives any number of fans; one uplink a place */
-enum { PULLED = 1 };                                            /* names: the probe to be pulled; name 0 is nil's */
+enum { DRIVES, UPLINK = DESK_GENERAL_LINKS };                   /* links: a probe drives any number of fans; a place has at most one uplink */
+enum { PULLED = 1 };                                            /* names: the probe to be pulled; name 0 is always at nil */
 enum { CONNECTED };                                             /* variables */
 enum { OFF_SITE = DESK_NIL, OFFICE, HILL, BARN, ORCHARD, BIN_1, BIN_2, HAY, SEED, FAN_1, FAN_2, FAN_3, FAN_4, PLACES }; /* slots */
 
@@ -40,7 +40,7 @@ static const struct place places[PLACES] = {
     {"fan 4, orchard", FAN, ORCHARD, {OFF_SITE, OFF_SITE}},
 };
 
-/* An uplink chain leads to a gateway: mu CONNECTED (label GATEWAY or diamond UPLINK CONNECTED). */
+/* A chain of uplinks leads to a gateway: mu CONNECTED (label GATEWAY or diamond UPLINK of CONNECTED). */
 #define CHAIN_TO_GATEWAY                                                                            \
     DESK_NODE_INIT(DESK_KIND_LABEL, GATEWAY, 0, 0),            /* 0 */                              \
         DESK_NODE_INIT(DESK_KIND_VARIABLE, CONNECTED, 0, 0),   /* 1 */                              \
@@ -50,11 +50,11 @@ static const struct place places[PLACES] = {
 
 static const uint8_t chain[] = {CHAIN_TO_GATEWAY};
 
-/* A fan, and all that drive it are without such a chain. */
+/* A fan such that nothing that drives it has a chain of uplinks to a gateway. */
 static const uint8_t idle_fan[] = {
     CHAIN_TO_GATEWAY,
     DESK_NODE_INIT(DESK_KIND_NOT, 0, 4, 0),                    /* 5 */
-    DESK_NODE_INIT(DESK_KIND_BOX, DESK_REVERSE(DRIVES), 5, 0), /* 6: each that drives it is in 5 */
+    DESK_NODE_INIT(DESK_KIND_BOX, DESK_REVERSE(DRIVES), 5, 0), /* 6: all that drive it are in 5 */
     DESK_NODE_INIT(DESK_KIND_LABEL, FAN, 0, 0),                /* 7 */
     DESK_NODE_INIT(DESK_KIND_AND, 0, 6, 7),                    /* 8 */
 };
@@ -94,7 +94,7 @@ static void put_distance(uint8_t *at, size_t distance)
         at[k] = (uint8_t)(distance >> k * CHAR_BIT);
 }
 
-/* The file of a job; gives its length. */
+/* Builds the file of a job and returns its length. */
 static size_t build_file(uint8_t *file, const uint8_t *site, const uint8_t *cond, size_t cond_len, const uint8_t *sheet, size_t sheet_len)
 {
     uint8_t *cond_at = file + DESK_SITE_BYTES, *sheet_at = cond_at + cond_len, *trailer = sheet_at + sheet_len;
@@ -110,7 +110,7 @@ static size_t build_file(uint8_t *file, const uint8_t *site, const uint8_t *cond
 /* ---- asking */
 
 struct plan {
-    uint8_t before[DESK_SET_BYTES], after[DESK_SET_BYTES], today[DESK_SET_BYTES]; /* of the condition twice, and of the rewritten one */
+    uint8_t before[DESK_SET_BYTES], after[DESK_SET_BYTES], today[DESK_SET_BYTES]; /* lists: of the condition twice, of the rewritten one */
     uint8_t site_after[DESK_SITE_BYTES];
     struct desk_listed listed;
     struct desk_done done;
@@ -123,7 +123,7 @@ static int refused(uint32_t reason, uint32_t where)
     return reason != DESK_OK;
 }
 
-/* Lists a condition before and after the probe is pulled; 0 if neither call was refused. */
+/* Lists a condition before and after the probe is pulled. Returns 0 if neither call was refused. */
 static int ask(struct plan *plan, const uint8_t *site, const uint8_t *cond, size_t cond_len)
 {
     static uint8_t file[DESK_FILE_BYTES_MAX], table[DESK_TABLE_BYTES], classes[DESK_CLASSES_BYTES], work[DESK_WORK_BYTES];

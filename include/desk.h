@@ -1,31 +1,31 @@
 /* The desk for C: five functions over bytes, in libdesk.a (`rt staticlib desk`), for x86-64 Linux.
  *
- * docs/SPEC.md says what the bytes mean. This file has their numbers, so that no caller has to write one: where each part of a site
- * stands, the kinds of node, the ways, the operations, the lengths of buffers and the reasons for a refusal. examples/plan.c shows them
- * in use.
+ * docs/SPEC.md says what the bytes mean and has a glossary. This file names all the numbers, so that no caller has to write one: the
+ * offset of each part of a site, the kinds of node, the ways, the operations, the lengths of buffers and the reasons for a refusal.
+ * examples/plan.c shows them in use.
  *
- * Every input has its answer. Either the reason is DESK_OK and the result is whole, or the reason is the lowest item that the input
- * meets; then `where` is the node or edit at fault, counted from 0 (0 where the item has none), every result and work buffer is all
- * zeros at whatever length it has, and the counts are 0. Items are tested in their order, each over all the inputs of the function.
+ * Every input gets an answer. Either the reason is DESK_OK and the result is complete; or the reason is the lowest item that the input
+ * meets. In that case `where` is the node or edit at fault, counted from 0 (0 if the item names none), every result and work buffer is
+ * all zeros, whatever its length, and the counts are 0. Items are tested in order, each over all the inputs of the function.
  *
- * Each pointer is valid for its length and is not NULL, even for a length of 0. No result or work buffer overlaps another buffer or an
- * input. Inputs are only read. Nothing is kept between calls, so threads may call at the same time.
+ * Each pointer must be valid for its length and must not be NULL, even for a length of 0. No result or work buffer may overlap another
+ * buffer or an input. Inputs are only read. Nothing is kept between calls, so several threads may call at the same time.
  *
- * Stack. No contract speaks of it; these figures are measured and rounded up. A thread with DESK_STACK_BYTES can make every call. By
- * function:
+ * Stack. No contract covers it; these figures are measured and rounded up. A thread with DESK_STACK_BYTES of stack can make every call.
+ * By function:
  *
  *   desk_apply     under 1 KB for any input
  *   desk_classes   265 KB for any site
- *   desk_list      20 KB, and 430 bytes for each node on the condition's longest path, 810 where the node is a mu or nu:
- *                  0.9 MB for a line of 2,048 nodes, 1.7 MB for 2,047 loops inside each other
- *   desk_rewrite   under 100 KB, and 210 bytes for each node on the longest path of the condition: 0.45 MB for a line of 2,048 nodes
- *   desk_job       what the largest of the four needs, and 5 KB. It lists two tables, the condition and the REWRITTEN one, and the
+ *   desk_list      20 KB, plus 430 bytes for each node on the longest path of the condition, or 810 if the node is a mu or nu:
+ *                  0.9 MB for a line of 2,048 nodes, 1.7 MB for 2,047 nested loops
+ *   desk_rewrite   under 100 KB, plus 210 bytes for each node on the longest path of the condition: 0.45 MB for a line of 2,048 nodes
+ *   desk_job       the largest of the above, plus 5 KB. It lists two tables, the condition and the REWRITTEN one, and the
  *                  second has longer paths: DS, for instance, puts three nodes on the path for each diamond
  *
- * Time. There is no limit on rounds: a mu or nu is evaluated round by round, up to DESK_SLOT_COUNT times, and one that reads the variable
- * of a loop around it starts again in every round of that loop, so nested loops multiply. On a chain of 256 slots one loop took 0.2 ms,
- * two took 36 ms and three took 7.5 s. Everything else that was measured took less than 50 ms. Where conditions come from strangers,
- * call desk_list and desk_job in a process that you can end.
+ * Time. There is no limit on rounds. A mu or nu is evaluated round by round, in up to DESK_SLOT_COUNT rounds. If it reads the variable of a
+ * loop around it, it starts again in every round of that loop, so the rounds of nested loops multiply. On a chain of 256 slots one loop
+ * took 0.2 ms, two nested loops took 36 ms and three took 7.5 s. Everything else that was measured took less than 50 ms. If conditions come
+ * from strangers, call desk_list and desk_job in a process that you can end.
  */
 #ifndef DESK_H
 #define DESK_H
@@ -45,11 +45,11 @@ extern "C" {
 #define DESK_LINK_COUNT 8
 #define DESK_VARIABLE_COUNT 16
 
-/* Links below this number are general (any number of targets), the others functional (one target at most). */
+/* Links below this number are general (a slot can have any number of targets), the others functional (at most one target). */
 #define DESK_GENERAL_LINKS 4
 #define DESK_FUNCTIONAL_LINKS (DESK_LINK_COUNT - DESK_GENERAL_LINKS)
 
-/* Slot 0 is "off-site". Name 0 is always there, and a functional link without a target has it as target. */
+/* Slot 0 is "off-site". Name 0 is always at it, and a slot without a target by a functional link has 0 in the target's byte. */
 #define DESK_NIL 0
 
 /* ---- sets of slots: slot s is the bit DESK_SET_WEIGHT(s) of byte DESK_SET_BYTE(s) */
@@ -58,7 +58,7 @@ extern "C" {
 #define DESK_SET_BYTE(s) ((s) / 8)
 #define DESK_SET_WEIGHT(s) (1 << (s) % 8)
 
-/* ---- the site: where each part begins, counted in bytes from the site's first */
+/* ---- the site: where each part begins, in bytes from the start of the site */
 
 #define DESK_PRESENT_AT 0                                                              /* the present slots, a set */
 #define DESK_LABELS_AT (DESK_PRESENT_AT + DESK_SET_BYTES)                              /* a set for each label */
@@ -78,29 +78,29 @@ extern "C" {
 #define DESK_NODES_MAX 2048
 #define DESK_CONDITION_BYTES_MAX (DESK_NODES_MAX * DESK_NODE_BYTES)
 
-/* Parameter and children are those named; fields not named are 0. */
+/* The comments name the parameter and the children that a kind uses; the other fields are 0. */
 enum desk_kind {
     DESK_KIND_TRUE = 0,         /* every slot */
     DESK_KIND_HERE = 1,         /* the present slots */
-    DESK_KIND_LABEL = 2,        /* parameter: a label. The slots that have it */
-    DESK_KIND_NAME = 3,         /* parameter: a name. Its slot */
-    DESK_KIND_VARIABLE = 4,     /* parameter: a variable, bound by a mu or nu above */
-    DESK_KIND_NOT = 5,          /* left */
-    DESK_KIND_OR = 6,           /* left, right */
-    DESK_KIND_AND = 7,          /* left, right */
-    DESK_KIND_DIAMOND = 8,      /* parameter: a way; left. Some neighbour by the way is in left */
-    DESK_KIND_BOX = 9,          /* parameter: a way; left. Every neighbour by the way is in left (so it holds where there is none) */
+    DESK_KIND_LABEL = 2,        /* parameter: a label. The slots that have the label */
+    DESK_KIND_NAME = 3,         /* parameter: a name. The slot of the name */
+    DESK_KIND_VARIABLE = 4,     /* parameter: a variable, bound by a mu or nu above it. The variable's current set */
+    DESK_KIND_NOT = 5,          /* left. All slots that are not in left, absent ones too */
+    DESK_KIND_OR = 6,           /* left, right. The slots in one of the two, or in both */
+    DESK_KIND_AND = 7,          /* left, right. The slots in both */
+    DESK_KIND_DIAMOND = 8,      /* parameter: a way; left. The slots with some neighbour by the way in left */
+    DESK_KIND_BOX = 9,          /* parameter: a way; left. The slots whose neighbours by the way are all in left, also those without any */
     DESK_KIND_MU = 10,          /* parameter: a variable; left. The least fixed point of left */
     DESK_KIND_NU = 11,          /* parameter: a variable; left. The greatest fixed point of left */
-    DESK_KIND_SLOT = 12         /* parameter: a slot, present or not. That slot */
+    DESK_KIND_SLOT = 12         /* parameter: a slot, present or absent. That slot alone */
 };
 
-/* The ways of diamonds and boxes: way m below DESK_LINK_COUNT follows link m, DESK_REVERSE(m) goes against it, and DESK_EVERYWHERE, E,
- * reaches all DESK_SLOT_COUNT slots from each, absent ones too. */
+/* The ways of diamonds and boxes. Way m, below DESK_LINK_COUNT, follows link m. DESK_REVERSE(m) goes against link m. DESK_EVERYWHERE, called
+ * E, leads from every slot to all DESK_SLOT_COUNT slots, absent ones too. */
 #define DESK_REVERSE(m) ((m) + DESK_LINK_COUNT)
 #define DESK_EVERYWHERE (2 * DESK_LINK_COUNT)
 
-/* The bytes of a node and of an edit, for an array's initializer: { DESK_NODE_INIT(..), DESK_NODE_INIT(..), .. } */
+/* The bytes of a node and of an edit, for the initializer of an array: { DESK_NODE_INIT(..), DESK_NODE_INIT(..), .. } */
 #define DESK_NODE_INIT(kind, parameter, left, right) (kind), (parameter), (left) % 256, (left) / 256, (right) % 256, (right) / 256
 #define DESK_EDIT_INIT(operation, first, second, third) (operation), (first), (second), (third)
 
@@ -110,18 +110,18 @@ enum desk_kind {
 #define DESK_EDITS_MAX 64
 #define DESK_SHEET_BYTES_MAX (DESK_EDITS_MAX * DESK_EDIT_BYTES)
 
-/* Operands in their order; those not named are 0. n, n1, n2 are names, @n is the slot of name n, p is a label, m any link, f one of 4 to 7,
- * k a slot. */
+/* The comments name the operands in their order; the others are 0. n, n1 and n2 are names, @n is the slot of name n, p is a label, m any link,
+ * f a link from 4 to 7, k a slot. */
 enum desk_operation {
     DESK_OP_CN1 = 0,            /* n1 n2     n1, not 0, moves to @n2 */
     DESK_OP_CN2 = 1,            /* n1 n2 f   n1, not 0, moves to the f-target of @n2, or to nil */
     DESK_OP_AP = 2,             /* n p       @n gains label p */
     DESK_OP_DP = 3,             /* n p       @n loses label p */
-    DESK_OP_AT = 4,             /* m n1 n2   link m from @n1 to @n2 is added; neither is nil; for m 4 to 7 @n1 has no target or has @n2 */
+    DESK_OP_AT = 4,             /* m n1 n2   a link m from @n1 to @n2 is added; neither is nil; for m 4 to 7, @n1 has no m-target or has @n2 */
     DESK_OP_DT1 = 5,            /* m n1 n2   that link is removed, if it is there */
     DESK_OP_DT2 = 6,            /* f n       the f-target of @n is removed, if there is one */
-    DESK_OP_AS = 7,             /* n k       slot k, absent before, is present; n, not 0, moves to it */
-    DESK_OP_DS = 8              /* n         @n, not nil, is absent; its labels and links go; names there move to nil */
+    DESK_OP_AS = 7,             /* n k       slot k, absent before, becomes present; n, not 0, moves to it */
+    DESK_OP_DS = 8              /* n         @n, not nil, becomes absent; its labels and links are removed; names there move to nil */
 };
 
 /* ---- the job file: site, condition, sheet and trailer, with nothing between them */
@@ -130,7 +130,7 @@ enum desk_operation {
 #define DESK_FILE_MAX_BYTES DESK_FILE_BYTES_MAX
 #define DESK_DISTANCE_BYTES 4    /* an unsigned number, low byte first */
 
-/* Three distances, from the trailer's first byte back to the first byte of the sheet, of the condition and of the site. */
+/* Three distances, from the first byte of the trailer back to the first byte of the sheet, of the condition and of the site. */
 #define DESK_TRAILER_BYTES (3 * DESK_DISTANCE_BYTES)
 #define DESK_TO_SHEET_AT 0
 #define DESK_TO_CONDITION_AT DESK_DISTANCE_BYTES
@@ -144,25 +144,25 @@ enum desk_operation {
 
 #define DESK_STACK_BYTES 4194304
 
-/* ---- why an input is sent back. The texts are those of docs/SPEC.md, "Reasons"; `where` is 0 unless it is named */
+/* ---- why an input is refused: the items of docs/SPEC.md, "Reasons". `where` is 0 unless the comment names it */
 enum desk_reason {
     DESK_OK = 0,
-    DESK_BUFFER_LENGTH = 1,     /* a result or work buffer has another length than stated */
-    DESK_FILE = 2,              /* the file is under 12 or over 65,536 bytes, a distance is below the one before it, or the last is not
-                                 * the length less 12 */
+    DESK_BUFFER_LENGTH = 1,     /* a result or work buffer does not have its stated length */
+    DESK_FILE = 2,              /* the file has under 12 or over 65,536 bytes, a distance is below the one before it, or the last is not
+                                 * the file's length less 12 */
     DESK_SITE_LENGTH = 3,       /* the site does not have DESK_SITE_BYTES bytes */
-    DESK_NAMES = 4,             /* slot 0 is absent, name 0 is elsewhere, or a name is at an absent slot */
+    DESK_NAMES = 4,             /* slot 0 is absent, name 0 is not at slot 0, or a name is at an absent slot */
     DESK_LABELS = 5,            /* a label is on an absent slot */
-    DESK_LINKS = 6,             /* a link touches slot 0 or an absent slot */
-    DESK_CONDITION_LENGTH = 7,  /* the condition is not a multiple of 6 from 6 to 12,288 bytes */
-    DESK_NODE = 8,              /* a node has an unknown kind, a field out of range, a child not lower than itself, or an unused field
-                                 * that is not 0; where: the lowest such node */
+    DESK_LINKS = 6,             /* a link starts or ends at slot 0 or at an absent slot */
+    DESK_CONDITION_LENGTH = 7,  /* the condition's length is not a multiple of 6 from 6 to 12,288 */
+    DESK_NODE = 8,              /* a node has an unknown kind, a parameter out of range, a child that is not lower than the node, or an
+                                 * unused field that is not 0; where: the lowest such node */
     DESK_EVEN_RULE = 9,         /* a mu or nu has its variable under an odd number of nots; where: the lowest such mu or nu */
     DESK_FREE_VARIABLE = 10,    /* the last node has a free variable; where: the last node */
-    DESK_SHEET_LENGTH = 11,     /* the sheet is not a multiple of 4 from 0 to 256 bytes */
-    DESK_EDIT = 12,             /* an edit has an unknown operation, an operand out of range or forbidden, or an unused one that is not
-                                 * 0; where: the lowest such edit */
-    DESK_NOT_THROUGH = 13,      /* an edit does not go through on the site it meets; where: the first such edit */
+    DESK_SHEET_LENGTH = 11,     /* the sheet's length is not a multiple of 4 from 0 to 256 */
+    DESK_EDIT = 12,             /* an edit has an unknown operation, an operand out of range or forbidden, or an unused operand that is
+                                 * not 0; where: the lowest such edit */
+    DESK_NOT_THROUGH = 13,      /* an edit does not go through on the site that the edits before it leave; where: the first such edit */
     DESK_TABLE_FULL = 14        /* after some edit the rewritten table has over 2,048 nodes */
 };
 
@@ -170,7 +170,7 @@ enum desk_reason {
 
 struct desk_listed {
     uint32_t reason, where;
-    uint32_t count;             /* the slots in the set */
+    uint32_t count;             /* how many slots are in the set */
 };
 
 struct desk_applied {
@@ -179,41 +179,41 @@ struct desk_applied {
 
 struct desk_rewritten {
     uint32_t reason, where;
-    uint32_t nodes;             /* the nodes of the rewritten table */
+    uint32_t nodes;             /* how many nodes the rewritten table has */
 };
 
 struct desk_classed {
     uint32_t reason, where;
-    uint32_t count;             /* the different class numbers */
+    uint32_t count;             /* how many different class numbers there are */
 };
 
 struct desk_done {
     uint32_t reason, where;
-    uint32_t after, today;      /* the slots listed on the site after, and by the rewritten table on the site of the file */
-    uint32_t nodes;             /* the nodes of the rewritten table */
-    uint32_t classes;           /* the different class numbers on the site after */
+    uint32_t after, today;      /* how many slots the condition lists on the site after, and the rewritten table on the site of the file */
+    uint32_t nodes;             /* how many nodes the rewritten table has */
+    uint32_t classes;           /* how many different class numbers the site after has */
 };
 
-/* Puts the slots where the condition holds on the site into `set` (DESK_SET_BYTES). Items 1, 3 to 10. */
+/* Writes the set of slots where the condition holds on the site into `set` (DESK_SET_BYTES). Items 1, 3 to 10. */
 struct desk_listed desk_list(const uint8_t *site, size_t site_len, const uint8_t *cond, size_t cond_len,
                              uint8_t *set, size_t set_len, uint8_t *work, size_t work_len);
 
-/* Puts the site that the whole sheet leaves into `result` (DESK_SITE_BYTES). Items 1, 3 to 6, 11 to 13. */
+/* Writes the site that the whole sheet leaves into `result` (DESK_SITE_BYTES). Items 1, 3 to 6, 11 to 13. */
 struct desk_applied desk_apply(const uint8_t *site, size_t site_len, const uint8_t *sheet, size_t sheet_len,
                                uint8_t *result, size_t result_len);
 
-/* Puts the condition rewritten through the sheet into `result` (DESK_TABLE_BYTES): on each site on which the sheet goes through it lists
- * what the condition lists on the site that the sheet leaves. The table is the first DESK_NODE_BYTES times `nodes` bytes, and can be
- * handed to desk_list as it stands. Items 1, 7 to 12, 14. */
+/* Writes the condition, rewritten through the sheet, into `result` (DESK_TABLE_BYTES). On each site on which the sheet goes through, the
+ * rewritten condition lists what the condition lists on the site that the sheet leaves. The table is the first DESK_NODE_BYTES times `nodes`
+ * bytes, and can be passed to desk_list as it is. Items 1, 7 to 12, 14. */
 struct desk_rewritten desk_rewrite(const uint8_t *cond, size_t cond_len, const uint8_t *sheet, size_t sheet_len,
                                    uint8_t *result, size_t result_len);
 
-/* Puts for each slot the lowest slot that some likeness (bisimulation) relates to it into `classes` (DESK_CLASSES_BYTES).
+/* Writes the class number of each slot into `classes` (DESK_CLASSES_BYTES): the lowest slot that some likeness (bisimulation) relates to it.
  * Items 1, 3 to 6. */
 struct desk_classed desk_classes(const uint8_t *site, size_t site_len, uint8_t *classes, size_t classes_len);
 
-/* Runs a job file: the site after, the rewritten table, the condition's set on the site after, the table's set on the site of the file,
- * and the classes of the site after. Items 1 to 14. */
+/* Runs a job file. Writes the site after into `site`, the rewritten table into `table`, the condition's set on the site after into `after`,
+ * the rewritten table's set on the site of the file into `today`, and the class numbers of the site after into `classes`. Items 1 to 14. */
 struct desk_done desk_job(const uint8_t *file, size_t file_len, uint8_t *site, size_t site_len, uint8_t *table, size_t table_len,
                           uint8_t *after, size_t after_len, uint8_t *today, size_t today_len,
                           uint8_t *classes, size_t classes_len, uint8_t *work, size_t work_len);
