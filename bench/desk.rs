@@ -1,4 +1,4 @@
-//! The desk once more, in plain Rust, written from the paper alone: what the proved library is measured beside.
+//! A second desk in plain Rust, written from the specification alone. The proved library is timed beside it.
 //!
 //! The five functions have the library's arguments and answers, test the same items in the same order, and leave the same bytes in
 //! every buffer. Sets are four words; listing keeps each node's set and computes it again where a free variable has moved.

@@ -173,7 +173,7 @@ pub fn mixed(n: usize, ways: usize) -> Vec<u8> {
     t.0
 }
 
-/// Loops in loops, mu and nu by turns. On a chain each makes as many rounds as there are slots, in every round of the one around it:
+/// Nested loops, mu and nu in turn. On a chain each makes as many rounds as there are slots, in every round of the one around it:
 /// mu x (label 0 or <4> x or (label 15 and ..)), nu x (<4> x or (label 15 and ..)), where no slot has label 15 and `..` is the variable
 /// of the loop around and the loop inside.
 pub fn nested(depth: usize) -> Vec<u8> {
@@ -222,7 +222,7 @@ pub fn cuts(n: usize) -> Vec<u8> {
     (0..n).flat_map(|k| [5, 0, 1, 1 + (k % (NAMES - 1)) as u8]).collect()
 }
 
-/// DS and then AS of the same slot, by turns.
+/// DS and AS of the same slot, in turn.
 pub fn slots_gone(n: usize) -> Vec<u8> {
     let slot = |k: usize| 2 + (k / 2 % (NAMES - 2)) as u8;
     (0..n).flat_map(|k| if k % 2 == 0 { [8, slot(k), 0, 0] } else { [7, slot(k), slot(k), 0] }).collect()

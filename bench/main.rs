@@ -200,7 +200,7 @@ fn listing() {
         measure(&format!("mu along {what}; sparse"), Call::List(sparse.clone(), inputs::reach(way)));
         measure(&format!("mu along {what}; dense"), Call::List(dense.clone(), inputs::reach(way)));
     }
-    title("Listing: loops in loops, mu and nu by turns, on a chain");
+    title("Listing: nested loops, mu and nu in turn, on a chain");
     for (depth, sizes) in [(1, [16, 64, 256]), (2, [16, 64, 256]), (3, [16, 32, 64])] {
         for n in sizes {
             measure(&format!("{depth} deep"), Call::List(inputs::chain(n), inputs::nested(depth)));
