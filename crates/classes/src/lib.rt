@@ -10,7 +10,7 @@ ghost use Rattle.site.specs.Layout.{siteBytes, rowsBytes};
 ghost use Rattle.site.specs.Site.{siteOf};
 ghost use Rattle.partition.specs.Gains.{Gains};
 ghost use Rattle.partition.specs.Rows.{waysBytes};
-ghost use Rattle.partition.specs.Partition.{Partition, Parts, Next};
+ghost use Rattle.partition.specs.Partition.{Partition, Partitions, Refines};
 ghost use Rattle.classes.specs.Classes.{Classes, different};
 ghost use Rattle.classes.specs.Marks.{namesFrom, marks, mark, Marked, marking};
 use bitset::SET_BYTES;
@@ -41,7 +41,7 @@ fn has_mark(site: &[u8], s: usize, c: usize) -> bool
     site::place(site, c - NAMES_FROM) == s
 }
 
-// Puts mark c into row s, where it is said of s.
+// Puts mark c into row s if it is said of s.
 fn put_mark(site: &[u8], s: usize, c: usize, sig: &mut [u8])
     requires { ⌜ (length (now site) ≡ siteBytes) × ((s < setSlots) × ((c < marks) × (length (now sig) ≡ rowsBytes))) ⌝ }
     ensures { λ _. ⌜ Gains (marking (siteOf (now (site .entry))) s c) (now (sig .entry)) (now (sig .exit)) ⌝ }
@@ -53,7 +53,7 @@ fn put_mark(site: &[u8], s: usize, c: usize, sig: &mut [u8])
 }
 
 // Puts mark c, which the site has as the set at byte 32 * c, into the rows of the eight slots of byte i.
-fn put_eight(site: &[u8], c: usize, i: usize, sig: &mut [u8])
+fn put_byte(site: &[u8], c: usize, i: usize, sig: &mut [u8])
     requires { ⌜ (length (now site) ≡ siteBytes) × ((c < namesFrom) × ((i < setBytes) × (length (now sig) ≡ rowsBytes))) ⌝ }
     ensures { λ _. ⌜ Gains (λ y. any 8 (λ j. marking (siteOf (now (site .entry))) (8 * i + j) c y)) (now (sig .entry)) (now (sig .exit)) ⌝ }
 {
@@ -65,13 +65,13 @@ fn put_eight(site: &[u8], c: usize, i: usize, sig: &mut [u8])
     }
 }
 
-// Puts it into the rows of all slots.
+// Puts mark c, which the site has as the set at byte 32 * c, into the rows of all slots that it is said of.
 fn put_set(site: &[u8], c: usize, sig: &mut [u8])
     requires { ⌜ (length (now site) ≡ siteBytes) × ((c < namesFrom) × (length (now sig) ≡ rowsBytes)) ⌝ }
     ensures { λ _. ⌜ Gains (λ y. any setSlots (λ s. marking (siteOf (now (site .entry))) s c y)) (now (sig .entry)) (now (sig .exit)) ⌝ }
 {
     for i in 0..SET_BYTES {
-        put_eight(site, c, i, sig);
+        put_byte(site, c, i, sig);
     }
 }
 
@@ -96,7 +96,7 @@ fn put_marks(site: &[u8], c: usize, sig: &mut [u8])
     put_name(site, c, sig);
 }
 
-// What is said of each slot.
+// The marks of each slot, as rows.
 fn marks_of(site: &[u8]) -> [u8; ROWS_BYTES]
     requires { ⌜ length (now site) ≡ siteBytes ⌝ }
     ensures { λ r. ⌜ Marked (siteOf (now (site .entry))) r ⌝ }
@@ -111,7 +111,7 @@ fn marks_of(site: &[u8]) -> [u8; ROWS_BYTES]
 // The partition before the first round: one class, split by what is said of its slots.
 fn start(site: &[u8]) -> [u8; SET_SLOTS]
     requires { ⌜ length (now site) ≡ siteBytes ⌝ }
-    ensures { λ r. ⌜ Parts (bisimilarIn 0 (siteOf (now (site .entry))) (siteOf (now (site .entry)))) r ⌝ }
+    ensures { λ r. ⌜ Partitions (bisimilarIn 0 (siteOf (now (site .entry))) (siteOf (now (site .entry)))) r ⌝ }
 {
     let sig = marks_of(site);
     let one = [0u8; SET_SLOTS];
@@ -121,7 +121,7 @@ fn start(site: &[u8]) -> [u8; SET_SLOTS]
 // One round: the classes of p, split by the classes of p that their slots reach by each way.
 fn round(ways: &[u8], p: [u8; SET_SLOTS]) -> [u8; SET_SLOTS]
     requires { ⌜ (length (now ways) ≡ waysBytes) × Partition p ⌝ }
-    ensures { λ r. ⌜ Next (now (ways .entry)) p r ⌝ }
+    ensures { λ r. ⌜ Refines (now (ways .entry)) p r ⌝ }
 {
     let mut q = p;
     for w in 0..WAYS {

@@ -1,4 +1,4 @@
--- Turn c puts mark c in.
+-- Pass c puts mark c in.
 use mathlib.Core.Path.{_≡_}
 use Prim.Native.Nat.{_-_, _≤_}
 use native.Mathlib.Omega.{arith}

@@ -3,7 +3,7 @@ use native.Mathlib.Omega.{arith}
 use borrow.Author.Needs.{needs}
 use Rattle.site.specs.Site.{siteOf}
 use Rattle.bitset.specs.Set.{setSlots}
-use Rattle.classes.specs.Laws.Marks.{zeros-partition, marked-part}
+use Rattle.classes.specs.Laws.Marks.{zeros-partition, marked-partition}
 use Rattle.classes.proofs.start.Statement.{statement}
 use Rattle.classes.proofs.start.Tie as tie
 
@@ -20,7 +20,7 @@ by-rows-requires : tie.Need-by-rows-requires
 by-rows-requires c κs = (omega arith, (omega arith, zeros-partition setSlots))
 
 returns : tie.Need-returns
-returns c = marked-part setSlots (siteOf (c .before .before .before .before .before .args .site .now)) (c .before .before .before .marks-of .result) _ (c .before .before .before .marks-of .ensures) (c .by-rows .ensures)
+returns c = marked-partition setSlots (siteOf (c .before .before .before .before .before .args .site .now)) (c .before .before .before .marks-of .result) _ (c .before .before .before .marks-of .ensures) (c .by-rows .ensures)
 
 pub start-spec : {M : Type 1} → statement M
 start-spec =

@@ -18,9 +18,9 @@ use Rattle.site.specs.Site.{siteOf}
 use Rattle.site.specs.Laws.Read.{present-is, marked-is}
 use Rattle.partition.specs.Gains.{Gains}
 use Rattle.partition.specs.Rows.{inRow, sameRow}
-use Rattle.partition.specs.Partition.{together, Partition, Parts, byRow}
+use Rattle.partition.specs.Partition.{together, Partition, Partitions, byRow}
 use Rattle.partition.specs.Laws.Gains.{zeros-at, gains-none, gains-map, gains-zeros}
-use Rattle.partition.specs.Laws.Parts.{parts-map}
+use Rattle.partition.specs.Laws.Partitions.{partitions-map}
 use Rattle.classes.specs.Laws.Different.{same-turned}
 use Rattle.classes.specs.Marks.{labelsFrom, namesFrom, marks, mark, Marked, marking}
 
@@ -65,9 +65,9 @@ module _ (M : Model) where
       moved : {a b a′ b′ : ℕ} → a ≡ a′ → b ≡ b′ → mark M a b ≡ true → mark M a′ b′ ≡ true
       moved x y e = rw (← x, ← y) e
 
-  -- a mark put in eight slots at a time, and a name's at its slot alone
-  pub by-eights : (c : ℕ) (b a : List ℕ) → Gains (λ y. any setBytes (λ i. any 8 (λ j. marking M (8 * i + j) c y))) b a → Gains (λ y. any setSlots (λ s. marking M s c y)) b a
-  by-eights c b a = gains-map _ _ b a (λ y. both
+  -- a mark is put in eight slots at a time; and a name's mark at the name's slot alone
+  pub by-bytes : (c : ℕ) (b a : List ℕ) → Gains (λ y. any setBytes (λ i. any 8 (λ j. marking M (8 * i + j) c y))) b a → Gains (λ y. any setSlots (λ s. marking M s c y)) b a
+  by-bytes c b a = gains-map _ _ b a (λ y. both
       (λ e.
       let i = any-out setBytes _ e in
       let j = any-out 8 _ (i .2) in
@@ -86,7 +86,7 @@ module _ (M : Model) where
       let m : same (M .place (c - namesFrom)) (s .0) ≡ true = sym (mark-high (s .0) c h) ∙ and-l _ _ (s .2) in
       subst (λ (z : ℕ). (mark M z c && same y (setSlots * z + c)) ≡ true) (sym (e ∙ same-eq m)) (s .2)))
 
-  -- slots with the same marks agree, and the other way
+  -- slots with the same marks agree, and slots that agree have the same marks
   marks-agree : (s t : ℕ) → ((c : ℕ) → c < marks → mark M s c ≡ mark M t c) → agree M M s t ≡ true
   unfolding agree
   marks-agree s t f = and-in (eq-beq (sym (mark-low s 0 (omega arith)) ∙ f 0 (omega arith) ∙ mark-low t 0 (omega arith))) (and-in
@@ -149,7 +149,7 @@ module _ (n : ℕ) where
   unfolding Partition
   zeros-partition s h = zeros-at n s ∙ sym (first-is setSlots (together (replicate n 0) s) 0 (omega arith) (none-start _) (zeros-together s 0))
 
-  -- split by their marks they are the partition before the first round
-  pub marked-part : (M : Model) (G r : List ℕ) → Marked M G → Parts (byRow (replicate n 0) G) r → Parts (bisimilarIn 0 M M) r
+  -- one class, split by the slots' marks, is the partition before the first round
+  pub marked-partition : (M : Model) (G r : List ℕ) → Marked M G → Partitions (byRow (replicate n 0) G) r → Partitions (bisimilarIn 0 M M) r
   unfolding byRow bisimilarIn
-  marked-part M G r g = parts-map _ _ r (λ s t h k. rw (zeros-together s t) (rows-agree M G g s t h k))
+  marked-partition M G r g = partitions-map _ _ r (λ s t h k. rw (zeros-together s t) (rows-agree M G g s t h k))

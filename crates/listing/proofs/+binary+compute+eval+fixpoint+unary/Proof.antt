@@ -15,10 +15,10 @@ use Rattle.semantics.specs.Laws.Agree.{_≐_}
 use Rattle.site.specs.Site.{siteOf}
 use Rattle.condition.specs.Bytes.{nodeAt}
 use Rattle.listing_sets.specs.Laws.Nodes.{is-unary, is-binary, is-loop}
-use Rattle.listing_sets.specs.Nodes.{applied, startOf}
-use Rattle.listing_sets.specs.Places.{setAt}
+use Rattle.listing_sets.specs.Nodes.{nodeMakes, startOf}
+use Rattle.listing_sets.specs.Offsets.{setAt}
 use Rattle.listing.specs.Laws.Rounds.{Rounds, rounds-none, assigned, rounds-more, rounds-done, restored}
-use Rattle.listing.specs.Laws.Memo.{good-moved, finish, was-known, leaf-done, flagged, again, since, child}
+use Rattle.listing.specs.Laws.Memo.{flags-moved, finish, was-known, leaf-done, flagged, again, since, child}
 use Rattle.listing.specs.Laws.Kinds.{unary-left, modal-in, loop-variable}
 use Rattle.listing.specs.State.{Done}
 use Rattle.listing.proofs.binary.Reads as binary
@@ -106,7 +106,8 @@ binary-left-child-requires t c κs = let p = c .before .before .before .before .
 binary-eval-requires : (t : ℕ) → binary-lts.Need-eval-requires (binary-calls t) (binary-at t) binary.Post
 binary-eval-requires t c κs =
     let the-pre = c .before .before .before .before .before .before .before .before .before .before .pre in
-    let p = c .before .before .before .before .before .before .before .before .before .before .pre .1 in (omega (arith, the-pre, c .before .before .before .left-child .ensures), (p .0, omega (arith, p .1 .0, c .before .before .before .left-child .ensures)))
+    let p = c .before .before .before .before .before .before .before .before .before .before .pre .1 in
+    (omega (arith, the-pre, c .before .before .before .left-child .ensures), (p .0, omega (arith, p .1 .0, c .before .before .before .left-child .ensures)))
 
 binary-load-requires : (t : ℕ) → binary-lts.Need-load-requires (binary-calls t) (binary-at t) binary.Post
 binary-load-requires t c κs =
@@ -115,14 +116,19 @@ binary-load-requires t c κs =
     omega (arith, the-pre, the-left-child .ensures, c .before .before .before .before .before .before .before .eval .kept)
 
 binary-right-child-requires : (t : ℕ) → binary-lts.Need-right-child-requires (binary-calls t) (binary-at t) binary.Post
-binary-right-child-requires t c κs = let p = c .before .before .before .before .before .before .before .before .before .before .before .before .before .before .before .before .before .before .before .pre .1 in (p .0 .fits, (p .1 .0, p .1 .1))
+binary-right-child-requires t c κs =
+    let p = c .before .before .before .before .before .before .before .before .before .before .before .before .before .before .before .before .before .before .before .pre .1 in
+    (p .0 .fits, (p .1 .0, p .1 .1))
 
 binary-eval-requires-2 : (t : ℕ) → binary-lts.Need-eval-requires-2 (binary-calls t) (binary-at t) binary.Post
 binary-eval-requires-2 t c κs =
     let the-pre = c .before .before .before .before .before .before .before .before .before .before .before .before .before .before .before .before .before .before .before .before .before .before .before .pre in
     let the-left-child = c .before .before .before .before .before .before .before .before .before .before .before .before .before .before .before .before .left-child in
     let the-eval = c .before .before .before .before .before .before .before .before .before .before .before .before .eval in
-    let a = c .before .before .before .before .before .before .before .before .before .before .before .before .before .before .before .before .before .before .before .before .before .before .before .args in let p = c .before .before .before .before .before .before .before .before .before .before .before .before .before .before .before .before .before .before .before .before .before .before .before .pre .1 in let e = c .before .before .before .before .before .before .before .before .before .before .before .before .eval .last .1 .1 .1 in let q = c .before .before .before .before .before .before .before .before .before .before .before .before .eval .kept .1 .1 .1 in (
+    let a = c .before .before .before .before .before .before .before .before .before .before .before .before .before .before .before .before .before .before .before .before .before .before .before .args in
+    let p = c .before .before .before .before .before .before .before .before .before .before .before .before .before .before .before .before .before .before .before .before .before .before .before .pre .1 in
+    let e = c .before .before .before .before .before .before .before .before .before .before .before .before .eval .last .1 .1 .1 in
+    let q = c .before .before .before .before .before .before .before .before .before .before .before .before .eval .kept .1 .1 .1 in (
       omega (arith, the-pre, c .before .before .before .right-child .ensures),
       (
         again (a .site .now) (a .table .now) (a .free .now) (a .env .now) (e .0) (a .fresh .now) (e .1 .0) (a .work .now) (e .1 .1 .0) (the-left-child .result) (p .0) (the-eval .ensures) (q .0) (q .1 .0) (q .1 .1 .0),
@@ -142,7 +148,8 @@ binary-put-binary-requires t c κs =
     let the-pre = c .before .before .before .before .before .before .before .before .before .before .before .before .before .before .before .before .before .before .before .before .before .before .before .before .before .before .before .before .before .before .before .before .before .pre in
     let the-eval = c .before .before .before .before .before .before .before .before .before .before .before .before .before .before .before .before .before .before .before .before .before .before .eval in
     let the-eval2 = c .before .before .before .before .before .before .before .before .before .eval2 in
-    let p = c .before .before .before .before .before .before .before .before .before .before .before .before .before .before .before .before .before .before .before .before .before .before .before .before .before .before .before .before .before .before .before .before .before .pre .1 in (p .1 .0, (omega (arith, the-pre, the-eval .kept, the-eval2 .kept), p .1 .1))
+    let p = c .before .before .before .before .before .before .before .before .before .before .before .before .before .before .before .before .before .before .before .before .before .before .before .before .before .before .before .before .before .before .before .before .before .pre .1 in
+    (p .1 .0, (omega (arith, the-pre, the-eval .kept, the-eval2 .kept), p .1 .1))
 
 binary-same-length : (t : ℕ) → binary-lts.Need-same-length (binary-calls t) (binary-at t) binary.Post
 binary-same-length t c =
@@ -168,11 +175,16 @@ binary-returns t c =
     let the-right-child = c .before .before .before .before .before .before .before .before .before .before .before .before .before .before .before .before .right-child in
     let the-left-child = c .before .before .before .before .before .before .before .before .before .before .before .before .before .before .before .before .before .before .before .before .before .before .before .before .before .before .before .before .before .left-child in
     let the-eval2 = c .before .before .before .before .before .before .before .before .before .before .before .before .eval2 in
-    let a = c .before .before .before .before .before .before .before .before .before .before .before .before .before .before .before .before .before .before .before .before .before .before .before .before .before .before .before .before .before .before .before .before .before .before .before .before .args in let p = c .before .before .before .before .before .before .before .before .before .before .before .before .before .before .before .before .before .before .before .before .before .before .before .before .before .before .before .before .before .before .before .before .before .before .before .before .pre .1 in let d₁ = c .before .before .before .before .before .before .before .before .before .before .before .before .before .before .before .before .before .before .before .before .before .before .before .before .before .eval .ensures in let e₁ = c .before .before .before .before .before .before .before .before .before .before .before .before .before .before .before .before .before .before .before .before .before .before .before .before .before .eval .last .1 .1 .1 in let e = c .before .before .before .before .before .before .before .before .before .before .before .before .eval2 .last .1 .1 .1 in
-    let S = a .table .now in let P = has (the-load .result) in let Q = has (c .before .before .before .before .load2 .result) in let M = siteOf (a .site .now) in
+    let a = c .before .before .before .before .before .before .before .before .before .before .before .before .before .before .before .before .before .before .before .before .before .before .before .before .before .before .before .before .before .before .before .before .before .before .before .before .args in
+    let p = c .before .before .before .before .before .before .before .before .before .before .before .before .before .before .before .before .before .before .before .before .before .before .before .before .before .before .before .before .before .before .before .before .before .before .before .before .pre .1 in
+    let d₁ = c .before .before .before .before .before .before .before .before .before .before .before .before .before .before .before .before .before .before .before .before .before .before .before .before .before .eval .ensures in
+    let e₁ = c .before .before .before .before .before .before .before .before .before .before .before .before .before .before .before .before .before .before .before .before .before .before .before .before .before .eval .last .1 .1 .1 in
+    let e = c .before .before .before .before .before .before .before .before .before .before .before .before .eval2 .last .1 .1 .1 in
+    let S = a .table .now in
+    let P = has (the-load .result) in let Q = has (c .before .before .before .before .load2 .result) in let M = siteOf (a .site .now) in
     let d : Done (a .site .now) S (a .env .now) (e .0) (e .1 .0) (e .1 .1 .0) (the-right-child .result) =
     since (a .site .now) S (a .free .now) (a .env .now) (e₁ .0) (a .fresh .now) (e₁ .1 .0) (a .work .now) (e₁ .1 .1 .0) (the-left-child .result) (p .0) d₁ (e .0) (e .1 .0) (e .1 .1 .0) (the-right-child .result) (the-eval2 .ensures) in
-    finish (a .site .now) S (a .env .now) (e .0) (e .1 .0) (e .1 .1 .0) (c .before .before .put-binary .last .1 .0) (a .i) _ (d .kept) (d .good) (c .before .before .put-binary .ensures M)
+    finish (a .site .now) S (a .env .now) (e .0) (e .1 .0) (e .1 .1 .0) (c .before .before .put-binary .last .1 .0) (a .i) _ (d .kept) (d .flags-right) (c .before .before .put-binary .ensures M)
     (is-binary S (p .0 .fits) (a .i) (p .1 .0) M (setAt (a .env .now)) P Q
     (child (a .site .now) S (a .env .now) (e₁ .0) (e₁ .1 .0) (e₁ .1 .1 .0) (the-left-child .result) (nodeAt S (a .i) .left) P d₁ (the-load .ensures) (the-left-child .ensures .0))
     (p .1 .1 .0) (p .1 .1 .1)
@@ -187,12 +199,14 @@ compute-kind-requires t c κs = c .before .before .before .before .before .befor
 compute-binary-requires : (t : ℕ) → compute-lts.Need-binary-requires (compute-calls t) (compute-at t) compute.Post
 compute-binary-requires t c κs =
     let the-pre = c .before .before .before .before .before .before .before .before .before .before .before .before .before .pre in
-    let p = c .before .before .before .before .before .before .before .before .before .before .before .before .before .pre .1 in (omega (arith, the-pre), (p .0, (p .1, (omega (arith, c .before .before .before .before .before .before .kind .ensures, c .before .before .before .before .before .match .rest .1, c .before .before .before .before .if1 .left), omega (arith, c .before .before .before .before .before .before .kind .ensures, c .before .before .before .if2 .taken)))))
+    let p = c .before .before .before .before .before .before .before .before .before .before .before .before .before .pre .1 in
+    (omega (arith, the-pre), (p .0, (p .1, (omega (arith, c .before .before .before .before .before .before .kind .ensures, c .before .before .before .before .before .match .rest .1, c .before .before .before .before .if1 .left), omega (arith, c .before .before .before .before .before .before .kind .ensures, c .before .before .before .if2 .taken)))))
 
 compute-fixpoint-requires : (t : ℕ) → compute-lts.Need-fixpoint-requires (compute-calls t) (compute-at t) compute.Post
 compute-fixpoint-requires t c κs =
     let the-pre = c .before .before .before .before .before .before .before .before .before .before .before .before .before .before .before .pre in
-    let p = c .before .before .before .before .before .before .before .before .before .before .before .before .before .before .before .pre .1 in (omega (arith, the-pre), (p .0, (p .1, (omega (arith, c .before .before .before .before .before .before .before .before .kind .ensures, c .before .before .before .before .if3 .left), omega (arith, c .before .before .before .before .before .before .before .before .kind .ensures, c .before .before .before .if4 .taken)))))
+    let p = c .before .before .before .before .before .before .before .before .before .before .before .before .before .before .before .pre .1 in
+    (omega (arith, the-pre), (p .0, (p .1, (omega (arith, c .before .before .before .before .before .before .before .before .kind .ensures, c .before .before .before .before .if3 .left), omega (arith, c .before .before .before .before .before .before .before .before .kind .ensures, c .before .before .before .if4 .taken)))))
 
 compute-put-leaf-requires : (t : ℕ) → compute-lts.Need-put-leaf-requires (compute-calls t) (compute-at t) compute.Post
 compute-put-leaf-requires t c κs =
@@ -212,7 +226,8 @@ compute-put-leaf-requires t c κs =
 compute-unary-requires : (t : ℕ) → compute-lts.Need-unary-requires (compute-calls t) (compute-at t) compute.Post
 compute-unary-requires t c κs =
     let the-pre = c .before .before .before .before .before .before .before .before .before .before .before .pre in
-    let a = c .before .before .before .before .before .before .before .before .before .before .before .args in let p = c .before .before .before .before .before .before .before .before .before .before .before .pre .1 in
+    let a = c .before .before .before .before .before .before .before .before .before .before .before .args in
+    let p = c .before .before .before .before .before .before .before .before .before .before .before .pre .1 in
     let k : ℕ = nodeAt (a .table .now) (a .i) .kind in
     let q : (k ≡ notNo) ⊎ ((k ≡ diaNo) ⊎ (k ≡ boxNo)) =
     either (c .before .before .before .match .came) (λ u. inl (sym (c .before .before .before .before .kind .ensures) ∙ u .keys1)) (λ u. inr (modal-in k (omega (arith, c .before .before .before .before .kind .ensures, u .2)) (omega (arith, c .before .before .before .before .kind .ensures, u .3)))) in
@@ -304,7 +319,10 @@ eval-same-length-3 t c = omega (arith, c .before .before .before .before .before
 
 eval-returns-2 :
     (t : ℕ) → eval-lts.Need-returns-2 (eval-calls t) (eval-at t) eval.Post
-eval-returns-2 t c = let a = c .before .before .before .before .before .before .before .before .before .before .before .before .before .before .before .before .before .before .args in let e = c .before .before .before .before .before .before .compute .last .1 .1 .1 in flagged (a .site .now) (a .table .now) (a .env .now) (e .0) (e .1 .0) (e .1 .1 .0) (a .i) (c .before .before .before .before .before .before .compute .ensures)
+eval-returns-2 t c =
+    let a = c .before .before .before .before .before .before .before .before .before .before .before .before .before .before .before .before .before .before .args in
+    let e = c .before .before .before .before .before .before .compute .last .1 .1 .1 in
+    flagged (a .site .now) (a .table .now) (a .env .now) (e .0) (e .1 .0) (e .1 .1 .0) (a .i) (c .before .before .before .before .before .before .compute .ensures)
 
 abbrev fixpoint-calls : ℕ → fixpoint-lts.Claims
 fixpoint-calls t = (number-reads.Asked, number-reads.Learnt, left-child-reads.Asked, left-child-reads.Learnt, load-reads.Asked, load-reads.Learnt, kind-reads.Asked, kind-reads.Learnt, start-reads.Asked, start-reads.Learnt, assign-reads.Asked, assign-reads.Learnt, eval-below t, eval.Post, same-set-reads.Asked, same-set-reads.Learnt, store-reads.Asked, store-reads.Learnt)
@@ -335,7 +353,9 @@ fixpoint-start-requires : (t : ℕ) → fixpoint-lts.Need-start-requires (fixpoi
 fixpoint-start-requires t c κs = tt
 
 fixpoint-loop-holds : (t : ℕ) → fixpoint-lts.Need-loop-holds (fixpoint-calls t) (fixpoint-at t) fixpoint.Post fixpoint-Inv-loop fixpoint-μ-loop
-fixpoint-loop-holds t c = let a = c .before .before .before .before .before .before .before .before .before .before .before .before .args in let p = c .before .before .before .before .before .before .before .before .before .before .before .before .pre .1 in
+fixpoint-loop-holds t c =
+    let a = c .before .before .before .before .before .before .before .before .before .before .before .before .args in
+    let p = c .before .before .before .before .before .before .before .before .before .before .before .before .pre .1 in
     rounds-none (a .site .now) (a .table .now) (a .free .now) (a .env .now) (a .fresh .now) (a .work .now) (nodeAt (a .table .now) (a .i) .kind) (c .before .before .before .before .before .number .result) (c .before .before .before .before .left-child .result) (c .start .result) (p .0)
     (subst (λ (k : ℕ). has (c .start .result) ≐ startOf k) (c .before .kind .ensures) (c .start .ensures))
 
@@ -350,7 +370,9 @@ fixpoint-eval-requires t c κs =
     let the-pre = c .before .before .before .before .before .before .before .before .before .before .before .before .before .before .before .before .before .before .before .before .before .before .before .before .before .pre in
     let the-left-child = c .before .before .before .before .before .before .before .before .before .before .before .before .before .before .before .before .before .left-child in
     let the-number = c .before .before .before .before .before .before .before .before .before .before .before .before .before .before .before .before .before .before .number in
-    let a = c .before .before .before .before .before .before .before .before .before .before .before .before .before .before .before .before .before .before .before .before .before .before .before .before .before .args in let p = c .before .before .before .before .before .before .before .before .before .before .before .before .before .before .before .before .before .before .before .before .before .before .before .before .before .pre .1 in let l = c .before .before .before .before .before .before .before .before .before .before .before .before .loop in (
+    let a = c .before .before .before .before .before .before .before .before .before .before .before .before .before .before .before .before .before .before .before .before .before .before .before .before .before .args in
+    let p = c .before .before .before .before .before .before .before .before .before .before .before .before .before .before .before .before .before .before .before .before .before .before .before .before .before .pre .1 in
+    let l = c .before .before .before .before .before .before .before .before .before .before .before .before .loop in (
       omega (arith, the-pre, the-left-child .ensures),
       (
         assigned (a .site .now) (a .table .now) (a .env .now) (l .env) (l .fresh) (l .work) (nodeAt (a .table .now) (a .i) .kind) (the-number .result) (the-left-child .result) (l .set) (l .rounds) (l .moved) (l .inv)
@@ -387,7 +409,9 @@ fixpoint-loop-again t c =
     let the-assign = c .before .before .before .before .before .before .before .before .before .before .before .before .before .before .before .before .before .assign in
     let the-if1 = c .before .before .before .before .before .before .before .before .before .before .before .before .before .before .before .before .before .before .before .before .if1 in
     let the-eval = c .before .before .before .before .before .before .before .before .before .eval in
-    let a = c .before .before .before .before .before .before .before .before .before .before .before .before .before .before .before .before .before .before .before .before .before .before .before .before .before .before .before .before .before .before .before .before .before .before .before .args in let l = c .before .before .before .before .before .before .before .before .before .before .before .before .before .before .before .before .before .before .before .before .before .before .loop in let e = c .before .before .before .before .before .before .before .before .before .eval .last .1 .1 .1 in
+    let a = c .before .before .before .before .before .before .before .before .before .before .before .before .before .before .before .before .before .before .before .before .before .before .before .before .before .before .before .before .before .before .before .before .before .before .before .args in
+    let l = c .before .before .before .before .before .before .before .before .before .before .before .before .before .before .before .before .before .before .before .before .before .before .loop in
+    let e = c .before .before .before .before .before .before .before .before .before .eval .last .1 .1 .1 in
     rounds-more (a .site .now) (a .table .now) (a .env .now) (l .env) (l .fresh) (l .work) (nodeAt (a .table .now) (a .i) .kind) (the-number .result) (the-left-child .result) (l .set) (l .rounds) (l .moved) (l .inv)
     (the-assign .last .1 .0) (the-assign .ensures .0) (e .0) (e .1 .0) (e .1 .1 .0) (c .before .load2 .result) (c .same-set .result) (ltb-true (l .rounds) setSlots (the-if1 .taken)) (the-eval .ensures) (c .before .load2 .ensures) (c .same-set .ensures .0)
     (omega (arith, l .inv .env-size, the-assign .kept, the-eval .kept)) (omega (arith, l .inv .fresh-size, the-assign .kept, the-eval .kept)) (omega (arith, l .inv .work-size, the-eval .kept))
@@ -428,14 +452,17 @@ fixpoint-returns t c =
     let the-left-child = c .before .before .before .before .before .before .before .before .before .before .before .before .before .before .before .before .before .left-child in
     let the-loop-test = c .before .before .before .before .before .before .before .before .before .before .before .loop-test in
     let the-load = c .before .before .before .before .before .before .before .before .before .before .before .before .before .before .before .load in
-    let a = c .before .before .before .before .before .before .before .before .before .before .before .before .before .before .before .before .before .before .before .before .before .before .before .before .before .args in let p = c .before .before .before .before .before .before .before .before .before .before .before .before .before .before .before .before .before .before .before .before .before .before .before .before .before .pre .1 in let l = c .before .before .before .before .before .before .before .before .before .before .before .before .loop in
-    let S = a .table .now in let k : ℕ = nodeAt S (a .i) .kind in let x : ℕ = the-number .result in let b : ℕ = the-left-child .result in
+    let a = c .before .before .before .before .before .before .before .before .before .before .before .before .before .before .before .before .before .before .before .before .before .before .before .before .before .args in
+    let p = c .before .before .before .before .before .before .before .before .before .before .before .before .before .before .before .before .before .before .before .before .before .before .before .before .before .pre .1 in
+    let l = c .before .before .before .before .before .before .before .before .before .before .before .before .loop in
+    let S = a .table .now in
+    let k : ℕ = nodeAt S (a .i) .kind in let x : ℕ = the-number .result in let b : ℕ = the-left-child .result in
     let env₁ = c .before .before .before .before .before .before .before .before .assign2 .last .1 .0 in let fresh₁ = c .before .before .before .before .before .before .before .before .assign2 .last .1 .1 .0 in
     let out : (l .moved ≡ false) ⊎ (setSlots ≤ l .rounds) = ⊎-elim (λ u. inr (ltb-false (l .rounds) setSlots (u .1 .left))) (λ u. inl (u .left)) (the-loop-test .came) in
     let kept = restored (a .site .now) S (a .env .now) (l .env) (l .fresh) (l .work) k x b (l .set) (l .rounds) (l .moved) (l .inv) env₁ (the-load .result) (c .before .before .before .before .before .before .before .before .assign2 .ensures .0) (the-load .ensures) in
     let value = rounds-done (a .site .now) S (a .env .now) (l .env) (l .fresh) (l .work) k x b (l .set) (l .rounds) (l .moved) (l .inv) out in
     finish (a .site .now) S (a .env .now) env₁ fresh₁ (l .work) (c .before .before .store .last .0) (a .i) _ kept
-    (good-moved (a .site .now) S (a .free .now) (l .env) env₁ (l .fresh) fresh₁ (l .work) (length S / 6) x (has (the-load .result)) (p .0 .rows) (loop-variable (p .1 .1) (the-number .ensures .1)) (omega arith) (l .inv .good) (c .before .before .before .before .before .before .before .before .assign2 .ensures .0) (c .before .before .before .before .before .before .before .before .assign2 .ensures .1))
+    (flags-moved (a .site .now) S (a .free .now) (l .env) env₁ (l .fresh) fresh₁ (l .work) (length S / 6) x (has (the-load .result)) (p .0 .rows) (loop-variable (p .1 .1) (the-number .ensures .1)) (omega arith) (l .inv .flags-right) (c .before .before .before .before .before .before .before .before .assign2 .ensures .0) (c .before .before .before .before .before .before .before .before .assign2 .ensures .1))
     (c .before .before .store .ensures)
     (λ s h. value s h ∙ sym (is-loop S (p .0 .fits) (a .i) (p .1 .0) (siteOf (a .site .now)) (setAt (a .env .now)) x b (the-number .ensures .0) (the-left-child .ensures .0) (p .1 .1 .0) (p .1 .1 .1) s h))
 
@@ -448,7 +475,8 @@ unary-left-child-requires t c κs = let p = c .before .before .before .before .b
 unary-eval-requires : (t : ℕ) → unary-lts.Need-eval-requires (unary-calls t) (unary-at t) unary.Post
 unary-eval-requires t c κs =
     let the-pre = c .before .before .before .before .before .before .before .before .before .before .pre in
-    let p = c .before .before .before .before .before .before .before .before .before .before .pre .1 in (omega (arith, the-pre, c .before .before .before .left-child .ensures), (p .0, omega (arith, p .1 .0, c .before .before .before .left-child .ensures)))
+    let p = c .before .before .before .before .before .before .before .before .before .before .pre .1 in
+    (omega (arith, the-pre, c .before .before .before .left-child .ensures), (p .0, omega (arith, p .1 .0, c .before .before .before .left-child .ensures)))
 
 unary-load-requires : (t : ℕ) → unary-lts.Need-load-requires (unary-calls t) (unary-at t) unary.Post
 unary-load-requires t c κs =
@@ -460,7 +488,8 @@ unary-put-unary-requires : (t : ℕ) → unary-lts.Need-put-unary-requires (unar
 unary-put-unary-requires t c κs =
     let the-pre = c .before .before .before .before .before .before .before .before .before .before .before .before .before .before .before .before .before .before .before .before .pre in
     let the-eval = c .before .before .before .before .before .before .before .before .before .eval in
-    let p = c .before .before .before .before .before .before .before .before .before .before .before .before .before .before .before .before .before .before .before .before .pre .1 in (p .0 .site-size, (p .1 .0, (omega (arith, the-pre, the-eval .kept), p .1 .1)))
+    let p = c .before .before .before .before .before .before .before .before .before .before .before .before .before .before .before .before .before .before .before .before .pre .1 in
+    (p .0 .site-size, (p .1 .0, (omega (arith, the-pre, the-eval .kept), p .1 .1)))
 
 unary-same-length : (t : ℕ) → unary-lts.Need-same-length (unary-calls t) (unary-at t) unary.Post
 unary-same-length t c =
@@ -480,9 +509,13 @@ unary-same-length-3 t c =
 unary-returns : (t : ℕ) → unary-lts.Need-returns (unary-calls t) (unary-at t) unary.Post
 unary-returns t c =
     let the-left-child = c .before .before .before .before .before .before .before .before .before .before .before .before .before .before .before .before .left-child in
-    let a = c .before .before .before .before .before .before .before .before .before .before .before .before .before .before .before .before .before .before .before .before .before .before .before .args in let p = c .before .before .before .before .before .before .before .before .before .before .before .before .before .before .before .before .before .before .before .before .before .before .before .pre .1 in let d = c .before .before .before .before .before .before .before .before .before .before .before .before .eval .ensures in let e = c .before .before .before .before .before .before .before .before .before .before .before .before .eval .last .1 .1 .1 in
-    let S = a .table .now in let P = has (c .before .before .before .before .load .result) in
-    finish (a .site .now) S (a .env .now) (e .0) (e .1 .0) (e .1 .1 .0) (c .before .before .put-unary .last .1 .1 .0) (a .i) (applied (siteOf (a .site .now)) (nodeAt S (a .i)) P P) (d .kept) (d .good) (c .before .before .put-unary .ensures)
+    let a = c .before .before .before .before .before .before .before .before .before .before .before .before .before .before .before .before .before .before .before .before .before .before .before .args in
+    let p = c .before .before .before .before .before .before .before .before .before .before .before .before .before .before .before .before .before .before .before .before .before .before .before .pre .1 in
+    let d = c .before .before .before .before .before .before .before .before .before .before .before .before .eval .ensures in
+    let e = c .before .before .before .before .before .before .before .before .before .before .before .before .eval .last .1 .1 .1 in
+    let S = a .table .now in
+    let P = has (c .before .before .before .before .load .result) in
+    finish (a .site .now) S (a .env .now) (e .0) (e .1 .0) (e .1 .1 .0) (c .before .before .put-unary .last .1 .1 .0) (a .i) (nodeMakes (siteOf (a .site .now)) (nodeAt S (a .i)) P P) (d .kept) (d .flags-right) (c .before .before .put-unary .ensures)
     (is-unary S (p .0 .fits) (a .i) (p .1 .0) (siteOf (a .site .now)) (setAt (a .env .now)) P P
     (child (a .site .now) S (a .env .now) (e .0) (e .1 .0) (e .1 .1 .0) (the-left-child .result) (nodeAt S (a .i) .left) P d (c .before .before .before .before .load .ensures) (the-left-child .ensures .0)) (p .1 .1))
 

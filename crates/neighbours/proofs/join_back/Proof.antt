@@ -1,4 +1,4 @@
--- Turn j puts s into row 8 * i + j.
+-- Pass j puts s into row 8 * i + j.
 use mathlib.Core.Bool.{Bool, _&&_}
 use mathlib.Core.Path.{sym, _∙_, ap}
 use Prim.Native.Nat.{_+_, _*_, _-_, _≤_}
@@ -75,7 +75,9 @@ loop-less c = omega arith
 
 loop-again : tie.Need-loop-again Inv-loop μ-loop
 unfolding slots
-loop-again c = let a = c .before .before .before .before .before .before .before .before .before .args in let l = c .before .before .before .before .before .before .loop in
+loop-again c =
+    let a = c .before .before .before .before .before .before .before .before .before .args in
+    let l = c .before .before .before .before .before .before .loop in
     let t = 8 * a .i + l .j in (
       omega arith,
       gains-more (λ k y. siteOf (a .site .now) .link (a .m) (a .s) (8 * a .i + k) && same y (at ((a .m) + links) (8 * a .i + k) (a .s))) (a .ways .now) (l .ways) _ (l .j) (l .inv .1)

@@ -1,4 +1,4 @@
--- Turn s joins s and its targets.
+-- Pass s joins s and its targets.
 use Prim.Native.Nat.{_-_, _≤_}
 use native.Mathlib.Omega.{arith}
 use borrow.Author.Needs.{needs}

@@ -1,4 +1,4 @@
--- Turn m joins the ends of link m.
+-- Pass m joins the ends of link m.
 use mathlib.Core.Path.{_≡_}
 use Prim.Native.Nat.{_-_, _≤_}
 use native.Mathlib.Omega.{arith}

@@ -22,9 +22,9 @@ use Rattle.site.specs.Laws.Read.{row-is, target-read}
 use Rattle.partition.specs.Gains.{Gains}
 use Rattle.partition.specs.Rows.{Neighbours}
 use Rattle.partition.specs.Laws.Gains.{gains-none, gains-put, gains-map, gains-join, gains-zeros}
-use Rattle.neighbours.specs.Steps.{at, joins, linkJoins, alongJoins, backJoins, eightJoins, targetJoins}
+use Rattle.neighbours.specs.Steps.{at, joins, linkJoins, alongJoins, backJoins, byteJoins, targetJoins}
 
--- both bits put in
+-- both bits of a join are set
 pub joined : (m s t : ℕ) (b a d : List ℕ) → a ≡ inserted b (at m s t) → d ≡ inserted a (at (m + links) t s) → at m s t / 8 < length b
     → at (m + links) t s / 8 < length b → Gains (joins m s t) b d
 unfolding joins
@@ -32,7 +32,7 @@ joined m s t b a d e f h k =
     let g = gains-put b a (at m s t) e h in
     gains-join (λ y. same y (at m s t)) (λ y. same y (at (m + links) t s)) b a d g (gains-put a d (at (m + links) t s) f (rw (g .long) k))
 
--- a weight put in: that of bit x, or 0
+-- a byte is united with the weight of bit x, or with 0
 pub weighed : (put : Bool) (b : List ℕ) (x w : ℕ) → w ≡ cond put (2 ^ (x % 8)) 0 → x / 8 < length b
     → Gains (λ y. put && same y x) b (set b (x / 8) (bitOr (getD b (x / 8) 0) w))
 unfolding inserted has
@@ -58,19 +58,19 @@ any-or (suc n) f g h = rw (← (any-or n f g h)) (mixed (f n) (g n) (h n) (any n
     mixed true false true false q = refl
     mixed true false false p q = refl
 
--- both halves put in
-pub eight-joined : (M : Model) (m s i : ℕ) (b a d : List ℕ) → Gains (alongJoins M m s i) b a → Gains (backJoins M m s i) a d → Gains (eightJoins M m s i) b d
-unfolding alongJoins backJoins eightJoins linkJoins joins
-eight-joined M m s i b a d g h =
+-- both halves of a byte's joins are put in
+pub byte-joined : (M : Model) (m s i : ℕ) (b a d : List ℕ) → Gains (alongJoins M m s i) b a → Gains (backJoins M m s i) a d → Gains (byteJoins M m s i) b d
+unfolding alongJoins backJoins byteJoins linkJoins joins
+byte-joined M m s i b a d g h =
     gains-map _ _ b d (λ y.
     any-or 8 (λ j. M .link m s (8 * i + j)) (λ j. same y (at m s (8 * i + j))) (λ j. same y (at (m + links) (8 * i + j) s)))
     (gains-join (alongJoins M m s i) (backJoins M m s i) b a d g h)
 
 module _ (S : List ℕ) (m s : ℕ) (hs : s < setSlots) where
-  -- a byte of the row that is 0
-  pub eight-none : (i : ℕ) (b : List ℕ) → m < generalLinks → i < setBytes → getD S (rowAt m s + i) 0 ≡ 0 → Gains (eightJoins (siteOf S) m s i) b b
-  unfolding eightJoins linkJoins slots has
-  eight-none i b hm hi e = gains-none _ b (λ y. none-any 8 _ (λ j h.
+  -- a byte of the row that is 0 joins nothing
+  pub byte-none : (i : ℕ) (b : List ℕ) → m < generalLinks → i < setBytes → getD S (rowAt m s + i) 0 ≡ 0 → Gains (byteJoins (siteOf S) m s i) b b
+  unfolding byteJoins linkJoins slots has
+  byte-none i b hm hi e = gains-none _ b (λ y. none-any 8 _ (λ j h.
       let x : (rowAt m s * 8 + (8 * i + j)) / 8 ≡ rowAt m s + i = omega arith in
       rw (row-is S m s (8 * i + j) hm hs (omega arith), x, e, bit-zero ((rowAt m s * 8 + (8 * i + j)) % 8))))
 
@@ -93,10 +93,10 @@ module _ (S : List ℕ) (m s : ℕ) (hs : s < setSlots) where
         let j : v ≡ r .0 = same-eq (and-l _ _ i) in
         rw j (and-r (siteOf S .link m s (r .0)) _ (r .2)))) g
 
--- the bytes of a row, and its slots
-pub eights-all : (M : Model) (m s : ℕ) (b a : List ℕ) → Gains (λ y. any setBytes (λ i. eightJoins M m s i y)) b a → Gains (targetJoins M m s) b a
-unfolding eightJoins targetJoins
-eights-all M m s b a = gains-map _ _ b a (λ y. both
+-- the joins of the bytes of a row are those of its slots
+pub bytes-all : (M : Model) (m s : ℕ) (b a : List ℕ) → Gains (λ y. any setBytes (λ i. byteJoins M m s i y)) b a → Gains (targetJoins M m s) b a
+unfolding byteJoins targetJoins
+bytes-all M m s b a = gains-map _ _ b a (λ y. both
     (λ q.
     let r = any-out setBytes _ q in
     let j = any-out 8 _ (r .2) in

@@ -1,4 +1,4 @@
--- Bits put in by the turns of a loop.
+-- Bits set by the passes of a loop.
 use mathlib.Core.Path.{_≡_, refl, sym, _∙_, ap}
 use mathlib.Core.Bool.{Bool, true, false, _&&_, _||_, or-false, or-comm, or-assoc}
 use mathlib.Core.List.{List}
@@ -12,11 +12,11 @@ use Rattle.bitset.specs.Set.{has, inserted}
 use Rattle.bitset.specs.Laws.Slot.{has-inserted, length-inserted}
 use Rattle.partition.specs.Gains.{Gains}
 
--- what f says, said otherwise
+-- two tests that agree set the same bits
 pub gains-map : (f g : ℕ → Bool) (b a : List ℕ) → ((y : ℕ) → f y ≡ g y) → Gains f b a → Gains g b a
 gains-map f g b a e h = record { long = h .long; holds = λ y. h .holds y ∙ ap (λ (z : Bool). has b y || z) (e y) }
 
--- no bit is put in; one is; and one, where a test passes
+-- no bit is set; one is; and one is where a test passes
 pub gains-none : (f : ℕ → Bool) (b : List ℕ) → ((y : ℕ) → f y ≡ false) → Gains f b b
 gains-none f b h = record { long = refl; holds = λ y. rw (h y) (sym (or-false (has b y))) }
 
@@ -35,7 +35,7 @@ gains-join f g b a d h k = record {
   holds = λ y. k .holds y ∙ ap (λ (z : Bool). z || g y) (h .holds y) ∙ or-assoc (has b y) (f y) (g y);
 }
 
--- the turns below i put in what f says of each: at the start, after one more, at the end
+-- the first i passes set the bits that pass f of each: at the start, after one more, at the end
 pub gains-start : (f : ℕ → ℕ → Bool) (b : List ℕ) → Gains (λ y. any 0 (λ k. f k y)) b b
 unfolding any
 gains-start f b = gains-none _ b (λ y. refl)

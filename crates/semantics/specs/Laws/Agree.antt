@@ -12,12 +12,12 @@ use Rattle.semantics.specs.Holds.{Set, Env, put, Model, step}
 use Rattle.semantics.specs.Laws.FixedPoint.{iter, none, full}
 use Rattle.semantics.specs.Laws.Eval.{eval}
 
--- the same slots
+-- two sets with the same slots
 abbrev pub _≐_ : Set → Set → Type 0
 S ≐ S′ = (x : ℕ) → x < slots → S x ≡ S′ x
 
 infix 4 _≐_
--- the same slots for each variable that occurs free
+-- two valuations with the same slots for each variable that occurs free
 abbrev Agrees : Form → Env → Env → Type 0
 Agrees φ ρ ρ′ = (b : Bool) (v : ℕ) → occ b v φ ≡ true → ρ v ≐ ρ′ v
 

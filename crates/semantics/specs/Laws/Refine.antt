@@ -48,7 +48,7 @@ unfolding covers
 covers-iff M N w E s t =
     every-iff slots (step M w s) (λ s′. any slots (λ t′. step N w t t′ && E s′ t′)) (λ s′ h. some-iff slots (step N w t) (E s′) (λ t′ k. Iff·rfl))
 
--- both ways round, by every way 0 to 15
+-- what the tests say both ways round, for every way 0 to 15
 abbrev Match : Model → Model → Rel → ℕ → ℕ → Type 0
 Match M N E s t = (w : Way) → Link w → Cover M N w E s t × Cover N M w (λ a b. E b a) t s
 

@@ -1,4 +1,4 @@
--- Turn t puts slot t in, where it has its own number.
+-- Pass t puts slot t in if it has its own number.
 use mathlib.Core.Path.{_≡_}
 use Prim.Native.Nat.{_-_, _≤_}
 use native.Mathlib.Omega.{arith}
@@ -10,7 +10,7 @@ use Rattle.bitset.specs.Set.{setBytes, setSlots}
 use Rattle.partition.specs.Gains.{Gains}
 use Rattle.partition.specs.Rows.{owns}
 use Rattle.partition.specs.Laws.Gains.{gains-start, gains-more, gains-done}
-use Rattle.partition.specs.Laws.Eight.{own-set}
+use Rattle.partition.specs.Laws.Puts.{own-set}
 use Rattle.signatures.proofs.own_slots.Statement.{statement}
 use Rattle.signatures.proofs.own_slots.Tie as tie
 

@@ -1,4 +1,4 @@
--- Turn j puts mark c into row 8 * i + j.
+-- Pass j puts mark c into row 8 * i + j.
 use Prim.Native.Nat.{_+_, _*_, _-_, _≤_}
 use native.Mathlib.Omega.{arith}
 use Rattle.finite.specs.Tests.{any}
@@ -7,8 +7,8 @@ use Rattle.partition.specs.Gains.{Gains}
 use Rattle.partition.specs.Laws.Gains.{gains-start, gains-more, gains-done}
 use Rattle.classes.specs.Marks.{marking}
 use Rattle.classes.specs.Laws.Marks.{none-marked}
-use Rattle.classes.proofs.put_eight.Statement.{statement}
-use Rattle.classes.proofs.put_eight.Tie as tie
+use Rattle.classes.proofs.put_byte.Statement.{statement}
+use Rattle.classes.proofs.put_byte.Tie as tie
 
 abbrev Inv-loop : tie.InvT-loop
 Inv-loop site c i sig₀ j₀ sig j = (j ≤ 8) × Gains (λ y. any j (λ k. marking (siteOf site) (8 * i + k) c y)) sig₀ sig
@@ -47,7 +47,9 @@ loop-less : tie.Need-loop-less Inv-loop μ-loop
 loop-less c = omega arith
 
 loop-again : tie.Need-loop-again Inv-loop μ-loop
-loop-again c = let a = c .before .before .before .before .before .before .before .before .before .before .args in let l = c .before .before .before .before .before .loop in
+loop-again c =
+    let a = c .before .before .before .before .before .before .before .before .before .before .args in
+    let l = c .before .before .before .before .before .loop in
     (omega arith, gains-more (λ k. marking (siteOf (a .site .now)) (8 * a .i + k) (a .c)) (a .sig .now) (l .sig) _ (l .j) (l .inv .1) (c .before .before .put-mark .ensures))
 
 same-length : tie.Need-same-length Inv-loop μ-loop
@@ -57,8 +59,8 @@ returns-2 : tie.Need-returns-2 Inv-loop μ-loop
 returns-2 c = let a = c .before .before .before .before .before .before .args in let l = c .before .loop in
     gains-done (λ k. marking (siteOf (a .site .now)) (8 * a .i + k) (a .c)) (a .sig .now) (l .sig) 8 (l .j) (l .inv .1) (omega arith) (omega arith)
 
-pub put-eight-spec : {M : Type 1} → statement M
-put-eight-spec =
+pub put-byte-spec : {M : Type 1} → statement M
+put-byte-spec =
     tie.close
     (tie.spec
     Inv-loop
