@@ -22,8 +22,8 @@ abbrev pub nodeSet : List ℕ → List ℕ → Env → ℕ → Set
 nodeSet site S ρ j = eval (siteOf site) ρ (treeAt (tableOf S) j)
 
 -- the flags are right: a node whose flag is set has its set, under the variables' current sets, in the work buffer
-unfoldable pub FlagsRight : List ℕ → List ℕ → List ℕ → List ℕ → List ℕ → Type 0
-FlagsRight site S env fresh work = (j : ℕ) → 6 * j + 6 ≤ length S → getD fresh j 0 ≡ 1 → setAt work j ≐ nodeSet site S (setAt env) j
+pub record FlagsRight (site S env fresh work : List ℕ) : Type 0 where
+  pub node : (j : ℕ) → 6 * j + 6 ≤ length S → getD fresh j 0 ≡ 1 → setAt work j ≐ nodeSet site S (setAt env) j
 
 -- what a call of the evaluator asks: buffers of the right length, a table whose nodes fit, and flags that are right
 pub record Evaluable (site S free env fresh work : List ℕ) : Type 0 where

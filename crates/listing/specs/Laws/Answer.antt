@@ -25,7 +25,7 @@ use Rattle.condition.specs.Laws.Verdict.{Sound}
 use Rattle.even_rule.specs.Free.{FreeRows}
 use Rattle.listing_sets.specs.Offsets.{envBytes, setAt, SetWritten}
 use Rattle.listing.specs.Listed.{workBytes}
-use Rattle.listing.specs.State.{FlagsRight, Evaluable, Done}
+use Rattle.listing.specs.State.{Evaluable, Done}
 
 -- each variable of a table's trees is one of the sixteen
 Known : Form → Type 0
@@ -59,7 +59,6 @@ closed-eval φ k c M ρ σ =
 -- at the start no flag is set
 pub none-known : (site S rows work : List ℕ) → length site ≡ siteBytes → Sound S → FreeRows S rows → length rows ≡ tableNodes → length work ≡ workBytes
     → Evaluable site S rows (replicate envBytes 0) (replicate tableNodes 0) work
-unfolding FlagsRight
 none-known site S rows work hs sound f hr hw =
     record {
       site-size = hs;
@@ -70,9 +69,11 @@ none-known site S rows work hs sound f hr hw =
       env-size = length-replicate {A = ℕ} envBytes 0;
       fresh-size = length-replicate {A = ℕ} tableNodes 0;
       work-size = hw;
-      flags-right = λ j h e.
-          let z : _≡_ {A = ℕ} 1 0 = sym e ∙ getD-replicate {A = ℕ} tableNodes j 0 0 (omega (arith, sound .few)) in
-          absurd (omega arith);
+      flags-right = record {
+        node = λ j h e.
+            let z : _≡_ {A = ℕ} 1 0 = sym e ∙ getD-replicate {A = ℕ} tableNodes j 0 0 (omega (arith, sound .few)) in
+            absurd (omega arith);
+      };
     }
 
 -- the set that a buffer of one set holds
