@@ -22,7 +22,7 @@ abbrev μ-loop : tie.MeasureT-loop
 μ-loop site sig₀ c₀ sig c = marks - c
 
 loop-holds : tie.Need-loop-holds Inv-loop μ-loop
-loop-holds c = let a = c .before .args in (omega arith, omega arith, gains-start (λ k y. any setSlots (λ s. marking (siteOf (a .site .now)) s k y)) _)
+loop-holds c = let a = c .before .args in (omega arith, omega arith, gains-start (λ k y. any setSlots (λ s. marking (siteOf (a .site .now)) s k y)))
 
 slice-aggregate-put-marks : tie.Need-slice-aggregate-put-marks Inv-loop μ-loop
 slice-aggregate-put-marks c = search needs
@@ -38,11 +38,11 @@ loop-less c = omega arith
 
 loop-again : tie.Need-loop-again Inv-loop μ-loop
 loop-again c = let a = c .before .before .before .before .before .before .args in let l = c .before .before .before .before .loop in
-    (omega arith, omega arith, gains-more (λ k y. any setSlots (λ s. marking (siteOf (a .site .now)) s k y)) (replicate rowsBytes 0) (l .sig) _ (l .c) (l .inv .2) (c .before .put-marks .ensures))
+    (omega arith, omega arith, gains-more (λ k y. any setSlots (λ s. marking (siteOf (a .site .now)) s k y)) (l .c) (l .inv .2) (c .before .put-marks .ensures))
 
 returns : tie.Need-returns Inv-loop μ-loop
 returns c = let a = c .before .before .before .args in let l = c .before .loop in
-    all-marked (siteOf (a .site .now)) rowsBytes _ (gains-done (λ k y. any setSlots (λ s. marking (siteOf (a .site .now)) s k y)) (replicate rowsBytes 0) (l .sig) marks (l .c) (l .inv .2) (omega arith) (omega arith))
+    all-marked (siteOf (a .site .now)) rowsBytes (gains-done (λ k y. any setSlots (λ s. marking (siteOf (a .site .now)) s k y)) marks (l .c) (l .inv .2) (omega arith) (omega arith))
 
 pub marks-of-spec : {M : Type 1} → statement M
 marks-of-spec =

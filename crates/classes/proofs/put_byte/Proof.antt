@@ -26,10 +26,10 @@ shared-slice-read-if1 : tie.Need-shared-slice-read-if1 Inv-loop μ-loop
 shared-slice-read-if1 c = omega arith
 
 returns : tie.Need-returns Inv-loop μ-loop
-returns c = let s = c .before .before .before .before in let a = s .args in none-marked (a .site .now) (a .c) (a .i) _ (s .pre .1 .0) (s .pre .1 .1 .0) (c .if1 .taken)
+returns c = let s = c .before .before .before .before in let a = s .args in none-marked (a .site .now) (a .c) (a .i) (s .pre .1 .0) (s .pre .1 .1 .0) (c .if1 .taken)
 
 loop-holds : tie.Need-loop-holds Inv-loop μ-loop
-loop-holds c = let a = c .before .before .before .before .args in (omega arith, gains-start (λ k. marking (siteOf (a .site .now)) (8 * a .i + k) (a .c)) _)
+loop-holds c = let a = c .before .before .before .before .args in (omega arith, gains-start (λ k. marking (siteOf (a .site .now)) (8 * a .i + k) (a .c)))
 
 mul-put-mark : tie.Need-mul-put-mark Inv-loop μ-loop
 mul-put-mark c = omega arith
@@ -50,14 +50,14 @@ loop-again : tie.Need-loop-again Inv-loop μ-loop
 loop-again c =
     let a = c .before .before .before .before .before .before .before .before .before .before .args in
     let l = c .before .before .before .before .before .loop in
-    (omega arith, gains-more (λ k. marking (siteOf (a .site .now)) (8 * a .i + k) (a .c)) (a .sig .now) (l .sig) _ (l .j) (l .inv .1) (c .before .before .put-mark .ensures))
+    (omega arith, gains-more (λ k. marking (siteOf (a .site .now)) (8 * a .i + k) (a .c)) (l .j) (l .inv .1) (c .before .before .put-mark .ensures))
 
 same-length : tie.Need-same-length Inv-loop μ-loop
 same-length c = omega arith
 
 returns-2 : tie.Need-returns-2 Inv-loop μ-loop
 returns-2 c = let a = c .before .before .before .before .before .before .args in let l = c .before .loop in
-    gains-done (λ k. marking (siteOf (a .site .now)) (8 * a .i + k) (a .c)) (a .sig .now) (l .sig) 8 (l .j) (l .inv .1) (omega arith) (omega arith)
+    gains-done (λ k. marking (siteOf (a .site .now)) (8 * a .i + k) (a .c)) 8 (l .j) (l .inv .1) (omega arith) (omega arith)
 
 pub put-byte-spec : {M : Type 1} → statement M
 put-byte-spec =

@@ -12,7 +12,7 @@ has-mark-requires c κs = omega arith
 
 returns : tie.Need-returns
 unfolding marking
-returns c = gains-skip-if _ _ _ (sym (c .before .has-mark .ensures) ∙ not-true _ (c .if1 .taken))
+returns c = gains-skip-if _ (sym (c .before .has-mark .ensures) ∙ not-true _ (c .if1 .taken))
 
 mul-insert : tie.Need-mul-insert
 mul-insert c = omega arith
@@ -28,7 +28,7 @@ same-length c = omega arith
 
 returns-2 : tie.Need-returns-2
 unfolding marking
-returns-2 c = gains-put-if _ _ _ _ (sym (c .before .before .before .before .before .has-mark .ensures) ∙ not-false _ (c .before .before .before .before .if1 .left)) (c .before .before .insert .ensures) (omega arith)
+returns-2 c = gains-put-if _ (sym (c .before .before .before .before .before .has-mark .ensures) ∙ not-false _ (c .before .before .before .before .if1 .left)) (c .before .before .insert .ensures) (omega arith)
 
 pub put-mark-spec : {M : Type 1} → statement M
 put-mark-spec =

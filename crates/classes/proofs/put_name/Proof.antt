@@ -20,7 +20,7 @@ same-length c = omega arith
 returns : tie.Need-returns
 returns c = let s = c .before .before .before .before .before .before .before in
     let x = c .before .before .before .before .place in
-    at-place (siteOf (s .args .site .now)) (s .args .c) (x .result) _ _ (s .pre .1 .0) (x .ensures .1) (x .ensures .0) (c .before .before .put-mark .ensures)
+    at-place (siteOf (s .args .site .now)) (s .args .c) (x .result) (s .pre .1 .0) (x .ensures .1) (x .ensures .0) (c .before .before .put-mark .ensures)
 
 pub put-name-spec : {M : Type 1} → statement M
 put-name-spec = tie.close (tie.spec sub-place place-requires put-mark-requires same-length returns)

@@ -18,7 +18,7 @@ abbrev μ-loop : tie.MeasureT-loop
 μ-loop site c sig₀ i₀ sig i = setBytes - i
 
 loop-holds : tie.Need-loop-holds Inv-loop μ-loop
-loop-holds c = let a = c .before .before .args in (omega arith, gains-start (λ k y. any 8 (λ j. marking (siteOf (a .site .now)) (8 * k + j) (a .c) y)) _)
+loop-holds c = let a = c .before .before .args in (omega arith, gains-start (λ k y. any 8 (λ j. marking (siteOf (a .site .now)) (8 * k + j) (a .c) y)))
 
 put-byte-requires : tie.Need-put-byte-requires Inv-loop μ-loop
 put-byte-requires c κs = omega arith
@@ -31,14 +31,14 @@ loop-less c = omega arith
 
 loop-again : tie.Need-loop-again Inv-loop μ-loop
 loop-again c = let a = c .before .before .before .before .before .before .before .before .args in let l = c .before .before .before .before .before .loop in
-    (omega arith, gains-more (λ k y. any 8 (λ j. marking (siteOf (a .site .now)) (8 * k + j) (a .c) y)) (a .sig .now) (l .sig) _ (l .i) (l .inv .1) (c .before .before .put-byte .ensures))
+    (omega arith, gains-more (λ k y. any 8 (λ j. marking (siteOf (a .site .now)) (8 * k + j) (a .c) y)) (l .i) (l .inv .1) (c .before .before .put-byte .ensures))
 
 same-length : tie.Need-same-length Inv-loop μ-loop
 same-length c = omega arith
 
 returns : tie.Need-returns Inv-loop μ-loop
 returns c = let a = c .before .before .before .before .args in let l = c .before .loop in
-    by-bytes (siteOf (a .site .now)) (a .c) _ _ (gains-done (λ k y. any 8 (λ j. marking (siteOf (a .site .now)) (8 * k + j) (a .c) y)) (a .sig .now) (l .sig) setBytes (l .i) (l .inv .1) (omega arith) (omega arith))
+    by-bytes (siteOf (a .site .now)) (a .c) (gains-done (λ k y. any 8 (λ j. marking (siteOf (a .site .now)) (8 * k + j) (a .c) y)) setBytes (l .i) (l .inv .1) (omega arith) (omega arith))
 
 pub put-set-spec : {M : Type 1} → statement M
 put-set-spec =

@@ -51,9 +51,9 @@ module _ (M : Model) where
       (ap (λ (x : ℕ). same (M .place x) s) (omega arith))
 
   -- the marks as the loops put them in
-  pub all-marked : (n : ℕ) (G : List ℕ) → Gains (λ y. any marks (λ c. any setSlots (λ s. marking M s c y))) (replicate n 0) G → Marked M G
+  pub all-marked : (n : ℕ) {G : List ℕ} → Gains (λ y. any marks (λ c. any setSlots (λ s. marking M s c y))) (replicate n 0) G → Marked M G
   unfolding Marked marking
-  all-marked n G g s c h k = gains-zeros (λ y. any marks (λ c. any setSlots (λ s. marking M s c y))) n G g (setSlots * s + c) ∙ both
+  all-marked n g s c h k = gains-zeros n g (setSlots * s + c) ∙ both
       (λ e.
       let b = any-out marks _ e in
       let a = any-out setSlots _ (b .2) in
@@ -66,8 +66,8 @@ module _ (M : Model) where
       moved x y e = rw (← x, ← y) e
 
   -- a mark is put in eight slots at a time; and a name's mark at the name's slot alone
-  pub by-bytes : (c : ℕ) (b a : List ℕ) → Gains (λ y. any setBytes (λ i. any 8 (λ j. marking M (8 * i + j) c y))) b a → Gains (λ y. any setSlots (λ s. marking M s c y)) b a
-  by-bytes c b a = gains-map _ _ b a (λ y. both
+  pub by-bytes : (c : ℕ) {b a : List ℕ} → Gains (λ y. any setBytes (λ i. any 8 (λ j. marking M (8 * i + j) c y))) b a → Gains (λ y. any setSlots (λ s. marking M s c y)) b a
+  by-bytes c = gains-map (λ y. both
       (λ e.
       let i = any-out setBytes _ e in
       let j = any-out 8 _ (i .2) in
@@ -77,9 +77,9 @@ module _ (M : Model) where
       let t : s .0 ≡ 8 * (s .0 / 8) + s .0 % 8 = omega arith in
       any-in setBytes _ (s .0 / 8) (omega (arith, s .1)) (any-in 8 _ (s .0 % 8) (omega arith) (rw (← t) (s .2)))))
 
-  pub at-place : (c x : ℕ) (b a : List ℕ) → namesFrom ≤ c → x < setSlots → x ≡ M .place (c - namesFrom) → Gains (marking M x c) b a → Gains (λ y. any setSlots (λ s. marking M s c y)) b a
+  pub at-place : (c x : ℕ) {b a : List ℕ} → namesFrom ≤ c → x < setSlots → x ≡ M .place (c - namesFrom) → Gains (marking M x c) b a → Gains (λ y. any setSlots (λ s. marking M s c y)) b a
   unfolding marking
-  at-place c x b a h l e = gains-map _ _ b a (λ y. both
+  at-place c x h l e = gains-map (λ y. both
       (λ q. any-in setSlots _ x l q)
       (λ q.
       let s = any-out setSlots _ q in
@@ -133,10 +133,10 @@ mark-set S s c h k =
     (λ x. let l = not-below c labelsFrom x in mark-mid (siteOf S) s c l h ∙ marked-is S (c - labelsFrom) s (omega arith) k ∙ ap (has S) (omega arith))
 
 -- a byte that is 0 marks none of its eight slots
-pub none-marked : (S : List ℕ) (c i : ℕ) (b : List ℕ) → c < namesFrom → i < setBytes → getD S (setBytes * c + i) 0 ≡ 0
+pub none-marked : (S : List ℕ) (c i : ℕ) {b : List ℕ} → c < namesFrom → i < setBytes → getD S (setBytes * c + i) 0 ≡ 0
     → Gains (λ y. any 8 (λ j. marking (siteOf S) (8 * i + j) c y)) b b
 unfolding marking has
-none-marked S c i b h k e = gains-none _ b (λ y. none-any 8 _ (λ j l.
+none-marked S c i h k e = gains-none (λ y. none-any 8 _ (λ j l.
     let q : (setSlots * c + (8 * i + j)) / 8 ≡ setBytes * c + i = omega arith in
     rw (mark-set S (8 * i + j) c h (omega arith), q, e, bit-zero ((setSlots * c + (8 * i + j)) % 8))))
 

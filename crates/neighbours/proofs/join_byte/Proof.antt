@@ -24,7 +24,7 @@ shared-slice-read-if1 : tie.Need-shared-slice-read-if1
 shared-slice-read-if1 c = omega arith
 
 returns : tie.Need-returns
-returns c = let a = c .before .before .before .before .args in byte-none _ (a .m) (a .s) (omega arith) (a .i) _ (omega arith) (omega arith) (c .if1 .taken)
+returns c = let a = c .before .before .before .before .args in byte-none _ (a .m) (a .s) (omega arith) (a .i) (omega arith) (omega arith) (c .if1 .taken)
 
 join-along-requires : tie.Need-join-along-requires
 join-along-requires c κs = omega arith
@@ -38,7 +38,7 @@ same-length c = omega arith
 returns-2 : tie.Need-returns-2
 returns-2 c =
     let a = c .before .before .before .before .before .before .before .before .before .before .before .before .args in
-    byte-joined (siteOf (a .site .now)) (a .m) (a .s) (a .i) _ _ _ (c .before .before .before .before .before .before .join-along .ensures) (c .before .before .join-back .ensures)
+    byte-joined (siteOf (a .site .now)) (a .m) (a .s) (a .i) (c .before .before .before .before .before .before .join-along .ensures) (c .before .before .join-back .ensures)
 
 pub join-byte-spec : {M : Type 1} → statement M
 join-byte-spec =

@@ -19,7 +19,7 @@ abbrev μ-loop : tie.MeasureT-loop
 μ-loop site m s ways₀ i₀ ways i = setBytes - i
 
 loop-holds : tie.Need-loop-holds Inv-loop μ-loop
-loop-holds c = let a = c .before .before .args in (omega arith, gains-start (byteJoins (siteOf (a .site .now)) (a .m) (a .s)) _)
+loop-holds c = let a = c .before .before .args in (omega arith, gains-start (byteJoins (siteOf (a .site .now)) (a .m) (a .s)))
 
 join-byte-requires : tie.Need-join-byte-requires Inv-loop μ-loop
 join-byte-requires c κs = search needs
@@ -32,14 +32,14 @@ loop-less c = omega arith
 
 loop-again : tie.Need-loop-again Inv-loop μ-loop
 loop-again c = let a = c .before .before .before .before .before .before .before .before .args in let l = c .before .before .before .before .before .loop in
-    (omega arith, gains-more (byteJoins (siteOf (a .site .now)) (a .m) (a .s)) (a .ways .now) (l .ways) _ (l .i) (l .inv .1) (c .before .before .join-byte .ensures))
+    (omega arith, gains-more (byteJoins (siteOf (a .site .now)) (a .m) (a .s)) (l .i) (l .inv .1) (c .before .before .join-byte .ensures))
 
 same-length : tie.Need-same-length Inv-loop μ-loop
 same-length c = omega arith
 
 returns : tie.Need-returns Inv-loop μ-loop
 returns c = let a = c .before .before .before .before .args in let l = c .before .loop in
-    bytes-all _ (a .m) (a .s) _ _ (gains-done (byteJoins (siteOf (a .site .now)) (a .m) (a .s)) (a .ways .now) (l .ways) setBytes (l .i) (l .inv .1) (omega arith) (omega arith))
+    bytes-all _ (a .m) (a .s) (gains-done (byteJoins (siteOf (a .site .now)) (a .m) (a .s)) setBytes (l .i) (l .inv .1) (omega arith) (omega arith))
 
 pub join-row-spec : {M : Type 1} → statement M
 join-row-spec =

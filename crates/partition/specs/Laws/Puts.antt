@@ -38,14 +38,14 @@ some-bit v h n =
 
 module _ (R p : List ℕ) (s : ℕ) where
   -- slot t puts in its class, or nothing
-  pub slot-skips : (t : ℕ) (b : List ℕ) → inRow R s t ≡ false → Gains (slotPuts R p s t) b b
+  pub slot-skips : (t : ℕ) {b : List ℕ} → inRow R s t ≡ false → Gains (slotPuts R p s t) b b
   unfolding slotPuts
-  slot-skips t b e = gains-skip-if (inRow R s t) b (setSlots * s + getD p t 0) e
+  slot-skips t e = gains-skip-if (setSlots * s + getD p t 0) e
 
-  pub slot-puts : (t : ℕ) (b a : List ℕ) (c : ℕ) → c ≡ getD p t 0 → inRow R s t ≡ true → a ≡ inserted b (setSlots * s + c)
+  pub slot-puts : (t : ℕ) {b a : List ℕ} (c : ℕ) → c ≡ getD p t 0 → inRow R s t ≡ true → a ≡ inserted b (setSlots * s + c)
       → (setSlots * s + c) / 8 < length b → Gains (slotPuts R p s t) b a
   unfolding slotPuts
-  slot-puts t b a c e h q l = rw e at (gains-put-if (inRow R s t) b a (setSlots * s + c) h q l)
+  slot-puts t c e h q l = rw e at (gains-put-if (setSlots * s + c) h q l)
 
   module _ (i : ℕ) where
     -- what byte i puts in, one of its eight slots does
@@ -60,9 +60,9 @@ module _ (R p : List ℕ) (s : ℕ) where
     byte-in y j h e q = any-in 8 _ j h (and-in e (eq-same q))
 
     -- a byte that is 0 puts nothing in
-    pub byte-none : (b : List ℕ) → getD R (32 * s + i) 0 ≡ 0 → Gains (bytePuts R p s i) b b
+    pub byte-none : {b : List ℕ} → getD R (32 * s + i) 0 ≡ 0 → Gains (bytePuts R p s i) b b
     unfolding bytePuts slotPuts
-    byte-none b e = gains-none _ b (λ y. none-any 8 _ (λ j h. rw (row-bit R s i j h, e, bit-zero j)))
+    byte-none e = gains-none (λ y. none-any 8 _ (λ j h. rw (row-bit R s i j h, e, bit-zero j)))
 
     -- the slots of O, which have their own numbers, put in the bits of the byte that they stand for
     module _ (O : List ℕ) (o : Is O (owns p)) (h : i < setBytes) where
@@ -90,10 +90,10 @@ module _ (R p : List ℕ) (s : ℕ) where
           let a = own-out y e in
           byte-in y (a .0) (a .1) (a .3) (a .4 ∙ ap (λ (x : ℕ). setSlots * s + x) (sym (own-number (a .0) (a .1) (a .2))))
 
-      pub own-byte-puts : (b : List ℕ) → 32 * s + i < length b
+      pub own-byte-puts : {b : List ℕ} → 32 * s + i < length b
           → Gains (ownBytePuts R p O s i) b (set b (32 * s + i) (bitOr (getD b (32 * s + i) 0) (bitAnd (getD R (32 * s + i) 0) (getD O i 0))))
       unfolding has
-      own-byte-puts b l = record {
+      own-byte-puts {b} l = record {
         long = length-set b (32 * s + i) _;
         holds = λ y. either
             (equal? (y / 8) (32 * s + i))
@@ -151,14 +151,14 @@ module _ (R p : List ℕ) (s : ℕ) where
             let g : has O (8 * i + e .0) ≡ true = either (look (has O (8 * i + e .0))) (λ x. x) (λ x. clash (and-in (e .2) (ap not x)) n) in
             own-in y (e .0) (e .1) g (e .2) (e .3 ∙ ap (λ (x : ℕ). setSlots * s + x) (own-number (e .0) (e .1) g))
 
-        pub byte-own : (b a : List ℕ) → noOtherInByte R O s i ≡ true → Gains (ownBytePuts R p O s i) b a → Gains (bytePuts R p s i) b a
-        byte-own b a z = gains-map _ _ b a (λ y. both (own-byte y) (own-if-none z y))
+        pub byte-own : {b a : List ℕ} → noOtherInByte R O s i ≡ true → Gains (ownBytePuts R p O s i) b a → Gains (bytePuts R p s i) b a
+        byte-own z = gains-map (λ y. both (own-byte y) (own-if-none z y))
 
         -- all eight slots are put in after those of O
-        pub byte-all : (b a d : List ℕ) → Gains (ownBytePuts R p O s i) b a → Gains (bytePuts R p s i) a d → Gains (bytePuts R p s i) b d
-        byte-all b a d g k = gains-map _ _ b d (λ y. both
+        pub byte-all : {b a d : List ℕ} → Gains (ownBytePuts R p O s i) b a → Gains (bytePuts R p s i) a d → Gains (bytePuts R p s i) b d
+        byte-all g k = gains-map (λ y. both
             (λ q. either (or-out _ _ q) (own-byte y) (λ x. x))
-            (λ q. or-r (ownBytePuts R p O s i y) _ q)) (gains-join (ownBytePuts R p O s i) (bytePuts R p s i) b a d g k)
+            (λ q. or-r (ownBytePuts R p O s i y) _ q)) (gains-join g k)
 
 -- a group of eight bytes: its slots of O first, then the others, at once or one by one
 module _ (R p : List ℕ) (s g : ℕ) (O : List ℕ) (o : Is O (owns p)) (h : g < 4) (v : (k : ℕ) → getD R k 0 < 256) (w : (k : ℕ) → getD O k 0 < 256) where
@@ -168,22 +168,22 @@ module _ (R p : List ℕ) (s g : ℕ) (O : List ℕ) (o : Is O (owns p)) (h : g 
       let k = any-out 8 _ q in
       any-in 8 _ (k .0) (k .1) (own-byte R p s (8 * g + k .0) O o (omega (arith, k .1)) y (k .2))
 
-  pub group-own : (b a : List ℕ) → noOtherInGroup R O s g ≡ true → Gains (ownGroupPuts R p O s g) b a → Gains (groupPuts R p s g) b a
+  pub group-own : {b a : List ℕ} {r : Bool} → r ≡ noOtherInGroup R O s g → r ≡ true → Gains (ownGroupPuts R p O s g) b a → Gains (groupPuts R p s g) b a
   unfolding ownGroupPuts groupPuts noOtherInGroup
-  group-own b a z = gains-map _ _ b a (λ y. both (own-group y) (λ q.
+  group-own e z = gains-map (λ y. both (own-group y) (λ q.
       let k = any-out 8 _ q in
-      any-in 8 _ (k .0) (k .1) (own-if-none R p s (8 * g + k .0) O o (omega (arith, k .1)) (v _) (w _) (all-out 8 _ z (k .0) (k .1)) y (k .2))))
+      any-in 8 _ (k .0) (k .1) (own-if-none R p s (8 * g + k .0) O o (omega (arith, k .1)) (v _) (w _) (all-out 8 _ (sym e ∙ z) (k .0) (k .1)) y (k .2))))
 
-  pub group-one : (b a d : List ℕ) (c : ℕ) → noOtherInGroup R O s g ≡ false → groupOthersInClass p O g c ≡ true
+  pub group-one : {b a d : List ℕ} {r : Bool} (c : ℕ) → r ≡ noOtherInGroup R O s g → r ≡ false → groupOthersInClass p O g c ≡ true
       → Gains (ownGroupPuts R p O s g) b a → d ≡ inserted a (setSlots * s + c) → (setSlots * s + c) / 8 < length a → Gains (groupPuts R p s g) b d
   unfolding ownGroupPuts groupPuts noOtherInGroup groupOthersInClass
-  group-one b a d c n f t e l =
-      gains-map _ _ b d (λ y. both
+  group-one c j n f t e l =
+      gains-map (λ y. both
       (λ q. either
       (or-out (ownGroupPuts R p O s g y) _ q)
       (own-group y)
       (λ x.
-      let k = all-fails 8 (λ k. noOtherInByte R O s (8 * g + k)) n in
+      let k = all-fails 8 (λ k. noOtherInByte R O s (8 * g + k)) (sym j ∙ n) in
       any-in 8 _ (k .0) (k .1) (others-put R p s (8 * g + k .0) O o (omega (arith, k .1)) (v _) (w _) c y (all-out 8 _ f (k .0) (k .1)) (k .2) (same-eq x))))
       (λ q.
       let k = any-out 8 _ q in
@@ -191,12 +191,12 @@ module _ (R p : List ℕ) (s g : ℕ) (O : List ℕ) (o : Is O (owns p)) (h : g 
       (own-or-other R p s (8 * g + k .0) O o (omega (arith, k .1)) (v _) (w _) c y (all-out 8 _ f (k .0) (k .1)) (k .2))
       (λ x. or-l _ _ (any-in 8 _ (k .0) (k .1) x))
       (λ x. or-r (ownGroupPuts R p O s g y) _ (eq-same x))))
-      (gains-join (ownGroupPuts R p O s g) (λ y. same y (setSlots * s + c)) b a d t (gains-put a d (setSlots * s + c) e l))
+      (gains-join t (gains-put (setSlots * s + c) e l))
 
-  pub group-all : (b a d : List ℕ) → Gains (ownGroupPuts R p O s g) b a → Gains (groupPuts R p s g) a d → Gains (groupPuts R p s g) b d
-  group-all b a d t k = gains-map _ _ b d (λ y. both
+  pub group-all : {b a d : List ℕ} → Gains (ownGroupPuts R p O s g) b a → Gains (groupPuts R p s g) a d → Gains (groupPuts R p s g) b d
+  group-all t k = gains-map (λ y. both
       (λ q. either (or-out (ownGroupPuts R p O s g y) _ q) (own-group y) (λ x. x))
-      (λ q. or-r (ownGroupPuts R p O s g y) _ q)) (gains-join (ownGroupPuts R p O s g) (groupPuts R p s g) b a d t k)
+      (λ q. or-r (ownGroupPuts R p O s g y) _ q)) (gains-join t k)
 
 -- one more byte is searched for slots that are not in O
 pub others-next : (f : ℕ → Bool) (k v w : ℕ) → same v 0 ≡ all k f → f k ≡ same w 0 → same (bitOr v w) 0 ≡ all (k + 1) f
@@ -216,8 +216,8 @@ others-more p O C i v l f h j k b =
     (λ n. let w : getD (set C i v) j 0 ≡ getD C j 0 = getD-set-other C i j v 0 n in rw w (f j (omega arith) (rw (← w) b)))
 
 -- the set of the slots with their own number
-pub own-set : (p : List ℕ) (n : ℕ) (O : List ℕ) → Gains (λ y. any setSlots (λ t. owns p t && same y t)) (replicate n 0) O → Is O (owns p)
-own-set p n O g s h = gains-zeros (λ y. any setSlots (λ t. owns p t && same y t)) n O g s ∙ both
+pub own-set : (p : List ℕ) (n : ℕ) {O : List ℕ} → Gains (λ y. any setSlots (λ t. owns p t && same y t)) (replicate n 0) O → Is O (owns p)
+own-set p n g s h = gains-zeros n g s ∙ both
     (λ e.
     let a = any-out setSlots _ e in
     let b : owns p (a .0) ≡ true = and-l _ _ (a .2) in

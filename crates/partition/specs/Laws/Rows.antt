@@ -106,10 +106,10 @@ module _ (q R : List ℕ) where
 -- ---- signatures
 
 -- zeros, into which each group of each row has put what it does, are the signatures
-pub signed : (R p : List ℕ) (n : ℕ) (G : List ℕ) → ((k : ℕ) → getD p k 0 < 256)
+pub signed : (R p : List ℕ) (n : ℕ) {G : List ℕ} → ((k : ℕ) → getD p k 0 < 256)
     → Gains (λ y. any setSlots (λ s. any 4 (λ g. groupPuts R p s g y))) (replicate n 0) G → Signed R p G
 unfolding Signed sees groupPuts bytePuts slotPuts
-signed R p n G bp g s c h k = gains-zeros _ n G g (setSlots * s + c) ∙ both
+signed R p n bp g s c h k = gains-zeros n g (setSlots * s + c) ∙ both
     (λ e.
     let b = any-out setSlots _ e in
     let o = any-out 4 _ (b .2) in

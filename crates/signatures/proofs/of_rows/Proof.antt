@@ -30,7 +30,7 @@ other-classes-requires : tie.Need-other-classes-requires Inv-loop μ-loop
 other-classes-requires c κs = search needs
 
 loop-holds : tie.Need-loop-holds Inv-loop μ-loop
-loop-holds c = let a = c .before .before .before .before .before .args in (omega arith, omega arith, gains-start (λ k y. any 4 (λ g. groupPuts (a .rows .now) (a .p .now) k g y)) _)
+loop-holds c = let a = c .before .before .before .before .before .args in (omega arith, omega arith, gains-start (λ k y. any 4 (λ g. groupPuts (a .rows .now) (a .p .now) k g y)))
 
 slice-aggregate-put-row : tie.Need-slice-aggregate-put-row Inv-loop μ-loop
 slice-aggregate-put-row c = search needs
@@ -54,11 +54,11 @@ loop-again : tie.Need-loop-again Inv-loop μ-loop
 loop-again c =
     let a = c .before .before .before .before .before .before .before .before .before .before .before .before .args in
     let l = c .before .before .before .before .before .before .loop in
-    (omega arith, omega arith, gains-more (λ k y. any 4 (λ g. groupPuts (a .rows .now) (a .p .now) k g y)) (replicate rowsBytes 0) (l .sig) _ (l .s) (l .inv .2) (c .before .put-row .ensures))
+    (omega arith, omega arith, gains-more (λ k y. any 4 (λ g. groupPuts (a .rows .now) (a .p .now) k g y)) (l .s) (l .inv .2) (c .before .put-row .ensures))
 
 returns : tie.Need-returns Inv-loop μ-loop
 returns c = let a = c .before .before .before .before .before .before .before .args in let l = c .before .loop in
-    signed (a .rows .now) (a .p .now) rowsBytes _ (λ k. omega (arith, c .before .before .before .before .before .shared-slice-known2 .given k)) (gains-done (λ k y. any 4 (λ g. groupPuts (a .rows .now) (a .p .now) k g y)) (replicate rowsBytes 0) (l .sig) setSlots (l .s) (l .inv .2) (omega arith) (omega arith))
+    signed (a .rows .now) (a .p .now) rowsBytes (λ k. omega (arith, c .before .before .before .before .before .shared-slice-known2 .given k)) (gains-done (λ k y. any 4 (λ g. groupPuts (a .rows .now) (a .p .now) k g y)) setSlots (l .s) (l .inv .2) (omega arith) (omega arith))
 
 pub of-rows-spec : {M : Type 1} → statement M
 of-rows-spec =

@@ -42,7 +42,7 @@ returns c =
     let s = c .before .before .before .before .before .before .before .before .before .before in
     let a = s .args in
     let row-bytes = c .before .before .before .before .before .before .before .before .before .shared-slice-known in
-    byte-own (a .rows .now) (a .p .now) (a .s) (a .i) (a .own .now) (s .pre .1) (omega arith) (omega (arith, row-bytes .given (32 * a .s + a .i))) (omega (arith, c .before .before .before .before .before .before .before .shared-slice-known3 .given (a .i))) (a .sig .now) _ (eq-same (c .if1 .taken)) (own-byte-puts (a .rows .now) (a .p .now) (a .s) (a .i) (a .own .now) (s .pre .1) (omega arith) (a .sig .now) (omega arith))
+    byte-own (a .rows .now) (a .p .now) (a .s) (a .i) (a .own .now) (s .pre .1) (omega arith) (omega (arith, row-bytes .given (32 * a .s + a .i))) (omega (arith, c .before .before .before .before .before .before .before .shared-slice-known3 .given (a .i))) (eq-same (c .if1 .taken)) (own-byte-puts (a .rows .now) (a .p .now) (a .s) (a .i) (a .own .now) (s .pre .1) (omega arith) (omega arith))
 
 put-slots-requires : tie.Need-put-slots-requires
 put-slots-requires c κs = simp length-set (omega arith)
@@ -56,7 +56,7 @@ returns-2 c =
     let a = s .args in
     let row-bytes = c .before .before .before .before .before .before .before .before .before .before .before .before .before .shared-slice-known in
     let own-bytes = c .before .before .before .before .before .before .before .before .before .before .before .shared-slice-known3 in
-    byte-all (a .rows .now) (a .p .now) (a .s) (a .i) (a .own .now) (s .pre .1) (omega arith) (omega (arith, row-bytes .given (32 * a .s + a .i))) (omega (arith, own-bytes .given (a .i))) (a .sig .now) _ _ (own-byte-puts (a .rows .now) (a .p .now) (a .s) (a .i) (a .own .now) (s .pre .1) (omega arith) (a .sig .now) (omega arith)) (c .before .before .put-slots .ensures)
+    byte-all (a .rows .now) (a .p .now) (a .s) (a .i) (a .own .now) (s .pre .1) (omega arith) (omega (arith, row-bytes .given (32 * a .s + a .i))) (omega (arith, own-bytes .given (a .i))) (own-byte-puts (a .rows .now) (a .p .now) (a .s) (a .i) (a .own .now) (s .pre .1) (omega arith) (omega arith)) (c .before .before .put-slots .ensures)
 
 pub put-byte-spec : {M : Type 1} → statement M
 put-byte-spec =

@@ -15,7 +15,7 @@ abbrev μ-loop : tie.MeasureT-loop
 μ-loop rows p own s g sig₀ k₀ sig k = 8 - k
 
 loop-holds : tie.Need-loop-holds Inv-loop μ-loop
-loop-holds c = let a = c .before .before .before .before .args in (omega arith, gains-start (λ k. bytePuts (a .rows .now) (a .p .now) (a .s) (8 * a .g + k)) _)
+loop-holds c = let a = c .before .before .before .before .args in (omega arith, gains-start (λ k. bytePuts (a .rows .now) (a .p .now) (a .s) (8 * a .g + k)))
 
 mul-put-byte : tie.Need-mul-put-byte Inv-loop μ-loop
 mul-put-byte c = omega arith
@@ -36,7 +36,7 @@ loop-again : tie.Need-loop-again Inv-loop μ-loop
 loop-again c =
     let a = c .before .before .before .before .before .before .before .before .before .before .args in
     let l = c .before .before .before .before .before .loop in
-    (omega arith, gains-more (λ k. bytePuts (a .rows .now) (a .p .now) (a .s) (8 * a .g + k)) (a .sig .now) (l .sig) _ (l .k) (l .inv .1) (c .before .before .put-byte .ensures))
+    (omega arith, gains-more (λ k. bytePuts (a .rows .now) (a .p .now) (a .s) (8 * a .g + k)) (l .k) (l .inv .1) (c .before .before .put-byte .ensures))
 
 same-length : tie.Need-same-length Inv-loop μ-loop
 same-length c = omega arith
@@ -44,7 +44,7 @@ same-length c = omega arith
 returns : tie.Need-returns Inv-loop μ-loop
 unfolding groupPuts
 returns c = let a = c .before .before .before .before .before .before .args in let l = c .before .loop in
-    gains-done (λ k. bytePuts (a .rows .now) (a .p .now) (a .s) (8 * a .g + k)) (a .sig .now) (l .sig) 8 (l .k) (l .inv .1) (omega arith) (omega arith)
+    gains-done (λ k. bytePuts (a .rows .now) (a .p .now) (a .s) (8 * a .g + k)) 8 (l .k) (l .inv .1) (omega arith) (omega arith)
 
 pub put-bytes-spec : {M : Type 1} → statement M
 put-bytes-spec =

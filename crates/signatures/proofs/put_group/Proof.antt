@@ -1,5 +1,4 @@
 -- The slots of `own` first; then the others, where there are any: their class, or one by one.
-use mathlib.Core.Path.{sym, _∙_}
 use native.Mathlib.Omega.{arith}
 use borrow.Author.Needs.{needs}
 use Rattle.partition.specs.Laws.Puts.{group-own, group-one, group-all}
@@ -20,7 +19,7 @@ returns c =
     let s = c .before .before .before .before .before .before .before .before .before .before in
     let a = s .args in
     let row-bytes = c .before .before .before .before .before .before .before .before .before .shared-slice-known in
-    group-own (a .rows .now) (a .p .now) (a .s) (a .g) (a .own .now) (s .pre .1 .0) (omega arith) (λ k. omega (arith, row-bytes .given k)) (λ k. omega (arith, c .before .before .before .before .before .before .before .shared-slice-known3 .given k)) _ _ (sym (c .before .all-own .ensures) ∙ c .if1 .taken) (c .before .before .before .before .put-own-group .ensures)
+    group-own (a .rows .now) (a .p .now) (a .s) (a .g) (a .own .now) (s .pre .1 .0) (omega arith) (λ k. omega (arith, row-bytes .given k)) (λ k. omega (arith, c .before .before .before .before .before .before .before .shared-slice-known3 .given k)) (c .before .all-own .ensures) (c .if1 .taken) (c .before .before .before .before .put-own-group .ensures)
 
 mul-insert : tie.Need-mul-insert
 mul-insert c = omega arith
@@ -44,7 +43,7 @@ returns-2 c =
     let row-bytes = c .before .before .before .before .before .before .before .before .before .before .before .before .before .before .before .shared-slice-known in
     let own-bytes = c .before .before .before .before .before .before .before .before .before .before .before .before .before .shared-slice-known3 in
     let own-put = c .before .before .before .before .before .before .before .before .before .before .put-own-group in
-    group-one (a .rows .now) (a .p .now) (a .s) (a .g) (a .own .now) (s .pre .1 .0) (omega arith) (λ k. omega (arith, row-bytes .given k)) (λ k. omega (arith, own-bytes .given k)) _ _ _ (a .c) (sym (c .before .before .before .before .before .before .before .all-own .ensures) ∙ c .before .before .before .before .before .before .if1 .left) (s .pre .1 .1 (c .before .before .before .before .before .if2 .taken)) (own-put .ensures) (rw (c .before .before .before .slot .ensures) at (c .before .before .insert .ensures)) (omega (arith, own-put .ensures .long))
+    group-one (a .rows .now) (a .p .now) (a .s) (a .g) (a .own .now) (s .pre .1 .0) (omega arith) (λ k. omega (arith, row-bytes .given k)) (λ k. omega (arith, own-bytes .given k)) (a .c) (c .before .before .before .before .before .before .before .all-own .ensures) (c .before .before .before .before .before .before .if1 .left) (s .pre .1 .1 (c .before .before .before .before .before .if2 .taken)) (own-put .ensures) (rw (c .before .before .before .slot .ensures) at (c .before .before .insert .ensures)) (omega (arith, own-put .ensures .long))
 
 put-bytes-requires : tie.Need-put-bytes-requires
 put-bytes-requires c κs =
@@ -61,7 +60,7 @@ returns-3 c =
     let row-bytes = c .before .before .before .before .before .before .before .before .before .before .before .before .before .before .shared-slice-known in
     let own-bytes = c .before .before .before .before .before .before .before .before .before .before .before .before .shared-slice-known3 in
     let own-put = c .before .before .before .before .before .before .before .before .before .put-own-group in
-    group-all (a .rows .now) (a .p .now) (a .s) (a .g) (a .own .now) (s .pre .1 .0) (omega arith) (λ k. omega (arith, row-bytes .given k)) (λ k. omega (arith, own-bytes .given k)) _ _ _ (own-put .ensures) (c .before .before .put-bytes .ensures)
+    group-all (a .rows .now) (a .p .now) (a .s) (a .g) (a .own .now) (s .pre .1 .0) (omega arith) (λ k. omega (arith, row-bytes .given k)) (λ k. omega (arith, own-bytes .given k)) (own-put .ensures) (c .before .before .put-bytes .ensures)
 
 pub put-group-spec : {M : Type 1} → statement M
 put-group-spec =

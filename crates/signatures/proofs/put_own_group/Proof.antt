@@ -19,7 +19,7 @@ abbrev μ-loop : tie.MeasureT-loop
 μ-loop rows p own s g sig₀ k₀ sig k = 8 - k
 
 loop-holds : tie.Need-loop-holds Inv-loop μ-loop
-loop-holds c = let a = c .args in (omega arith, omega arith, gains-start (λ k. ownBytePuts (a .rows .now) (a .p .now) (a .own .now) (a .s) (8 * a .g + k)) _)
+loop-holds c = let a = c .args in (omega arith, omega arith, gains-start (λ k. ownBytePuts (a .rows .now) (a .p .now) (a .own .now) (a .s) (8 * a .g + k)))
 
 mul-i : tie.Need-mul-i Inv-loop μ-loop
 mul-i c = omega arith
@@ -53,7 +53,7 @@ loop-less c = omega arith
 
 loop-again : tie.Need-loop-again Inv-loop μ-loop
 loop-again c = let s = c .before .before .before .before .before in let a = s .args in let l = c .before .before .before .before .loop in
-    (omega arith, simp length-set (l .inv .1), gains-more (λ k. ownBytePuts (a .rows .now) (a .p .now) (a .own .now) (a .s) (8 * a .g + k)) (a .sig .now) (l .sig) _ (l .k) (l .inv .2) (own-byte-puts (a .rows .now) (a .p .now) (a .s) (8 * a .g + l .k) (a .own .now) (s .pre .1) (omega arith) (l .sig) (omega arith)))
+    (omega arith, simp length-set (l .inv .1), gains-more (λ k. ownBytePuts (a .rows .now) (a .p .now) (a .own .now) (a .s) (8 * a .g + k)) (l .k) (l .inv .2) (own-byte-puts (a .rows .now) (a .p .now) (a .s) (8 * a .g + l .k) (a .own .now) (s .pre .1) (omega arith) (omega arith)))
 
 same-length : tie.Need-same-length Inv-loop μ-loop
 same-length c = omega arith
@@ -61,7 +61,7 @@ same-length c = omega arith
 returns : tie.Need-returns Inv-loop μ-loop
 unfolding ownGroupPuts
 returns c = let a = c .before .before .args in let l = c .before .loop in
-    gains-done (λ k. ownBytePuts (a .rows .now) (a .p .now) (a .own .now) (a .s) (8 * a .g + k)) (a .sig .now) (l .sig) 8 (l .k) (l .inv .2) (omega arith) (omega arith)
+    gains-done (λ k. ownBytePuts (a .rows .now) (a .p .now) (a .own .now) (a .s) (8 * a .g + k)) 8 (l .k) (l .inv .2) (omega arith) (omega arith)
 
 pub put-own-group-spec : {M : Type 1} → statement M
 put-own-group-spec =

@@ -15,7 +15,7 @@ abbrev μ-loop : tie.MeasureT-loop
 μ-loop rows p own others s sig₀ g₀ sig g = 4 - g
 
 loop-holds : tie.Need-loop-holds Inv-loop μ-loop
-loop-holds c = let a = c .before .before .before .before .before .args in (omega arith, gains-start (λ k. groupPuts (a .rows .now) (a .p .now) (a .s) k) _)
+loop-holds c = let a = c .before .before .before .before .before .args in (omega arith, gains-start (λ k. groupPuts (a .rows .now) (a .p .now) (a .s) k))
 
 mul-put-group : tie.Need-mul-put-group Inv-loop μ-loop
 mul-put-group c = omega arith
@@ -38,14 +38,14 @@ loop-again : tie.Need-loop-again Inv-loop μ-loop
 loop-again c =
     let a = c .before .before .before .before .before .before .before .before .before .before .before .before .args in
     let l = c .before .before .before .before .before .before .loop in
-    (omega arith, gains-more (λ k. groupPuts (a .rows .now) (a .p .now) (a .s) k) (a .sig .now) (l .sig) _ (l .g) (l .inv .1) (c .before .before .put-group .ensures))
+    (omega arith, gains-more (λ k. groupPuts (a .rows .now) (a .p .now) (a .s) k) (l .g) (l .inv .1) (c .before .before .put-group .ensures))
 
 same-length : tie.Need-same-length Inv-loop μ-loop
 same-length c = omega arith
 
 returns : tie.Need-returns Inv-loop μ-loop
 returns c = let a = c .before .before .before .before .before .before .before .args in let l = c .before .loop in
-    gains-done (λ k. groupPuts (a .rows .now) (a .p .now) (a .s) k) (a .sig .now) (l .sig) 4 (l .g) (l .inv .1) (omega arith) (omega arith)
+    gains-done (λ k. groupPuts (a .rows .now) (a .p .now) (a .s) k) 4 (l .g) (l .inv .1) (omega arith) (omega arith)
 
 pub put-row-spec : {M : Type 1} → statement M
 put-row-spec =

@@ -16,7 +16,7 @@ abbrev μ-loop : tie.MeasureT-loop
 μ-loop rows p s i sig₀ j₀ sig j = 8 - j
 
 loop-holds : tie.Need-loop-holds Inv-loop μ-loop
-loop-holds c = let a = c .before .before .before .args in (omega arith, gains-start (λ k. slotPuts (a .rows .now) (a .p .now) (a .s) (8 * a .i + k)) _)
+loop-holds c = let a = c .before .before .before .args in (omega arith, gains-start (λ k. slotPuts (a .rows .now) (a .p .now) (a .s) (8 * a .i + k)))
 
 mul-put-slot : tie.Need-mul-put-slot Inv-loop μ-loop
 mul-put-slot c = omega arith
@@ -37,7 +37,7 @@ loop-again : tie.Need-loop-again Inv-loop μ-loop
 loop-again c =
     let a = c .before .before .before .before .before .before .before .before .before .args in
     let l = c .before .before .before .before .before .loop in
-    (omega arith, gains-more (λ k. slotPuts (a .rows .now) (a .p .now) (a .s) (8 * a .i + k)) (a .sig .now) (l .sig) _ (l .j) (l .inv .1) (c .before .before .put-slot .ensures))
+    (omega arith, gains-more (λ k. slotPuts (a .rows .now) (a .p .now) (a .s) (8 * a .i + k)) (l .j) (l .inv .1) (c .before .before .put-slot .ensures))
 
 same-length : tie.Need-same-length Inv-loop μ-loop
 same-length c = omega arith
@@ -45,7 +45,7 @@ same-length c = omega arith
 returns : tie.Need-returns Inv-loop μ-loop
 unfolding bytePuts
 returns c = let a = c .before .before .before .before .before .args in let l = c .before .loop in
-    gains-done (λ k. slotPuts (a .rows .now) (a .p .now) (a .s) (8 * a .i + k)) (a .sig .now) (l .sig) 8 (l .j) (l .inv .1) (omega arith) (omega arith)
+    gains-done (λ k. slotPuts (a .rows .now) (a .p .now) (a .s) (8 * a .i + k)) 8 (l .j) (l .inv .1) (omega arith) (omega arith)
 
 pub put-slots-spec : {M : Type 1} → statement M
 put-slots-spec =
