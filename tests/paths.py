@@ -8,7 +8,7 @@ import re
 import sys
 
 LONGEST = 8
-CHAIN = re.compile(r"(?P<named>\blet\s+[^\s:=()]+\s*=\s*c)?(?P<chain>(?:\s*\.before\b)+)")
+CHAIN = re.compile(r"(?P<named>\blet\s+[^\s:=()]+\s*=\s*[^\s:=().]+)?(?P<chain>(?:\s*\.before\b)+)")
 
 
 def read(path):
