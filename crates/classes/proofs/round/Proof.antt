@@ -20,7 +20,7 @@ abbrev μ-loop : tie.MeasureT-loop
 μ-loop ways p q₀ w₀ q w = everyWay - w
 
 loop-holds : tie.Need-loop-holds Inv-loop μ-loop
-loop-holds c = (omega arith, c .before .pre .1, λ M _ k n. upto-none M k _ n)
+loop-holds c = (omega arith, c .before .pre .1, λ M _ k n. upto-none M k n)
 
 mul-b : tie.Need-mul-b Inv-loop μ-loop
 mul-b c = omega arith
@@ -55,7 +55,7 @@ loop-again c = let a = c .before .before .before .before .before .before .args i
 
 returns : tie.Need-returns Inv-loop μ-loop
 unfolding Refines
-returns c = λ M b k n. let e : c .before .loop .w ≡ everyWay = omega arith in upto-all M k _ (rw e at (c .before .loop .inv .2 M b k n))
+returns c = λ M b k n. let e : c .before .loop .w ≡ everyWay = omega arith in upto-all M k (rw e at (c .before .loop .inv .2 M b k n))
 
 pub round-spec : {M : Type 1} → statement M
 round-spec =

@@ -152,4 +152,4 @@ module _ (n : ℕ) where
   -- one class, split by the slots' features, is the partition before the first round
   pub features-partition : (M : Model) (G r : List ℕ) → FeatureRows M G → Partitions (byRow (replicate n 0) G) r → Partitions (bisimilarIn 0 M M) r
   unfolding byRow bisimilarIn
-  features-partition M G r g = partitions-map _ _ r (λ s t h k. rw (zeros-together s t) (rows-agree M G g s t h k))
+  features-partition M G r g = partitions-map (λ s t h k. rw (zeros-together s t) (rows-agree M G g s t h k))

@@ -19,9 +19,9 @@ module _ (M : Model) (k : ℕ) (p : List ℕ) (l : length p ≡ setSlots) (n : P
   pub refined-still : (W q : List ℕ) → Neighbours M W → Refines W p q → all setSlots (λ s. same (getD p s 0) (getD q s 0)) ≡ true → Classes M p
   refined-still W q b f e = record {
     long = l;
-    each = stable-class M k p n (same-stable M W k p q b n f (λ s h. same-eq (all-out setSlots _ e s h)));
+    each = stable-class M k n (same-stable M W k q b n f (λ s h. same-eq (all-out setSlots _ e s h)));
   }
 
   -- after as many rounds as there are slots the partition has the class numbers
   pub refined-last : k ≡ setSlots → Classes M p
-  refined-last e = record { long = l; each = stable-class M k p n (last-stable M k e) }
+  refined-last e = record { long = l; each = stable-class M k n (last-stable M k e) }

@@ -98,7 +98,7 @@ module _ (M : Model) (x : Node) (P Q : Set) (s : ℕ) where
   unfolding eval build one kindOf same
   makes-box e = makes-kind (unary kBox) (ap kindOf e)
 
--- so the set of a node that is no loop is what it makes of its children's sets
+-- the set of a node that is not a loop is what it makes of its children's sets
 module _ (S : List ℕ) (f : nodesFit 0 (tableOf S) ≡ true) (i : ℕ) (h : 6 * i + 6 ≤ length S) (M : Model) (ρ : Env) (P Q : Set)
     (l : P ≐ eval M ρ (treeAt (tableOf S) (nodeAt S i .left))) where
   pub is-unary : (nodeAt S i .kind ≡ notNo) ⊎ ((nodeAt S i .kind ≡ diaNo) ⊎ (nodeAt S i .kind ≡ boxNo)) → nodeMakes M (nodeAt S i) P Q ≐ eval M ρ (treeAt (tableOf S) i)

@@ -48,13 +48,13 @@ module _ (E : Rel) (E-refl : (s : ℕ) → E s s ≡ true) (E-sym : (s t : ℕ) 
   partitions-of = record { lowest = λ s h. n s h ∙ first-cong setSlots (E s) (together p s) (λ t k. sym (by s t h k)); by = by }
 
 -- relations that agree on slots have one partition
-pub partitions-map : (E F : Rel) (p : List ℕ) → ((s t : ℕ) → s < setSlots → t < setSlots → E s t ≡ F s t) → Partitions E p → Partitions F p
-partitions-map E F p h q = record { lowest = q .lowest; by = λ s t a b. q .by s t a b ∙ h s t a b }
+pub partitions-map : {E F : Rel} {p : List ℕ} → ((s t : ℕ) → s < setSlots → t < setSlots → E s t ≡ F s t) → Partitions E p → Partitions F p
+partitions-map h q = record { lowest = q .lowest; by = λ s t a b. q .by s t a b ∙ h s t a b }
 
 -- the numbers of a partition by E are the lowest slots that E relates
-pub partitions-first : (E : Rel) (p : List ℕ) → Partitions E p → (s : ℕ) → s < setSlots → getD p s 0 ≡ first setSlots (E s)
+pub partitions-first : {E : Rel} {p : List ℕ} → Partitions E p → (s : ℕ) → s < setSlots → getD p s 0 ≡ first setSlots (E s)
 unfolding Partition
-partitions-first E p q s h = q .lowest s h ∙ first-cong setSlots (together p s) (E s) (λ t k. q .by s t h k)
+partitions-first {E} {p} q s h = q .lowest s h ∙ first-cong setSlots (together p s) (E s) (λ t k. q .by s t h k)
 
 module _ (q : List ℕ) (n : Partition q) (s : ℕ) (h : s < setSlots) where
   -- a class number is no higher than the slot

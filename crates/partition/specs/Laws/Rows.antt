@@ -130,7 +130,7 @@ signed R p n bp g s c h k = gains-zeros n g (setSlots * s + c) ∙ both
 -- a partition split by the classes seen, from the signatures and their split
 pub signed-partition : (R p G q r : List ℕ) → Signed R p G → Partitions (byRow q G) r → Partitions (bySeen q R p) r
 unfolding Signed byRow bySeen sameRow seeSame
-signed-partition R p G q r g n = partitions-map (byRow q G) (bySeen q R p) r (λ s t h k.
+signed-partition R p G q r g n = partitions-map (λ s t h k.
     ap (λ (x : Bool). together q s t && x) (all-cong setSlots _ _ (λ c l. ap₂ Bool·beq (g s c h l) (g t c k l)))) n
 
 -- rows without a slot see nothing, and leave the classes as they are

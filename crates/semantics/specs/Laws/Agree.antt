@@ -70,7 +70,7 @@ module _ (M : Model) where
   pub eval-put : (φ : Form) (ρ : Env) (v : ℕ) (S S′ : Set) → S ≐ S′ → eval M (put ρ v S) φ ≐ eval M (put ρ v S′) φ
   eval-put φ ρ v S S′ e = agree φ (put ρ v S) (put ρ v S′) (under φ v ρ ρ (λ b u o x k. refl) S S′ e)
 
--- a round that changes nothing is the last: all later rounds give the same
+-- after a round that changes nothing, all later rounds give the same
 pub iter-rest : (F : Set → Set) → ((S S′ : Set) → S ≐ S′ → F S ≐ F S′) → (S : Set) (k : ℕ) → F (iter k F S) ≐ iter k F S
     → (n : ℕ) → k ≤ n → iter n F S ≐ iter k F S
 unfolding iter
