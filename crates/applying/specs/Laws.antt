@@ -1,4 +1,4 @@
 -- Laws of applying, by topic.
 pub mod Run
-pub mod Left
+pub mod Goes
 pub mod After

@@ -1,4 +1,4 @@
--- Item 13 of document 01, "Reasons for sending a job back", as the outcome of a check.
+-- Item 13 of docs/SPEC.md, "Reasons", as the outcome of a check.
 use mathlib.Core.Bool.{not, cond}
 use mathlib.Core.List.{List}
 use Rattle.semantics.specs.Holds.{Model}

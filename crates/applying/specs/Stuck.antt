@@ -1,4 +1,4 @@
--- Item 13 of document 01, "Reasons for sending a job back": an edit does not go through on the site it meets.
+-- Item 13 of docs/SPEC.md, "Reasons": an edit does not go through on the site it meets.
 use mathlib.Core.List.{List, [], _∷_}
 use mathlib.Core.Bool.{cond}
 use Prim.Native.Nat.{ℕ, suc}

@@ -8,7 +8,7 @@ ghost use Rattle.site.specs.Refusal.{siteVerdict};
 ghost use Rattle.sheet.specs.Refusal.{sheetVerdict};
 ghost use Rattle.applying.specs.Applies.{Ran, Applies};
 
-// Applies the edits in order, up to the first that does not go through, and answers how many.
+// Applies the edits in order, up to the first that does not go through, and returns how many there were.
 fn run(site: &mut [u8], sheet: &[u8]) -> usize
     requires { ⌜ (length (now site) ≡ siteBytes) × (sheetVerdict (now sheet) ≡ Accepted) ⌝ }
     ensures { λ r. ⌜ Ran (now (site .entry)) (now (sheet .entry)) (now (site .exit)) r ⌝ }

@@ -7,7 +7,7 @@ use native.Mathlib.Omega.{arith}
 use lib.ListN.{length, getD, take, drop, set, replicate, drop-of-length-le}
 use lib.Seq.{length-take-le, append-snoc, drop-cons, take-length, set-at, take-suc}
 
--- once the loop has passed the end, all are 0
+-- once the loop has passed the end, all bytes are 0
 pub filled : (buf : List ℕ) (k : ℕ) → k ≤ length buf → length buf ≤ k → replicate k 0 ++ drop k buf ≡ replicate (length buf) 0
 filled buf k h g =
     let e : k ≡ length buf = omega arith in
@@ -22,6 +22,6 @@ module _ (s d : List ℕ) where
       ∙ sym (append-snoc (take k s) (getD s k 0) (drop (suc k) d))
       ∙ ap (λ (l : List ℕ). l ++ drop (suc k) d) (sym (take-suc s k 0 h)))
 
-  -- all of s, where d is no longer
+  -- all bytes of s are copied over d, where d is no longer than s
   pub copied-whole : length d ≤ length s → take (length s) s ++ drop (length s) d ≡ s
   copied-whole h = ap₂ (λ (a b : List ℕ). a ++ b) (take-length s) (drop-of-length-le d h) ∙ append-nil s

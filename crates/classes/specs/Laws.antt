@@ -1,4 +1,4 @@
 -- Laws of class numbers, by topic.
-pub mod Marks
+pub mod Features
 pub mod Different
 pub mod Refined

@@ -1,5 +1,5 @@
--- The class numbers of a site's slots, and what is said of a slot.
+-- The class numbers of a site's slots, and the features of a slot.
 pub mod Classes
-pub mod Marks
+pub mod Features
 -- what is proved of them
 pub mod Laws

@@ -10,9 +10,9 @@ ghost use Rattle.site.specs.Layout.{siteBytes, rowsBytes};
 ghost use Rattle.site.specs.Site.{siteOf};
 ghost use Rattle.partition.specs.Gains.{Gains};
 ghost use Rattle.partition.specs.Rows.{waysBytes};
-ghost use Rattle.partition.specs.Partition.{Partition, Parts, Next};
+ghost use Rattle.partition.specs.Partition.{Partition, Partitions, Refines};
 ghost use Rattle.classes.specs.Classes.{Classes, different};
-ghost use Rattle.classes.specs.Marks.{namesFrom, marks, mark, Marked, marking};
+ghost use Rattle.classes.specs.Features.{namesFrom, features, feature, FeatureRows, featurePuts};
 use bitset::SET_BYTES;
 use bitset::SET_SLOTS;
 use neighbours::WAYS;
@@ -20,17 +20,17 @@ use site::LABELS;
 use site::NAMES;
 use site::ROWS_BYTES;
 
-// What is said of a slot, as bits: that it is present, its labels, its names.
+// The features of a slot, as bits: that it is present, its labels, its names.
 const LABELS_FROM: usize = 1;
 
 const NAMES_FROM: usize = LABELS_FROM + LABELS;
 
-const MARKS: usize = NAMES_FROM + NAMES;
+const FEATURES: usize = NAMES_FROM + NAMES;
 
-// Is mark c said of slot s?
-fn has_mark(site: &[u8], s: usize, c: usize) -> bool
-    requires { ⌜ (length (now site) ≡ siteBytes) × ((s < setSlots) × (c < marks)) ⌝ }
-    ensures { λ r. ⌜ r ≡ mark (siteOf (now (site .entry))) s c ⌝ }
+// Does slot s have feature c?
+fn has_feature(site: &[u8], s: usize, c: usize) -> bool
+    requires { ⌜ (length (now site) ≡ siteBytes) × ((s < setSlots) × (c < features)) ⌝ }
+    ensures { λ r. ⌜ r ≡ feature (siteOf (now (site .entry))) s c ⌝ }
 {
     if c < LABELS_FROM {
         return site::present(site, s);
@@ -41,53 +41,53 @@ fn has_mark(site: &[u8], s: usize, c: usize) -> bool
     site::place(site, c - NAMES_FROM) == s
 }
 
-// Puts mark c into row s, where it is said of s.
-fn put_mark(site: &[u8], s: usize, c: usize, sig: &mut [u8])
-    requires { ⌜ (length (now site) ≡ siteBytes) × ((s < setSlots) × ((c < marks) × (length (now sig) ≡ rowsBytes))) ⌝ }
-    ensures { λ _. ⌜ Gains (marking (siteOf (now (site .entry))) s c) (now (sig .entry)) (now (sig .exit)) ⌝ }
+// Puts feature c into row s if slot s has it.
+fn put_feature(site: &[u8], s: usize, c: usize, sig: &mut [u8])
+    requires { ⌜ (length (now site) ≡ siteBytes) × ((s < setSlots) × ((c < features) × (length (now sig) ≡ rowsBytes))) ⌝ }
+    ensures { λ _. ⌜ Gains (featurePuts (siteOf (now (site .entry))) s c) (now (sig .entry)) (now (sig .exit)) ⌝ }
 {
-    if !has_mark(site, s, c) {
+    if !has_feature(site, s, c) {
         return;
     }
     bitset::insert(sig, SET_SLOTS * s + c);
 }
 
-// Puts mark c, which the site has as the set at byte 32 * c, into the rows of the eight slots of byte i.
-fn put_eight(site: &[u8], c: usize, i: usize, sig: &mut [u8])
+// Puts feature c, which the site has as the set at byte 32 * c, into the rows of those of the eight slots of byte i that have it.
+fn put_byte(site: &[u8], c: usize, i: usize, sig: &mut [u8])
     requires { ⌜ (length (now site) ≡ siteBytes) × ((c < namesFrom) × ((i < setBytes) × (length (now sig) ≡ rowsBytes))) ⌝ }
-    ensures { λ _. ⌜ Gains (λ y. any 8 (λ j. marking (siteOf (now (site .entry))) (8 * i + j) c y)) (now (sig .entry)) (now (sig .exit)) ⌝ }
+    ensures { λ _. ⌜ Gains (λ y. any 8 (λ j. featurePuts (siteOf (now (site .entry))) (8 * i + j) c y)) (now (sig .entry)) (now (sig .exit)) ⌝ }
 {
     if site[SET_BYTES * c + i] == 0 {
         return;
     }
     for j in 0..8 {
-        put_mark(site, 8 * i + j, c, sig);
+        put_feature(site, 8 * i + j, c, sig);
     }
 }
 
-// Puts it into the rows of all slots.
+// Puts feature c, which the site has as the set at byte 32 * c, into the rows of the slots that have it.
 fn put_set(site: &[u8], c: usize, sig: &mut [u8])
     requires { ⌜ (length (now site) ≡ siteBytes) × ((c < namesFrom) × (length (now sig) ≡ rowsBytes)) ⌝ }
-    ensures { λ _. ⌜ Gains (λ y. any setSlots (λ s. marking (siteOf (now (site .entry))) s c y)) (now (sig .entry)) (now (sig .exit)) ⌝ }
+    ensures { λ _. ⌜ Gains (λ y. any setSlots (λ s. featurePuts (siteOf (now (site .entry))) s c y)) (now (sig .entry)) (now (sig .exit)) ⌝ }
 {
     for i in 0..SET_BYTES {
-        put_eight(site, c, i, sig);
+        put_byte(site, c, i, sig);
     }
 }
 
-// Puts mark c, a name, into the row of its slot.
+// Puts feature c, a name, into the row of its slot.
 fn put_name(site: &[u8], c: usize, sig: &mut [u8])
-    requires { ⌜ (length (now site) ≡ siteBytes) × ((namesFrom ≤ c) × ((c < marks) × (length (now sig) ≡ rowsBytes))) ⌝ }
-    ensures { λ _. ⌜ Gains (λ y. any setSlots (λ s. marking (siteOf (now (site .entry))) s c y)) (now (sig .entry)) (now (sig .exit)) ⌝ }
+    requires { ⌜ (length (now site) ≡ siteBytes) × ((namesFrom ≤ c) × ((c < features) × (length (now sig) ≡ rowsBytes))) ⌝ }
+    ensures { λ _. ⌜ Gains (λ y. any setSlots (λ s. featurePuts (siteOf (now (site .entry))) s c y)) (now (sig .entry)) (now (sig .exit)) ⌝ }
 {
     let s = site::place(site, c - NAMES_FROM);
-    put_mark(site, s, c, sig);
+    put_feature(site, s, c, sig);
 }
 
-// Puts mark c into the rows of the slots that it is said of.
-fn put_marks(site: &[u8], c: usize, sig: &mut [u8])
-    requires { ⌜ (length (now site) ≡ siteBytes) × ((c < marks) × (length (now sig) ≡ rowsBytes)) ⌝ }
-    ensures { λ _. ⌜ Gains (λ y. any setSlots (λ s. marking (siteOf (now (site .entry))) s c y)) (now (sig .entry)) (now (sig .exit)) ⌝ }
+// Puts feature c into the rows of the slots that have it.
+fn put_features(site: &[u8], c: usize, sig: &mut [u8])
+    requires { ⌜ (length (now site) ≡ siteBytes) × ((c < features) × (length (now sig) ≡ rowsBytes)) ⌝ }
+    ensures { λ _. ⌜ Gains (λ y. any setSlots (λ s. featurePuts (siteOf (now (site .entry))) s c y)) (now (sig .entry)) (now (sig .exit)) ⌝ }
 {
     if c < NAMES_FROM {
         put_set(site, c, sig);
@@ -96,24 +96,24 @@ fn put_marks(site: &[u8], c: usize, sig: &mut [u8])
     put_name(site, c, sig);
 }
 
-// What is said of each slot.
-fn marks_of(site: &[u8]) -> [u8; ROWS_BYTES]
+// The features of each slot, as rows.
+fn features_of(site: &[u8]) -> [u8; ROWS_BYTES]
     requires { ⌜ length (now site) ≡ siteBytes ⌝ }
-    ensures { λ r. ⌜ Marked (siteOf (now (site .entry))) r ⌝ }
+    ensures { λ r. ⌜ FeatureRows (siteOf (now (site .entry))) r ⌝ }
 {
     let mut sig = [0u8; ROWS_BYTES];
-    for c in 0..MARKS {
-        put_marks(site, c, &mut sig);
+    for c in 0..FEATURES {
+        put_features(site, c, &mut sig);
     }
     sig
 }
 
-// The partition before the first round: one class, split by what is said of its slots.
+// The partition before the first round: one class, split by the features of its slots.
 fn start(site: &[u8]) -> [u8; SET_SLOTS]
     requires { ⌜ length (now site) ≡ siteBytes ⌝ }
-    ensures { λ r. ⌜ Parts (bisimilarIn 0 (siteOf (now (site .entry))) (siteOf (now (site .entry)))) r ⌝ }
+    ensures { λ r. ⌜ Partitions (bisimilarIn 0 (siteOf (now (site .entry))) (siteOf (now (site .entry)))) r ⌝ }
 {
-    let sig = marks_of(site);
+    let sig = features_of(site);
     let one = [0u8; SET_SLOTS];
     splitting::by_rows(&one, &sig)
 }
@@ -121,7 +121,7 @@ fn start(site: &[u8]) -> [u8; SET_SLOTS]
 // One round: the classes of p, split by the classes of p that their slots reach by each way.
 fn round(ways: &[u8], p: [u8; SET_SLOTS]) -> [u8; SET_SLOTS]
     requires { ⌜ (length (now ways) ≡ waysBytes) × Partition p ⌝ }
-    ensures { λ r. ⌜ Next (now (ways .entry)) p r ⌝ }
+    ensures { λ r. ⌜ Refines (now (ways .entry)) p r ⌝ }
 {
     let mut q = p;
     for w in 0..WAYS {

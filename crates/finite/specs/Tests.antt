@@ -16,17 +16,17 @@ unfoldable pub any : ℕ → (ℕ → Bool) → Bool
 any zero f = false
 any (suc n) f = f n || any n f
 
--- every number below n passes it
+-- every number below n passes the test f
 unfoldable pub all : ℕ → (ℕ → Bool) → Bool
 all zero f = true
 all (suc n) f = f n && all n f
 
--- how many numbers below n pass it
+-- how many numbers below n pass the test f
 unfoldable pub count : ℕ → (ℕ → Bool) → ℕ
 count zero f = 0
 count (suc n) f = cond (f n) 1 0 + count n f
 
--- the lowest number below n that passes it, and n where none does
+-- the lowest number below n that passes the test f, and n where none does
 unfoldable pub first : ℕ → (ℕ → Bool) → ℕ
 first zero f = 0
 first (suc n) f = cond (any n f) (first n f) (cond (f n) n (suc n))

@@ -1,4 +1,4 @@
--- The limits of the format and the numbers of its kinds of node. Document 01, "The site" and "The condition". The code has the same
+-- The limits of the format and the numbers of its kinds of node: docs/SPEC.md, "The site" and "The condition". The code has the same
 -- constants.
 use Prim.Native.Nat.{ℕ, suc, _*_}
 
@@ -37,7 +37,7 @@ nodeSize = 6
 abbrev pub tableBytes : ℕ
 tableBytes = nodeSize * tableNodes
 
--- the kinds of node. Those up to the variable have no child, nor has the slot; the others have one, or and and two
+-- the kinds of node. Those up to the variable have no child, nor does the slot; `or` and `and` have two, and the others one
 abbrev pub trueNo : ℕ
 trueNo = 0
 

@@ -22,7 +22,7 @@ pub const NODE_BYTES: usize = 6;
 
 pub const TABLE_BYTES: usize = NODE_BYTES * TABLE_NODES;
 
-// The kinds of node. Those up to VAR have no child, nor has SLOT; the others have one, OR and AND two.
+// The kinds of node. Those up to VAR have no child, nor does SLOT; OR and AND have two, and the others one.
 pub const TRUE: u8 = 0;
 
 pub const HERE: u8 = 1;

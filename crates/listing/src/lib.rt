@@ -15,9 +15,9 @@ ghost use Rattle.condition.specs.Bytes.{nodeAt, tableOf};
 ghost use Rattle.condition.specs.Refusal.{conditionVerdict};
 ghost use Rattle.even_rule.specs.Free.{FreeRows};
 ghost use Rattle.limits.specs.Limits.{tableNodes, notNo, orNo, andNo, diaNo, boxNo, muNo, nuNo};
-ghost use Rattle.listing_sets.specs.Places.{envBytes};
+ghost use Rattle.listing_sets.specs.Offsets.{envBytes};
 ghost use Rattle.listing.specs.Listed.{workBytes, Listed};
-ghost use Rattle.listing.specs.State.{Ready, Done};
+ghost use Rattle.listing.specs.State.{Evaluable, Done};
 use bitset::SET_BYTES;
 use bitset::SET_SLOTS;
 use limits::AND;
@@ -33,7 +33,7 @@ use listing_sets::ENV_BYTES;
 // The work buffer has a set for each node of a table.
 pub const WORK_BYTES: usize = SET_BYTES * TABLE_NODES;
 
-// Node i's set, written at its place, unless it stands there.
+// Writes node i's set to the work buffer, unless its flag says that it is there already.
 fn eval(
     site: &[u8],
     table: &[u8],
@@ -43,7 +43,7 @@ fn eval(
     work: &mut [u8],
     i: usize,
 )
-    requires { ⌜ Ready (now site) (now table) (now free) (now env) (now fresh) (now work) ⌝ }
+    requires { ⌜ Evaluable (now site) (now table) (now free) (now env) (now fresh) (now work) ⌝ }
     requires { ⌜ 6 * i + 6 ≤ length (now table) ⌝ }
     ensures { λ _. ⌜ Done (now (site .entry)) (now (table .entry)) (now (env .entry)) (now (env .exit)) (now (fresh .exit)) (now (work .exit)) i ⌝ }
 {
@@ -54,7 +54,7 @@ fn eval(
     fresh[i] = 1;
 }
 
-// The same, with no look at the flag.
+// Writes node i's set to the work buffer, whatever its flag says.
 fn compute(
     site: &[u8],
     table: &[u8],
@@ -64,7 +64,7 @@ fn compute(
     work: &mut [u8],
     i: usize,
 )
-    requires { ⌜ Ready (now site) (now table) (now free) (now env) (now fresh) (now work) ⌝ }
+    requires { ⌜ Evaluable (now site) (now table) (now free) (now env) (now fresh) (now work) ⌝ }
     requires { ⌜ 6 * i + 6 ≤ length (now table) ⌝ }
     ensures { λ _. ⌜ Done (now (site .entry)) (now (table .entry)) (now (env .entry)) (now (env .exit)) (now (fresh .exit)) (now (work .exit)) i ⌝ }
 {
@@ -77,7 +77,7 @@ fn compute(
     }
 }
 
-// A not, diamond or box.
+// Writes the set of node i, a not, diamond or box.
 fn unary(
     site: &[u8],
     table: &[u8],
@@ -87,7 +87,7 @@ fn unary(
     work: &mut [u8],
     i: usize,
 )
-    requires { ⌜ Ready (now site) (now table) (now free) (now env) (now fresh) (now work) ⌝ }
+    requires { ⌜ Evaluable (now site) (now table) (now free) (now env) (now fresh) (now work) ⌝ }
     requires { ⌜ 6 * i + 6 ≤ length (now table) ⌝ }
     requires { ⌜ (nodeAt (now table) i .kind ≡ notNo) ⊎ ((nodeAt (now table) i .kind ≡ diaNo) ⊎ (nodeAt (now table) i .kind ≡ boxNo)) ⌝ }
     ensures { λ _. ⌜ Done (now (site .entry)) (now (table .entry)) (now (env .entry)) (now (env .exit)) (now (fresh .exit)) (now (work .exit)) i ⌝ }
@@ -98,8 +98,8 @@ fn unary(
     listing_sets::put_unary(site, table, work, i, set);
 }
 
-// An or, or an and. The left set is taken out before the right child is evaluated: a loop below the right child may give a shared
-// node another set.
+// Writes the set of node i, an `or` or an `and`. The left set is taken out before the right child is evaluated, since a loop below the
+// right child may give a shared node another set.
 fn binary(
     site: &[u8],
     table: &[u8],
@@ -109,7 +109,7 @@ fn binary(
     work: &mut [u8],
     i: usize,
 )
-    requires { ⌜ Ready (now site) (now table) (now free) (now env) (now fresh) (now work) ⌝ }
+    requires { ⌜ Evaluable (now site) (now table) (now free) (now env) (now fresh) (now work) ⌝ }
     requires { ⌜ 6 * i + 6 ≤ length (now table) ⌝ }
     requires { ⌜ (orNo ≤ nodeAt (now table) i .kind) × (nodeAt (now table) i .kind ≤ andNo) ⌝ }
     ensures { λ _. ⌜ Done (now (site .entry)) (now (table .entry)) (now (env .entry)) (now (env .exit)) (now (fresh .exit)) (now (work .exit)) i ⌝ }
@@ -130,7 +130,8 @@ fn same_set(a: [u8; SET_BYTES], b: [u8; SET_BYTES]) -> bool
     bitset::equal(&a, &b)
 }
 
-// A mu or nu: rounds from the empty or the full set until one gives back its set, 256 at most. The variable then has its old set again.
+// Writes the set of node i, a mu or nu: rounds from the empty or the full set until one gives back its set, 256 at most. The variable then
+// has its old set again.
 fn fixpoint(
     site: &[u8],
     table: &[u8],
@@ -140,7 +141,7 @@ fn fixpoint(
     work: &mut [u8],
     i: usize,
 )
-    requires { ⌜ Ready (now site) (now table) (now free) (now env) (now fresh) (now work) ⌝ }
+    requires { ⌜ Evaluable (now site) (now table) (now free) (now env) (now fresh) (now work) ⌝ }
     requires { ⌜ 6 * i + 6 ≤ length (now table) ⌝ }
     requires { ⌜ (muNo ≤ nodeAt (now table) i .kind) × (nodeAt (now table) i .kind ≤ nuNo) ⌝ }
     ensures { λ _. ⌜ Done (now (site .entry)) (now (table .entry)) (now (env .entry)) (now (env .exit)) (now (fresh .exit)) (now (work .exit)) i ⌝ }

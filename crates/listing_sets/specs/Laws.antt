@@ -1,3 +1,3 @@
--- Laws of sets at their places and of nodes' sets, by topic.
-pub mod Places
+-- Laws of sets at their offsets and of nodes' sets, by topic.
+pub mod Offsets
 pub mod Nodes

@@ -9,9 +9,9 @@ use Rattle.semantics.specs.Table.{kindOf, Node, build}
 use Rattle.semantics.specs.Laws.FixedPoint.{none, full}
 use Rattle.semantics.specs.Laws.Eval.{eval}
 
--- its kind over two variables, of which 0 stands for the left child and 1 for the right
-unfoldable pub applied : Model → Node → Set → Set → Set
-applied M x S T = eval M (λ v. cond (same v 0) S T) (build (kindOf (x .kind)) (x .param) (var 0) (var 1))
+-- what the node x makes of S, its left child's set, and T, its right child's: the set of its kind over variables 0 and 1 that have these
+unfoldable pub nodeMakes : Model → Node → Set → Set → Set
+nodeMakes M x S T = eval M (λ v. cond (same v 0) S T) (build (kindOf (x .kind)) (x .param) (var 0) (var 1))
 
 -- the set from which the rounds of a mu or nu start
 unfoldable pub startOf : ℕ → Set

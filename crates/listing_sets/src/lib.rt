@@ -1,4 +1,4 @@
-// Sets of slots at their places in a buffer: set j is the 32 bytes from byte 32 * j on. Each write lends that part of the buffer to
+// Sets of slots in a buffer: set j is the 32 bytes from offset 32 * j on. Each write lends that part of the buffer to
 // an operation on sets, and says what the whole buffer becomes.
 use bitset::SET_BYTES;
 use buffer::wide;
@@ -27,13 +27,13 @@ ghost use Rattle.semantics.specs.Laws.Agree.{_≐_};
 ghost use Rattle.site.specs.Layout.{siteBytes};
 ghost use Rattle.site.specs.Site.{siteOf};
 ghost use Rattle.condition.specs.Bytes.{nodeAt, tableOf};
-ghost use Rattle.listing_sets.specs.Places.{envBytes, setAt, Written, Cleared};
-ghost use Rattle.listing_sets.specs.Nodes.{startOf, applied};
+ghost use Rattle.listing_sets.specs.Offsets.{envBytes, setAt, SetWritten, Cleared};
+ghost use Rattle.listing_sets.specs.Nodes.{startOf, nodeMakes};
 
 // The environment has a set for each variable.
 pub const ENV_BYTES: usize = SET_BYTES * limits::VARIABLES as usize;
 
-// The bound is no constant, so that the compiler copies the set whole and does not take it apart into bytes.
+// Copies a set. The bound is not a constant, so that the compiler copies the set whole and not byte by byte.
 fn copy(dst: &mut [u8], src: &[u8])
     requires { ⌜ (length (now dst) ≡ setBytes) × (length (now src) ≡ setBytes) ⌝ }
     ensures { λ _. ⌜ Is (now (dst .exit)) (has (now (src .entry))) ⌝ }
@@ -44,7 +44,7 @@ fn copy(dst: &mut [u8], src: &[u8])
     }
 }
 
-// The set at place j, by value.
+// Set j of the buffer, by value.
 pub fn load(buf: &[u8], j: usize) -> [u8; SET_BYTES]
     requires { ⌜ setBytes * j + setBytes ≤ length (now buf) ⌝ }
     ensures { λ r. ⌜ has r ≐ setAt (now (buf .entry)) j ⌝ }
@@ -56,40 +56,40 @@ pub fn load(buf: &[u8], j: usize) -> [u8; SET_BYTES]
     set
 }
 
-// The set at place j becomes `set`.
+// Set j of the buffer becomes `set`.
 pub fn store(buf: &mut [u8], j: usize, set: [u8; SET_BYTES])
     requires { ⌜ setBytes * j + setBytes ≤ length (now buf) ⌝ }
-    ensures { λ _. ⌜ Written (now (buf .entry)) (now (buf .exit)) j (has set) ⌝ }
+    ensures { λ _. ⌜ SetWritten (now (buf .entry)) (now (buf .exit)) j (has set) ⌝ }
 {
     let at = SET_BYTES * j;
     let end = at + SET_BYTES;
     copy(&mut buf[at..end], &set);
 }
 
-// Its complement.
+// Set j of the buffer becomes its complement.
 fn invert(buf: &mut [u8], j: usize)
     requires { ⌜ setBytes * j + setBytes ≤ length (now buf) ⌝ }
-    ensures { λ _. ⌜ Written (now (buf .entry)) (now (buf .exit)) j (λ s. not (setAt (now (buf .entry)) j s)) ⌝ }
+    ensures { λ _. ⌜ SetWritten (now (buf .entry)) (now (buf .exit)) j (λ s. not (setAt (now (buf .entry)) j s)) ⌝ }
 {
     let a = SET_BYTES * j;
     let e = a + SET_BYTES;
     bitset::complement(&mut buf[a..e]);
 }
 
-// Its union with `set`.
+// Set j of the buffer becomes its union with `set`.
 fn unite(buf: &mut [u8], j: usize, set: [u8; SET_BYTES])
     requires { ⌜ setBytes * j + setBytes ≤ length (now buf) ⌝ }
-    ensures { λ _. ⌜ Written (now (buf .entry)) (now (buf .exit)) j (λ s. setAt (now (buf .entry)) j s || has set s) ⌝ }
+    ensures { λ _. ⌜ SetWritten (now (buf .entry)) (now (buf .exit)) j (λ s. setAt (now (buf .entry)) j s || has set s) ⌝ }
 {
     let a = SET_BYTES * j;
     let e = a + SET_BYTES;
     bitset::union_with(&mut buf[a..e], &set);
 }
 
-// Its slots that are in `set` too.
+// Set j of the buffer becomes its intersection with `set`.
 fn meet(buf: &mut [u8], j: usize, set: [u8; SET_BYTES])
     requires { ⌜ setBytes * j + setBytes ≤ length (now buf) ⌝ }
-    ensures { λ _. ⌜ Written (now (buf .entry)) (now (buf .exit)) j (λ s. setAt (now (buf .entry)) j s && has set s) ⌝ }
+    ensures { λ _. ⌜ SetWritten (now (buf .entry)) (now (buf .exit)) j (λ s. setAt (now (buf .entry)) j s && has set s) ⌝ }
 {
     let a = SET_BYTES * j;
     let e = a + SET_BYTES;
@@ -128,7 +128,7 @@ fn stale(free: &[u16], fresh: &mut [u8], n: usize, x: usize)
     }
 }
 
-// The variable x gets `set`, so that the sets of the nodes in which it is free are not known any more.
+// The variable x gets `set`. The sets of the nodes in which it is free are then no longer known.
 pub fn assign(
     free: &[u16],
     env: &mut [u8],
@@ -138,7 +138,7 @@ pub fn assign(
     set: [u8; SET_BYTES],
 )
     requires { ⌜ (n ≤ tableNodes) × (x < variables) × (length (now free) ≡ tableNodes) × (length (now env) ≡ envBytes) × (length (now fresh) ≡ tableNodes) ⌝ }
-    ensures { λ _. ⌜ Written (now (env .entry)) (now (env .exit)) x (has set) × Cleared (now (free .entry)) (now (fresh .entry)) (now (fresh .exit)) n x ⌝ }
+    ensures { λ _. ⌜ SetWritten (now (env .entry)) (now (env .exit)) x (has set) × Cleared (now (free .entry)) (now (fresh .entry)) (now (fresh .exit)) n x ⌝ }
 {
     store(env, x, set);
     stale(free, fresh, n, x);
@@ -185,19 +185,19 @@ fn leaf_set(site: &[u8], table: &[u8], env: &[u8], i: usize) -> [u8; SET_BYTES]
     }
 }
 
-// Writes it.
+// Writes the set of node i, which has no child, as set i of the work buffer.
 pub fn put_leaf(site: &[u8], table: &[u8], env: &[u8], work: &mut [u8], i: usize)
     requires { ⌜ (length (now site) ≡ siteBytes) × (length (now env) ≡ envBytes) × (setBytes * i + setBytes ≤ length (now work)) ⌝ }
     requires { ⌜ nodesFit 0 (tableOf (now table)) ≡ true ⌝ }
     requires { ⌜ 6 * i + 6 ≤ length (now table) ⌝ }
     requires { ⌜ (notNo ≤ nodeAt (now table) i .kind → nodeAt (now table) i .kind ≤ nuNo → ⊥) ⌝ }
-    ensures { λ _. ⌜ Written (now (work .entry)) (now (work .exit)) i (eval (siteOf (now (site .entry))) (setAt (now (env .entry))) (treeAt (tableOf (now (table .entry))) i)) ⌝ }
+    ensures { λ _. ⌜ SetWritten (now (work .entry)) (now (work .exit)) i (eval (siteOf (now (site .entry))) (setAt (now (env .entry))) (treeAt (tableOf (now (table .entry))) i)) ⌝ }
 {
     let set = leaf_set(site, table, env, i);
     store(work, i, set);
 }
 
-// Writes the set of node i, an or or an and, from its children's.
+// Writes the set of node i, an `or` or an `and`, from its children's sets.
 pub fn put_binary(
     table: &[u8],
     work: &mut [u8],
@@ -208,7 +208,7 @@ pub fn put_binary(
     requires { ⌜ 6 * i + 6 ≤ length (now table) ⌝ }
     requires { ⌜ setBytes * i + setBytes ≤ length (now work) ⌝ }
     requires { ⌜ (orNo ≤ nodeAt (now table) i .kind) × (nodeAt (now table) i .kind ≤ andNo) ⌝ }
-    ensures { λ _. ⌜ ((M : Model) → Written (now (work .entry)) (now (work .exit)) i (applied M (nodeAt (now (table .entry)) i) (has left) (has right))) ⌝ }
+    ensures { λ _. ⌜ ((M : Model) → SetWritten (now (work .entry)) (now (work .exit)) i (nodeMakes M (nodeAt (now (table .entry)) i) (has left) (has right))) ⌝ }
 {
     store(work, i, left);
     if condition::kind(table, i) == OR {
@@ -218,13 +218,13 @@ pub fn put_binary(
     meet(work, i, right);
 }
 
-// Writes the set of node i, a not, diamond or box, from its child's.
+// Writes the set of node i, a not, diamond or box, from its child's set.
 pub fn put_unary(site: &[u8], table: &[u8], work: &mut [u8], i: usize, set: [u8; SET_BYTES])
     requires { ⌜ length (now site) ≡ siteBytes ⌝ }
     requires { ⌜ 6 * i + 6 ≤ length (now table) ⌝ }
     requires { ⌜ setBytes * i + setBytes ≤ length (now work) ⌝ }
     requires { ⌜ (nodeAt (now table) i .kind ≡ notNo) ⊎ ((nodeAt (now table) i .kind ≡ diaNo) ⊎ (nodeAt (now table) i .kind ≡ boxNo)) ⌝ }
-    ensures { λ _. ⌜ Written (now (work .entry)) (now (work .exit)) i (applied (siteOf (now (site .entry))) (nodeAt (now (table .entry)) i) (has set) (has set)) ⌝ }
+    ensures { λ _. ⌜ SetWritten (now (work .entry)) (now (work .exit)) i (nodeMakes (siteOf (now (site .entry))) (nodeAt (now (table .entry)) i) (has set) (has set)) ⌝ }
 {
     let k = condition::kind(table, i);
     if k == NOT {

@@ -43,7 +43,7 @@ fn leads_into(site: &[u8], m: usize, s: usize, set: &[u8]) -> bool
     bitset::member(set, t)
 }
 
-// Puts slot s in, where `leads`.
+// Puts slot s into the set `found` if `leads` is true.
 fn put_if(found: &mut [u8], s: usize, leads: bool)
     requires { ⌜ (length (now found) ≡ setBytes) × (s < setSlots) ⌝ }
     ensures { λ _. ⌜ Is (now (found .exit)) (λ k. has (now (found .entry)) k || (same k s && leads)) ⌝ }
@@ -67,7 +67,7 @@ fn preimage(site: &[u8], m: usize, set: [u8; SET_BYTES]) -> [u8; SET_BYTES]
     found
 }
 
-// Puts the slots in that link m leads to from slot t.
+// Adds the slots that link m leads to from slot t to `found`.
 fn add_targets(site: &[u8], m: usize, t: usize, found: &mut [u8])
     requires { ⌜ (length (now site) ≡ siteBytes) × ((m < links) × ((t < setSlots) × (length (now found) ≡ setBytes))) ⌝ }
     ensures { λ _. ⌜ Is (now (found .exit)) (λ s. has (now (found .entry)) s || siteOf (now (site .entry)) .link m t s) ⌝ }
@@ -85,7 +85,7 @@ fn add_targets(site: &[u8], m: usize, t: usize, found: &mut [u8])
     bitset::insert(found, s);
 }
 
-// The same, where t is in the set.
+// Adds the targets of slot t by link m to `found`, if t is in `set`.
 fn add_targets_from(site: &[u8], m: usize, t: usize, set: &[u8], found: &mut [u8])
     requires { ⌜ (length (now site) ≡ siteBytes) × ((m < links) × ((t < setSlots) × ((length (now set) ≡ setBytes) × (length (now found) ≡ setBytes)))) ⌝ }
     ensures { λ _. ⌜ Is (now (found .exit)) (λ s. has (now (found .entry)) s || (siteOf (now (site .entry)) .link m t s && has (now (set .entry)) t)) ⌝ }
@@ -96,9 +96,9 @@ fn add_targets_from(site: &[u8], m: usize, t: usize, set: &[u8], found: &mut [u8
     add_targets(site, m, t, found);
 }
 
-// The same for the eight slots of byte i, up to the last that is in the set.
-// A loop of eight turns would be unrolled, and each union done byte by byte.
-fn add_eight(site: &[u8], m: usize, i: usize, set: &[u8], found: &mut [u8])
+// Adds the targets of those of the eight slots of byte i that are in `set`, and stops after the last of these. A loop of fixed length
+// would be unrolled, and each union done byte by byte.
+fn add_byte(site: &[u8], m: usize, i: usize, set: &[u8], found: &mut [u8])
     requires { ⌜ (length (now site) ≡ siteBytes) × ((m < links) × ((i < setBytes) × ((length (now set) ≡ setBytes) × (length (now found) ≡ setBytes)))) ⌝ }
     ensures { λ _. ⌜ Is (now (found .exit)) (λ s. has (now (found .entry)) s || any 8 (λ j. siteOf (now (site .entry)) .link m (i * 8 + j) s && has (now (set .entry)) (i * 8 + j))) ⌝ }
 {
@@ -117,7 +117,7 @@ fn image(site: &[u8], m: usize, set: [u8; SET_BYTES]) -> [u8; SET_BYTES]
 {
     let mut found = [0u8; SET_BYTES];
     for i in 0..SET_BYTES {
-        add_eight(site, m, i, &set, &mut found);
+        add_byte(site, m, i, &set, &mut found);
     }
     found
 }

@@ -15,19 +15,21 @@ at w s t = rowsBytes * 8 * w + (setSlots * s + t)
 unfoldable pub joins : ℕ → ℕ → ℕ → ℕ → Bool
 joins m s t y = same y (at m s t) || same y (at (m + links) t s)
 
--- the same where link m leads from s to t; for the eight slots t of byte i; and for all slots t
+-- the bits of s and t, where link m leads from s to t
 unfoldable pub linkJoins : Model → ℕ → ℕ → ℕ → ℕ → Bool
 linkJoins M m s t y = M .link m s t && joins m s t y
 
-unfoldable pub eightJoins : Model → ℕ → ℕ → ℕ → ℕ → Bool
-eightJoins M m s i y = any 8 (λ j. linkJoins M m s (8 * i + j) y)
+-- the bits of s and its targets by link m among the eight slots of byte i
+unfoldable pub byteJoins : Model → ℕ → ℕ → ℕ → ℕ → Bool
+byteJoins M m s i y = any 8 (λ j. linkJoins M m s (8 * i + j) y)
 
--- its two halves: the slots t in row s of way m, and s in their rows of its reverse
+-- the two halves of `byteJoins`: the slots t of byte i in row s of way m, and s in their rows of its reverse
 unfoldable pub alongJoins : Model → ℕ → ℕ → ℕ → ℕ → Bool
 alongJoins M m s i y = any 8 (λ j. M .link m s (8 * i + j) && same y (at m s (8 * i + j)))
 
 unfoldable pub backJoins : Model → ℕ → ℕ → ℕ → ℕ → Bool
 backJoins M m s i y = any 8 (λ j. M .link m s (8 * i + j) && same y (at (m + links) (8 * i + j) s))
 
+-- the bits of s and its targets by link m
 unfoldable pub targetJoins : Model → ℕ → ℕ → ℕ → Bool
 targetJoins M m s y = any setSlots (λ t. linkJoins M m s t y)

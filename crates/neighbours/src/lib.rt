@@ -10,7 +10,7 @@ ghost use Rattle.site.specs.Layout.{siteBytes};
 ghost use Rattle.site.specs.Site.{siteOf};
 ghost use Rattle.partition.specs.Gains.{Gains};
 ghost use Rattle.partition.specs.Rows.{waysBytes, Neighbours};
-ghost use Rattle.neighbours.specs.Steps.{joins, alongJoins, backJoins, eightJoins, targetJoins};
+ghost use Rattle.neighbours.specs.Steps.{joins, alongJoins, backJoins, byteJoins, targetJoins};
 use bitset::SET_BYTES;
 use bitset::SET_SLOTS;
 use site::GENERAL_LINKS;
@@ -34,7 +34,7 @@ fn join(m: usize, s: usize, t: usize, ways: &mut [u8])
     bitset::insert(ways, WAY_BITS * (m + LINKS) + (SET_SLOTS * t + s));
 }
 
-// The weight of bit x in its byte, where `put`, and else 0.
+// The weight of bit x in its byte if `put` is true, and 0 if not.
 fn weight_if(x: usize, put: bool) -> u8
     ensures { λ r. ⌜ r ≡ cond put (2 ^ (x % 8)) 0 ⌝ }
 {
@@ -44,7 +44,7 @@ fn weight_if(x: usize, put: bool) -> u8
     0
 }
 
-// Puts bit x in, where `put`. The byte is written in any case, so that the processor has no branch to guess.
+// Sets bit x if `put` is true. The byte is written in any case, so that the processor has no branch to guess.
 fn put_if(ways: &mut [u8], x: usize, put: bool)
     requires { ⌜ x / 8 < length (now ways) ⌝ }
     ensures { λ _. ⌜ Gains (λ y. put && same y x) (now (ways .entry)) (now (ways .exit)) ⌝ }
@@ -65,7 +65,7 @@ fn join_along(site: &[u8], m: usize, s: usize, i: usize, ways: &mut [u8])
     }
 }
 
-// Puts s into their rows of the reverse of m.
+// Puts s into the rows, of the reverse of m, of its targets by the general link m among the eight slots of byte i.
 fn join_back(site: &[u8], m: usize, s: usize, i: usize, ways: &mut [u8])
     requires { ⌜ (length (now site) ≡ siteBytes) × ((m < generalLinks) × ((s < setSlots) × ((i < setBytes) × (length (now ways) ≡ waysBytes)))) ⌝ }
     ensures { λ _. ⌜ Gains (backJoins (siteOf (now (site .entry))) m s i) (now (ways .entry)) (now (ways .exit)) ⌝ }
@@ -78,9 +78,9 @@ fn join_back(site: &[u8], m: usize, s: usize, i: usize, ways: &mut [u8])
 }
 
 // Joins s and its targets by the general link m among the eight slots of byte i.
-fn join_eight(site: &[u8], m: usize, s: usize, i: usize, ways: &mut [u8])
+fn join_byte(site: &[u8], m: usize, s: usize, i: usize, ways: &mut [u8])
     requires { ⌜ (length (now site) ≡ siteBytes) × ((m < generalLinks) × ((s < setSlots) × ((i < setBytes) × (length (now ways) ≡ waysBytes)))) ⌝ }
-    ensures { λ _. ⌜ Gains (eightJoins (siteOf (now (site .entry))) m s i) (now (ways .entry)) (now (ways .exit)) ⌝ }
+    ensures { λ _. ⌜ Gains (byteJoins (siteOf (now (site .entry))) m s i) (now (ways .entry)) (now (ways .exit)) ⌝ }
 {
     if site[ROWS_AT + ROWS_BYTES * m + SET_BYTES * s + i] == 0 {
         return;
@@ -95,7 +95,7 @@ fn join_row(site: &[u8], m: usize, s: usize, ways: &mut [u8])
     ensures { λ _. ⌜ Gains (targetJoins (siteOf (now (site .entry))) m s) (now (ways .entry)) (now (ways .exit)) ⌝ }
 {
     for i in 0..SET_BYTES {
-        join_eight(site, m, s, i, ways);
+        join_byte(site, m, s, i, ways);
     }
 }
 

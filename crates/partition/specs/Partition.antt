@@ -22,23 +22,23 @@ together p = across p p
 unfoldable pub Partition : List ℕ → Type 0
 Partition p = (s : ℕ) → s < setSlots → getD p s 0 ≡ first setSlots (together p s)
 
--- p is the partition whose classes are the slots that E relates
-pub record Parts (E : Rel) (p : List ℕ) : Type 0 where
+-- p is the partition of E: its classes are the slots that E relates
+pub record Partitions (E : Rel) (p : List ℕ) : Type 0 where
   pub lowest : Partition p
   pub by : (s t : ℕ) → s < setSlots → t < setSlots → together p s t ≡ E s t
 
--- q gives each slot t of a second site the class of p, the partition of a first, whose slots E relates to t. It has one
+-- p is the partition of a first site, and q gives each slot t of a second site the class of p whose slots E relates to t; there is one
 pub record Follows (E : Rel) (p q : List ℕ) : Type 0 where
   pub met : (t : ℕ) → t < setSlots → any setSlots (E t) ≡ true
   pub by : (t s : ℕ) → t < setSlots → s < setSlots → across q p t s ≡ E t s
 
--- the classes of q, split by their rows of R; and by the classes of p that their rows of R are in
+-- s and t are in one class of q, and their rows of R are the same (`byRow`) or are in the same classes of p (`bySeen`)
 unfoldable pub byRow : List ℕ → List ℕ → Rel
 byRow q R s t = together q s t && sameRow R s t
 
 unfoldable pub bySeen : List ℕ → List ℕ → List ℕ → Rel
 bySeen q R p s t = together q s t && seeSame R p R p s t
 
--- q is the next round's partition, where W are the neighbours and p is the partition of some round
-unfoldable pub Next : List ℕ → List ℕ → List ℕ → Type 0
-Next W p q = (M : Model) → Neighbours M W → (k : ℕ) → Parts (bisimilarIn k M M) p → Parts (bisimilarIn (k + 1) M M) q
+-- q refines p by one round: where W are the neighbours and p is the partition after some round, q is the partition after the next
+unfoldable pub Refines : List ℕ → List ℕ → List ℕ → Type 0
+Refines W p q = (M : Model) → Neighbours M W → (k : ℕ) → Partitions (bisimilarIn k M M) p → Partitions (bisimilarIn (k + 1) M M) q

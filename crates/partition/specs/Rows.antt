@@ -33,46 +33,48 @@ unfoldable pub Signed : List ℕ → List ℕ → List ℕ → Type 0
 Signed R p G = (s c : ℕ) → s < setSlots → c < setSlots → inRow G s c ≡ sees R p s c
 
 -- what slot t of row s puts into the signatures: its class, into row s
-unfoldable pub turn : List ℕ → List ℕ → ℕ → ℕ → ℕ → Bool
-turn R p s t y = inRow R s t && same y (setSlots * s + getD p t 0)
+unfoldable pub slotPuts : List ℕ → List ℕ → ℕ → ℕ → ℕ → Bool
+slotPuts R p s t y = inRow R s t && same y (setSlots * s + getD p t 0)
 
--- the same for the eight slots of byte i of row s
-unfoldable pub eight : List ℕ → List ℕ → ℕ → ℕ → ℕ → Bool
-eight R p s i y = any 8 (λ j. turn R p s (8 * i + j) y)
+-- what the eight slots of byte i of row s put into the signatures
+unfoldable pub bytePuts : List ℕ → List ℕ → ℕ → ℕ → ℕ → Bool
+bytePuts R p s i y = any 8 (λ j. slotPuts R p s (8 * i + j) y)
 
--- the same for the eight bytes of row s from byte 8 * g on
-unfoldable pub part : List ℕ → List ℕ → ℕ → ℕ → ℕ → Bool
-part R p s g y = any 8 (λ k. eight R p s (8 * g + k) y)
+-- what group g of row s, the eight bytes from byte 8 * g on, puts into the signatures
+unfoldable pub groupPuts : List ℕ → List ℕ → ℕ → ℕ → ℕ → Bool
+groupPuts R p s g y = any 8 (λ k. bytePuts R p s (8 * g + k) y)
 
 -- slot t has its own number: it is the lowest of its class
 unfoldable pub owns : List ℕ → ℕ → Bool
 owns p t = same (getD p t 0) t
 
--- those of the eight slots from 8 * i on that are not in O are in class c
-unfoldable pub othersIn : List ℕ → List ℕ → ℕ → ℕ → Bool
-othersIn p O i c = all 8 (λ j. has O (8 * i + j) || same (getD p (8 * i + j) 0) c)
+-- of the eight slots of byte i, those that are not in O are in class c
+unfoldable pub othersInClass : List ℕ → List ℕ → ℕ → ℕ → Bool
+othersInClass p O i c = all 8 (λ j. has O (8 * i + j) || same (getD p (8 * i + j) 0) c)
 
--- what those of the eight slots put in that are in O
-unfoldable pub ownEight : List ℕ → List ℕ → List ℕ → ℕ → ℕ → ℕ → Bool
-ownEight R p O s i y = any 8 (λ j. has O (8 * i + j) && turn R p s (8 * i + j) y)
+-- what those of the eight slots of byte i of row s put in that are in O
+unfoldable pub ownBytePuts : List ℕ → List ℕ → List ℕ → ℕ → ℕ → ℕ → Bool
+ownBytePuts R p O s i y = any 8 (λ j. has O (8 * i + j) && slotPuts R p s (8 * i + j) y)
 
 -- byte i of row s has no slot that is not in O
-unfoldable pub noOther : List ℕ → List ℕ → ℕ → ℕ → Bool
-noOther R O s i = same (bitAnd (getD R (32 * s + i) 0) (255 - getD O i 0)) 0
+unfoldable pub noOtherInByte : List ℕ → List ℕ → ℕ → ℕ → Bool
+noOtherInByte R O s i = same (bitAnd (getD R (32 * s + i) 0) (255 - getD O i 0)) 0
 
--- the same three for the eight bytes from byte 8 * g on
-unfoldable pub partOthersIn : List ℕ → List ℕ → ℕ → ℕ → Bool
-partOthersIn p O g c = all 8 (λ k. othersIn p O (8 * g + k) c)
+-- of the slots of group g, those that are not in O are in class c
+unfoldable pub groupOthersInClass : List ℕ → List ℕ → ℕ → ℕ → Bool
+groupOthersInClass p O g c = all 8 (λ k. othersInClass p O (8 * g + k) c)
 
-unfoldable pub ownPart : List ℕ → List ℕ → List ℕ → ℕ → ℕ → ℕ → Bool
-ownPart R p O s g y = any 8 (λ k. ownEight R p O s (8 * g + k) y)
+-- what those of the slots of group g of row s put in that are in O
+unfoldable pub ownGroupPuts : List ℕ → List ℕ → List ℕ → ℕ → ℕ → ℕ → Bool
+ownGroupPuts R p O s g y = any 8 (λ k. ownBytePuts R p O s (8 * g + k) y)
 
-unfoldable pub noOthers : List ℕ → List ℕ → ℕ → ℕ → Bool
-noOthers R O s g = all 8 (λ k. noOther R O s (8 * g + k))
+-- group g of row s has no slot that is not in O
+unfoldable pub noOtherInGroup : List ℕ → List ℕ → ℕ → ℕ → Bool
+noOtherInGroup R O s g = all 8 (λ k. noOtherInByte R O s (8 * g + k))
 
--- C has for each of the first n groups of eight bytes a class that those of its slots are in that are not in O, or no class
-abbrev pub OthersIn : List ℕ → List ℕ → List ℕ → ℕ → Type 0
-OthersIn p O C n = (g : ℕ) → g < n → getD C g 0 < setSlots → partOthersIn p O g (getD C g 0) ≡ true
+-- for each of the first n groups, C has a class that those of its slots are in that are not in O; or it has a number that is no class
+abbrev pub ClassOfOthers : List ℕ → List ℕ → List ℕ → ℕ → Type 0
+ClassOfOthers p O C n = (g : ℕ) → g < n → getD C g 0 < setSlots → groupOthersInClass p O g (getD C g 0) ≡ true
 
 -- the rows of the ways 0 to 15, way after way: slot t is in row s of way w where w reaches t from s
 abbrev pub waysBytes : ℕ

@@ -1,4 +1,4 @@
--- Document 01, "Small sites, by hand": the starred examples as rows of one table, and the theorem that each says what it should.
+-- Small examples worked out by hand: rows of one table, and the theorem that each says what it should.
 pub mod Site
 pub mod Rows
 pub mod Said

@@ -1,4 +1,4 @@
--- The starred examples of document 01, "Small sites, by hand", that stand on sites, sheets and conditions: a row each.
+-- The examples: each row is a site, a sheet, a condition and what is expected of them.
 use mathlib.Core.List.{List, [], _∷_}
 use mathlib.Core.Bool.{Bool, not}
 use Prim.Native.Nat.{ℕ}

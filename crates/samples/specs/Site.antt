@@ -1,4 +1,4 @@
--- Small sites, written out as document 01 gives them in words.
+-- Small sites, written out.
 use mathlib.Core.List.{List, [], _∷_}
 use mathlib.Core.Bool.{Bool, true, false, _&&_, _||_, cond}
 use Prim.Native.Nat.{ℕ}
@@ -45,7 +45,7 @@ siteA = record {
   links-of = (4, 2, 1) ∷ (4, 3, 2) ∷ [];
 }
 
--- with link 4 also 1 to 3
+-- site A with link 4 also from 1 to 3
 unfoldable pub ring : Small
 ring = record {
   slots-here = siteA .slots-here;

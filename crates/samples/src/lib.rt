@@ -1,1 +1,1 @@
-// No code: document 01's starred examples, as theorems in specs/.
+// No code: small examples worked out by hand, as theorems in specs/.

@@ -1,4 +1,4 @@
--- Bisimulations, which document 01 calls likenesses, and class numbers. Document 01, "Classes"; between two sites: document 02, change 13.
+-- Bisimulations, which docs/SPEC.md calls likenesses, and class numbers: docs/SPEC.md, "Classes".
 use mathlib.Core.Path.{_≡_}
 use mathlib.Core.Logic.{_↔_}
 use mathlib.Core.Bool.{Bool, true}
@@ -13,7 +13,7 @@ Link (along m) = m < links
 Link (against m) = m < links
 Link every = ⊥
 
--- a bisimulation between two sites (document 01's likeness, where both are one site) relates slots of one to slots of the other: related slots
+-- a bisimulation between two sites (a likeness, where both are one site) relates slots of one to slots of the other: related slots
 -- agree on here, every label and every name, and for each way 0 to 15 each neighbour of one is related to some neighbour of the other, both ways round
 pub record Bisimulation (M N : Model) (R : ℕ → ℕ → Type 0) : Type 0 where
   pub on-here : (s t : ℕ) → s < slots → t < slots → R s t → M .present s ≡ N .present t

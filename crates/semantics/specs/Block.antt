@@ -1,4 +1,4 @@
--- Rewriting a table through an edit: each node becomes a block of nodes in postfix order. Document 01, "Rewriting". The table that comes out
+-- Rewriting a table through an edit: each node becomes a block of nodes in postfix order (docs/SPEC.md, "Rewriting"). The table that comes out
 -- is the weakest precondition: it says before the edit what the old one says after it (Laws/Rewrite).
 use mathlib.Core.List.{List, [], _∷_, _++_}
 use mathlib.Core.Bool.{cond}
@@ -90,7 +90,7 @@ abbrev ⟨_⟩_ : ℕ → Block → Block
 abbrev ⟦_⟧_ : ℕ → Block → Block
 ⟦ w ⟧ x = on kBox w x
 
--- the block of a diamond, T being the image of its child. Way `everyWay` is E, and way f + links is f-. In document 01's postfix:
+-- the block of a diamond, T being the image of its child. Way `everyWay` is E, and way f + links is f-. In postfix:
 --   added: T <w> a b T & <E> & |     cut: a ! T <w> & b ! T & <w> |     cutFrom: n ! T <w> &     cutTo: n ! T & <w>
 --   cutOff: n ! n ! T & <w> &
 unfoldable pub blockDia : Change → ℕ → Block → Block
@@ -146,7 +146,7 @@ blockLeaf (DS n) kName y = cond (same y 0) (nm y) ((nm y & no! (nm n)) or (nm 0 
 blockLeaf e kVar p = end kVar p
 blockLeaf e kSlot p = end kSlot p
 
--- the block of a node, from the images T and U of its children. Nodes not named in document 01's list are copied
+-- the block of a node, from the images T and U of its children. A node that the edit does not concern is copied
 unfoldable pub block : Edit → Kind → ℕ → Block → Block → Block
 block e (leaf k) p T U = blockLeaf e k p
 block e (unary kNot) p T U = no! T

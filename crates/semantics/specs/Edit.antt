@@ -1,4 +1,4 @@
--- Edits of a site: what each does, its operands, when it goes through, and what a valid site is. Document 01, "The site" and "The sheet".
+-- Edits of a site: what each does, its operands, when it goes through, and what a valid site is: docs/SPEC.md, "The site" and "The sheet".
 use mathlib.Core.Path.{_≡_}
 use mathlib.Core.Logic.{_≢_}
 use mathlib.Core.List.{List, [], _∷_}
@@ -8,7 +8,7 @@ use Rattle.finite.specs.Tests.{same, below}
 use Rattle.limits.specs.Limits.{slots, labels, names, links, generalLinks}
 use Rattle.semantics.specs.Holds.{Set, Model}
 
--- the nine operations, 0 to 8, with their operands in the order of document 01
+-- the nine operations, 0 to 8, with their operands in the order of the sheet
 pub data Edit : Type 0 where
   CN1 : (n1 n2 : ℕ) → Edit
   CN2 : (n1 n2 f : ℕ) → Edit

@@ -1,5 +1,5 @@
--- Conditions as trees: formulas of the modal mu-calculus, with converse and nominals. The parts of document 01, "The condition", that speak
--- of no node number.
+-- Conditions as trees: formulas of the modal mu-calculus, with converse and nominals. That is docs/SPEC.md, "The condition", without the
+-- numbers of nodes.
 use mathlib.Core.Bool.{Bool, true, false, not, _&&_, _||_}
 use Prim.Native.Nat.{ℕ}
 use Rattle.finite.specs.Tests.{same, all}

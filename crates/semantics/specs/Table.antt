@@ -1,5 +1,5 @@
--- Conditions as tables of nodes, which are acyclic graphs, of any length; and the tree of each node. Document 01, "The condition", and items 8,
--- 9 and 10.
+-- Conditions as tables of nodes, which are acyclic graphs, of any length; and the tree of each node: docs/SPEC.md, "The condition", and items
+-- 8, 9 and 10 of "Reasons".
 use mathlib.Core.Path.{_≡_}
 use mathlib.Core.List.{List, [], _∷_, _++_}
 use mathlib.Core.Bool.{Bool, true, not, _&&_, cond}
@@ -129,7 +129,7 @@ kindFits i x (binary k) = same (x .param) 0 && (below (x .left) i && below (x .r
 unfoldable pub nodeFits : ℕ → Node → Bool
 nodeFits i x = below (x .kind) kinds && kindFits i x (kindOf (x .kind))
 
--- by no node of a table, whose first node has the number i
+-- item 8 is met by no node of a table, whose first node has the number i
 unfoldable pub nodesFit : ℕ → List Node → Bool
 nodesFit i [] = true
 nodesFit i (x ∷ xs) = nodeFits i x && nodesFit (suc i) xs

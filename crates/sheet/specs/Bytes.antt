@@ -1,4 +1,4 @@
--- A sheet as bytes, four to an edit: the operation, then the operands in the order of document 01, "The sheet", unused ones 0.
+-- A sheet as bytes, four to an edit: the operation, then the operands in the order of docs/SPEC.md, "The sheet", unused ones 0.
 use mathlib.Core.List.{List, [], _∷_, _++_}
 use Prim.Native.Nat.{ℕ, _+_, _*_}
 use lib.ListN.{getD}

@@ -1,4 +1,4 @@
--- Items 11 and 12 of document 01, "Reasons for sending a job back", with W.
+-- Items 11 and 12 of docs/SPEC.md, "Reasons", with W.
 use mathlib.Core.List.{List, [], _∷_}
 use mathlib.Core.Bool.{Bool, not, _&&_, _||_, cond}
 use Prim.Native.Nat.{ℕ, _/_, _%_}
@@ -13,7 +13,7 @@ use Rattle.sheet.specs.Bytes.{readEdit, fourAt}
 unfoldable pub operands : ℕ → ℕ
 operands o = getD (2 ∷ 3 ∷ 2 ∷ 2 ∷ 3 ∷ 3 ∷ 2 ∷ 2 ∷ []) o 1
 
--- the operands that the operation does not use are 0; each has one at least
+-- the operands that the operation does not use are 0; each operation uses one at least
 unfoldable pub unusedZero : ℕ → ℕ → ℕ → Bool
 unusedZero o y z = (below 1 (operands o) || same y 0) && (below 2 (operands o) || same z 0)
 
@@ -21,11 +21,11 @@ unusedZero o y z = (below 1 (operands o) || same y 0) && (below 2 (operands o) |
 unfoldable pub editFits : ℕ → ℕ → ℕ → ℕ → Bool
 editFits o x y z = below o 9 && (legal (readEdit o x y z) && unusedZero o y z)
 
--- by edit k of a sheet
+-- item 12 is not met by edit k of a sheet
 abbrev pub fitsAt : List ℕ → ℕ → Bool
 fitsAt s k = fourAt editFits s k
 
--- edit k meets it
+-- edit k of a sheet meets item 12
 unfoldable pub faulty : List ℕ → ℕ → Bool
 faulty s k = not (fitsAt s k)
 

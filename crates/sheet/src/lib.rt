@@ -53,7 +53,7 @@ pub fn edit_at(sheet: &[u8], k: usize) -> Op
     read_edit(sheet[at], sheet[at + 1], sheet[at + 2], sheet[at + 3])
 }
 
-// A name that an edit may move: any but name 0.
+// Is n a name that an edit may move: any but name 0?
 fn may_move(n: u8) -> bool
     ensures { λ r. ⌜ r ≡ below n names && not (same n 0) ⌝ }
 {
@@ -66,7 +66,7 @@ fn is_functional(f: u8) -> bool
     (GENERAL_LINKS <= f) & (f < LINKS)
 }
 
-// Item 12 is not met by an edit: row by row, what its operands may be, and 0 for those that it does not use.
+// Item 12 is not met by an edit: for each operation, what its operands may be, and 0 for those that it does not use.
 fn fits(o: u8, x: u8, y: u8, z: u8) -> bool
     ensures { λ r. ⌜ r ≡ editFits o x y z ⌝ }
 {
@@ -108,7 +108,7 @@ fn first_fault(sheet: &[u8]) -> usize
     k
 }
 
-// Items 11 and 12.
+// The outcome of items 11 and 12 on a sheet.
 pub fn check(sheet: &[u8]) -> Verdict
     ensures { λ r. ⌜ r ≡ sheetVerdict (now (sheet .entry)) ⌝ }
 {

@@ -8,7 +8,7 @@ ghost use Rattle.finite.specs.Tests.{same, any};
 ghost use Rattle.bitset.specs.Set.{setBytes, setSlots, has, Is};
 ghost use Rattle.partition.specs.Gains.{Gains};
 ghost use Rattle.site.specs.Layout.{rowsBytes};
-ghost use Rattle.partition.specs.Rows.{Signed, turn, eight, part, owns, othersIn, partOthersIn, ownPart, noOthers, OthersIn};
+ghost use Rattle.partition.specs.Rows.{Signed, slotPuts, bytePuts, groupPuts, owns, othersInClass, groupOthersInClass, ownGroupPuts, noOtherInGroup, ClassOfOthers};
 use bitset::SET_BYTES;
 use bitset::SET_SLOTS;
 use site::ROWS_BYTES;
@@ -28,7 +28,7 @@ fn slot(x: u16) -> usize
     x as usize
 }
 
-// Puts slot t in, where it has its own number.
+// Puts slot t into the set if it has its own number.
 fn put_own(p: &[u8], t: usize, set: &mut [u8])
     requires { ⌜ (length (now p) ≡ setSlots) × ((t < setSlots) × (length (now set) ≡ setBytes)) ⌝ }
     ensures { λ _. ⌜ Gains (λ y. owns (now (p .entry)) t && same y t) (now (set .entry)) (now (set .exit)) ⌝ }
@@ -66,7 +66,7 @@ fn some_other(own: &[u8], g: usize) -> usize
 }
 
 // Is t in `own`, or else in class c?
-fn fits(p: &[u8], own: &[u8], t: usize, c: u8) -> bool
+fn own_or_in_class(p: &[u8], own: &[u8], t: usize, c: u8) -> bool
     requires { ⌜ (length (now p) ≡ setSlots) × ((length (now own) ≡ setBytes) × (t < setSlots)) ⌝ }
     ensures { λ r. ⌜ r ≡ (has (now (own .entry)) t || same (getD (now (p .entry)) t 0) c) ⌝ }
 {
@@ -76,23 +76,23 @@ fn fits(p: &[u8], own: &[u8], t: usize, c: u8) -> bool
     p[t] == c
 }
 
-// Are those of the eight slots from 8 * i on that are not in `own` in class c?
-fn others_in(p: &[u8], own: &[u8], i: usize, c: u8) -> bool
+// Of the eight slots of byte i, are those that are not in `own` in class c?
+fn others_in_class(p: &[u8], own: &[u8], i: usize, c: u8) -> bool
     requires { ⌜ (length (now p) ≡ setSlots) × ((length (now own) ≡ setBytes) × (i < setBytes)) ⌝ }
-    ensures { λ r. ⌜ r ≡ othersIn (now (p .entry)) (now (own .entry)) i c ⌝ }
+    ensures { λ r. ⌜ r ≡ othersInClass (now (p .entry)) (now (own .entry)) i c ⌝ }
 {
     for j in 0..8 {
-        if !fits(p, own, 8 * i + j, c) {
+        if !own_or_in_class(p, own, 8 * i + j, c) {
             return false;
         }
     }
     true
 }
 
-// Slot t, where it is in row s, puts its class into row s of the signatures.
+// Slot t puts its class into row s of the signatures if it is in row s.
 fn put_slot(rows: &[u8], p: &[u8], s: usize, t: usize, sig: &mut [u8])
     requires { ⌜ (length (now rows) ≡ rowsBytes) × ((length (now p) ≡ setSlots) × ((s < setSlots) × ((t < setSlots) × (length (now sig) ≡ rowsBytes)))) ⌝ }
-    ensures { λ _. ⌜ Gains (turn (now (rows .entry)) (now (p .entry)) s t) (now (sig .entry)) (now (sig .exit)) ⌝ }
+    ensures { λ _. ⌜ Gains (slotPuts (now (rows .entry)) (now (p .entry)) s t) (now (sig .entry)) (now (sig .exit)) ⌝ }
 {
     if !bitset::member(rows, SET_SLOTS * s + t) {
         return;
@@ -100,45 +100,45 @@ fn put_slot(rows: &[u8], p: &[u8], s: usize, t: usize, sig: &mut [u8])
     bitset::insert(sig, SET_SLOTS * s + wide(p[t]));
 }
 
-// So do the eight slots of byte i of row s.
+// The eight slots of byte i of row s put in their classes, one by one.
 fn put_slots(rows: &[u8], p: &[u8], s: usize, i: usize, sig: &mut [u8])
     requires { ⌜ (length (now rows) ≡ rowsBytes) × ((length (now p) ≡ setSlots) × ((s < setSlots) × ((i < setBytes) × (length (now sig) ≡ rowsBytes)))) ⌝ }
-    ensures { λ _. ⌜ Gains (eight (now (rows .entry)) (now (p .entry)) s i) (now (sig .entry)) (now (sig .exit)) ⌝ }
+    ensures { λ _. ⌜ Gains (bytePuts (now (rows .entry)) (now (p .entry)) s i) (now (sig .entry)) (now (sig .exit)) ⌝ }
 {
     for j in 0..8 {
         put_slot(rows, p, s, 8 * i + j, sig);
     }
 }
 
-// Are those of the slots of the eight bytes from byte 8 * g on that are not in `own` in class c?
-fn part_others_in(p: &[u8], own: &[u8], g: usize, c: u8) -> bool
+// Of the slots of group g, are those that are not in `own` in class c?
+fn group_others_in_class(p: &[u8], own: &[u8], g: usize, c: u8) -> bool
     requires { ⌜ (length (now p) ≡ setSlots) × ((length (now own) ≡ setBytes) × (g < 4)) ⌝ }
-    ensures { λ r. ⌜ r ≡ partOthersIn (now (p .entry)) (now (own .entry)) g c ⌝ }
+    ensures { λ r. ⌜ r ≡ groupOthersInClass (now (p .entry)) (now (own .entry)) g c ⌝ }
 {
     for k in 0..8 {
-        if !others_in(p, own, 8 * g + k, c) {
+        if !others_in_class(p, own, 8 * g + k, c) {
             return false;
         }
     }
     true
 }
 
-// The class that they are in; 256 where it is not one class.
+// The class of the slots of group g that are not in `own`; 256 if they are not in one class.
 fn other_class(p: &[u8], own: &[u8], g: usize) -> u16
     requires { ⌜ (length (now p) ≡ setSlots) × ((length (now own) ≡ setBytes) × (g < 4)) ⌝ }
-    ensures { λ r. ⌜ (r < setSlots → partOthersIn (now (p .entry)) (now (own .entry)) g r ≡ true) ⌝ }
+    ensures { λ r. ⌜ (r < setSlots → groupOthersInClass (now (p .entry)) (now (own .entry)) g r ≡ true) ⌝ }
 {
     let c = p[some_other(own, g)];
-    if part_others_in(p, own, g, c) {
+    if group_others_in_class(p, own, g, c) {
         return number(c);
     }
     256
 }
 
-// That class for each group of eight bytes of a set.
+// For each group, the class of its slots that are not in `own`; 256 if they are not in one class.
 fn other_classes(p: &[u8], own: &[u8]) -> [u16; GROUPS]
     requires { ⌜ (length (now p) ≡ setSlots) × (length (now own) ≡ setBytes) ⌝ }
-    ensures { λ r. ⌜ OthersIn (now (p .entry)) (now (own .entry)) r 4 ⌝ }
+    ensures { λ r. ⌜ ClassOfOthers (now (p .entry)) (now (own .entry)) r 4 ⌝ }
 {
     let mut classes = [0u16; GROUPS];
     for g in 0..GROUPS {
@@ -147,11 +147,11 @@ fn other_classes(p: &[u8], own: &[u8]) -> [u16; GROUPS]
     classes
 }
 
-// What `put_slots` does, at once for the slots with their own number.
+// What `put_slots` does, with the slots that have their own number at once.
 fn put_byte(rows: &[u8], p: &[u8], own: &[u8], s: usize, i: usize, sig: &mut [u8])
     requires { ⌜ (length (now rows) ≡ rowsBytes) × ((length (now p) ≡ setSlots) × ((length (now own) ≡ setBytes) × ((s < setSlots) × ((i < setBytes) × (length (now sig) ≡ rowsBytes))))) ⌝ }
     requires { ⌜ Is (now own) (owns (now p)) ⌝ }
-    ensures { λ _. ⌜ Gains (eight (now (rows .entry)) (now (p .entry)) s i) (now (sig .entry)) (now (sig .exit)) ⌝ }
+    ensures { λ _. ⌜ Gains (bytePuts (now (rows .entry)) (now (p .entry)) s i) (now (sig .entry)) (now (sig .exit)) ⌝ }
 {
     let at = SET_BYTES * s + i;
     sig[at] = sig[at] | (rows[at] & own[i]);
@@ -161,21 +161,21 @@ fn put_byte(rows: &[u8], p: &[u8], own: &[u8], s: usize, i: usize, sig: &mut [u8
     put_slots(rows, p, s, i, sig);
 }
 
-// The eight bytes of row s from byte 8 * g on, one by one.
+// The eight bytes of group g of row s put in their slots' classes, one by one.
 fn put_bytes(rows: &[u8], p: &[u8], own: &[u8], s: usize, g: usize, sig: &mut [u8])
     requires { ⌜ (length (now rows) ≡ rowsBytes) × ((length (now p) ≡ setSlots) × ((length (now own) ≡ setBytes) × ((s < setSlots) × ((g < 4) × (length (now sig) ≡ rowsBytes))))) ⌝ }
     requires { ⌜ Is (now own) (owns (now p)) ⌝ }
-    ensures { λ _. ⌜ Gains (part (now (rows .entry)) (now (p .entry)) s g) (now (sig .entry)) (now (sig .exit)) ⌝ }
+    ensures { λ _. ⌜ Gains (groupPuts (now (rows .entry)) (now (p .entry)) s g) (now (sig .entry)) (now (sig .exit)) ⌝ }
 {
     for k in 0..8 {
         put_byte(rows, p, own, s, 8 * g + k, sig);
     }
 }
 
-// Are their slots all in `own`? All are looked at, so that the compiler takes the eight bytes at once.
+// Are the slots of group g of row s all in `own`? No byte ends the loop early, so that the compiler takes the eight bytes at once.
 fn all_own(rows: &[u8], own: &[u8], s: usize, g: usize) -> bool
     requires { ⌜ (length (now rows) ≡ rowsBytes) × ((length (now own) ≡ setBytes) × ((s < setSlots) × (g < 4))) ⌝ }
-    ensures { λ r. ⌜ r ≡ noOthers (now (rows .entry)) (now (own .entry)) s g ⌝ }
+    ensures { λ r. ⌜ r ≡ noOtherInGroup (now (rows .entry)) (now (own .entry)) s g ⌝ }
 {
     let mut others = 0u8;
     for k in 0..8 {
@@ -185,11 +185,11 @@ fn all_own(rows: &[u8], own: &[u8], s: usize, g: usize) -> bool
     others == 0
 }
 
-// Puts those in that are in `own`: each is the number of its class.
-fn put_own_eight(rows: &[u8], p: &[u8], own: &[u8], s: usize, g: usize, sig: &mut [u8])
+// The slots of group g of row s that are in `own` put in their classes: each is the number of its class.
+fn put_own_group(rows: &[u8], p: &[u8], own: &[u8], s: usize, g: usize, sig: &mut [u8])
     requires { ⌜ (length (now rows) ≡ rowsBytes) × ((length (now p) ≡ setSlots) × ((length (now own) ≡ setBytes) × ((s < setSlots) × ((g < 4) × (length (now sig) ≡ rowsBytes))))) ⌝ }
     requires { ⌜ Is (now own) (owns (now p)) ⌝ }
-    ensures { λ _. ⌜ Gains (ownPart (now (rows .entry)) (now (p .entry)) (now (own .entry)) s g) (now (sig .entry)) (now (sig .exit)) ⌝ }
+    ensures { λ _. ⌜ Gains (ownGroupPuts (now (rows .entry)) (now (p .entry)) (now (own .entry)) s g) (now (sig .entry)) (now (sig .exit)) ⌝ }
 {
     for k in 0..8 {
         let i = 8 * g + k;
@@ -198,14 +198,14 @@ fn put_own_eight(rows: &[u8], p: &[u8], own: &[u8], s: usize, g: usize, sig: &mu
     }
 }
 
-// The eight bytes of row s from byte 8 * g on, at once where those of their slots that are not in `own` are in one class, c. Most rows of
-// a sparse site have no slot there, and after a few rounds most slots are in `own`.
-fn put_part(rows: &[u8], p: &[u8], own: &[u8], c: u16, s: usize, g: usize, sig: &mut [u8])
+// Group g of row s puts in its slots' classes: at once where those of its slots that are not in `own` are in one class, c. Most rows of a
+// sparse site have no slot in the group, and after a few rounds most slots are in `own`.
+fn put_group(rows: &[u8], p: &[u8], own: &[u8], c: u16, s: usize, g: usize, sig: &mut [u8])
     requires { ⌜ (length (now rows) ≡ rowsBytes) × ((length (now p) ≡ setSlots) × ((length (now own) ≡ setBytes) × ((s < setSlots) × ((g < 4) × (length (now sig) ≡ rowsBytes))))) ⌝ }
-    requires { ⌜ Is (now own) (owns (now p)) × (c < setSlots → partOthersIn (now p) (now own) g c ≡ true) ⌝ }
-    ensures { λ _. ⌜ Gains (part (now (rows .entry)) (now (p .entry)) s g) (now (sig .entry)) (now (sig .exit)) ⌝ }
+    requires { ⌜ Is (now own) (owns (now p)) × (c < setSlots → groupOthersInClass (now p) (now own) g c ≡ true) ⌝ }
+    ensures { λ _. ⌜ Gains (groupPuts (now (rows .entry)) (now (p .entry)) s g) (now (sig .entry)) (now (sig .exit)) ⌝ }
 {
-    put_own_eight(rows, p, own, s, g, sig);
+    put_own_group(rows, p, own, s, g, sig);
     if all_own(rows, own, s, g) {
         return;
     }
@@ -216,18 +216,18 @@ fn put_part(rows: &[u8], p: &[u8], own: &[u8], c: u16, s: usize, g: usize, sig: 
     put_bytes(rows, p, own, s, g, sig);
 }
 
-// Row s.
+// Row s puts in its slots' classes, group by group.
 fn put_row(rows: &[u8], p: &[u8], own: &[u8], others: &[u16], s: usize, sig: &mut [u8])
     requires { ⌜ (length (now rows) ≡ rowsBytes) × ((length (now p) ≡ setSlots) × ((length (now own) ≡ setBytes) × ((length (now others) ≡ 4) × ((s < setSlots) × (length (now sig) ≡ rowsBytes))))) ⌝ }
-    requires { ⌜ Is (now own) (owns (now p)) × OthersIn (now p) (now own) (now others) 4 ⌝ }
-    ensures { λ _. ⌜ Gains (λ y. any 4 (λ g. part (now (rows .entry)) (now (p .entry)) s g y)) (now (sig .entry)) (now (sig .exit)) ⌝ }
+    requires { ⌜ Is (now own) (owns (now p)) × ClassOfOthers (now p) (now own) (now others) 4 ⌝ }
+    ensures { λ _. ⌜ Gains (λ y. any 4 (λ g. groupPuts (now (rows .entry)) (now (p .entry)) s g y)) (now (sig .entry)) (now (sig .exit)) ⌝ }
 {
     for g in 0..GROUPS {
-        put_part(rows, p, own, others[g], s, g, sig);
+        put_group(rows, p, own, others[g], s, g, sig);
     }
 }
 
-// The classes of p that each row is in.
+// The signature of each slot: the classes of p that the slots of its row are in.
 pub fn of_rows(rows: &[u8], p: &[u8]) -> [u8; ROWS_BYTES]
     requires { ⌜ (length (now rows) ≡ rowsBytes) × (length (now p) ≡ setSlots) ⌝ }
     ensures { λ r. ⌜ Signed (now (rows .entry)) (now (p .entry)) r ⌝ }

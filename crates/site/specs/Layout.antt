@@ -1,4 +1,4 @@
--- Where the parts of a site stand among its bytes. Document 01, "The site". The code has the same constants.
+-- Where the parts of a site stand among its bytes: docs/SPEC.md, "The site". The code has the same constants.
 use Prim.Native.Nat.{ℕ, _+_, _-_, _*_}
 use Rattle.bitset.specs.Set.{setBytes, setSlots}
 use Rattle.limits.specs.Limits.{labels, names, links, generalLinks}

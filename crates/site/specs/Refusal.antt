@@ -1,4 +1,4 @@
--- Which sites are refused: items 3 to 6 of document 01, "Reasons for sending a job back", in their order.
+-- Which sites are refused: items 3 to 6 of docs/SPEC.md, "Reasons", in their order.
 use mathlib.Core.Bool.{Bool, not, _&&_, _||_, cond}
 use mathlib.Core.List.{List}
 use Prim.Native.Nat.{ℕ}

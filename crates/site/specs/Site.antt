@@ -1,4 +1,4 @@
--- What a site's bytes say: the model that they are read as. Document 01, "The site".
+-- What a site's bytes say: the model that they are read as (docs/SPEC.md, "The site").
 use mathlib.Core.Bool.{Bool, not, _&&_, cond}
 use mathlib.Core.List.{List}
 use Prim.Native.Nat.{ℕ, _+_, _*_}

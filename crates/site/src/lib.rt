@@ -15,7 +15,7 @@ use bitset::SET_BYTES;
 use bitset::SET_SLOTS;
 use verdict::Verdict;
 
-// The limits, as places in a buffer are counted.
+// The limits as `usize`.
 pub const LABELS: usize = limits::LABELS as usize;
 
 pub const NAMES: usize = limits::NAMES as usize;
@@ -85,7 +85,7 @@ fn names_present(site: &[u8]) -> bool
     true
 }
 
-// The site does not meet item 4.
+// Item 4 is not met: slot 0 is present, name 0 is there, and every name is at a present slot.
 fn names_fit(site: &[u8]) -> bool
     requires { ⌜ length (now site) ≡ siteBytes ⌝ }
     ensures { λ r. ⌜ r ≡ not (item4 (siteOf (now (site .entry)))) ⌝ }
@@ -108,7 +108,7 @@ fn part_inside(site: &[u8], b: usize, set: &[u8]) -> bool
     bitset::subset(&site[b..e], set)
 }
 
-// The site does not meet item 5: each label's set lies inside the present slots.
+// Item 5 is not met: each label's set lies inside the present slots.
 fn labels_fit(site: &[u8]) -> bool
     requires { ⌜ length (now site) ≡ siteBytes ⌝ }
     ensures { λ r. ⌜ r ≡ not (item5 (siteOf (now (site .entry)))) ⌝ }
@@ -133,7 +133,7 @@ fn link_ends(site: &[u8]) -> [u8; SET_BYTES]
     ends
 }
 
-// The set at byte b, the targets of slot s, lies inside `ends`, and is empty where s is not in `ends`.
+// Does the set at byte b, the targets of slot s, lie inside `ends`, and is it empty where s is not in `ends`?
 fn row_fits(site: &[u8], b: usize, s: usize, ends: &[u8]) -> bool
     requires { ⌜ (b + setBytes ≤ length (now site)) × ((s < setSlots) × (length (now ends) ≡ setBytes)) ⌝ }
     ensures { λ r. ⌜ r ≡ rowInside (now (site .entry)) b (now (ends .entry)) s ⌝ }
@@ -145,7 +145,7 @@ fn row_fits(site: &[u8], b: usize, s: usize, ends: &[u8]) -> bool
     part_inside(site, b, &none)
 }
 
-// The rows of the general link m fit.
+// Does every row of the general link m fit? Its targets are in `ends`, and it is empty where its slot is not.
 fn rows_fit(site: &[u8], m: usize, ends: &[u8]) -> bool
     requires { ⌜ (length (now site) ≡ siteBytes) × ((m < generalLinks) × (length (now ends) ≡ setBytes)) ⌝ }
     ensures { λ r. ⌜ r ≡ all setSlots (λ s. rowInside (now (site .entry)) (rowAt m s) (now (ends .entry)) s) ⌝ }
@@ -158,7 +158,7 @@ fn rows_fit(site: &[u8], m: usize, ends: &[u8]) -> bool
     true
 }
 
-// The target t of slot s is none, or both are in `ends`.
+// Is the target t of slot s none, or are both in `ends`?
 fn target_fits(s: usize, t: usize, ends: &[u8]) -> bool
     requires { ⌜ (s < setSlots) × ((t < setSlots) × (length (now ends) ≡ setBytes)) ⌝ }
     ensures { λ r. ⌜ r ≡ targetInside (now (ends .entry)) s t ⌝ }
@@ -172,7 +172,7 @@ fn target_fits(s: usize, t: usize, ends: &[u8]) -> bool
     bitset::member(ends, t)
 }
 
-// The targets of the functional link f fit.
+// Does every target of the functional link f fit? It is none, or both ends of the link are in `ends`.
 fn targets_fit(site: &[u8], f: usize, ends: &[u8]) -> bool
     requires { ⌜ (length (now site) ≡ siteBytes) × ((generalLinks ≤ f) × ((f < links) × (length (now ends) ≡ setBytes))) ⌝ }
     ensures { λ r. ⌜ r ≡ all setSlots (λ s. targetInside (now (ends .entry)) s (getD (now (site .entry)) (targetAt f s) 0)) ⌝ }
@@ -186,7 +186,7 @@ fn targets_fit(site: &[u8], f: usize, ends: &[u8]) -> bool
     true
 }
 
-// Link m touches the slots of `ends` alone.
+// Does link m touch the slots of `ends` alone?
 fn link_fits(site: &[u8], m: usize, ends: &[u8]) -> bool
     requires { ⌜ (length (now site) ≡ siteBytes) × ((m < links) × ((length (now ends) ≡ setBytes) × Is (now ends) (λ s. not (barred (siteOf (now site)) s)))) ⌝ }
     ensures { λ r. ⌜ r ≡ not (touches (siteOf (now (site .entry))) m) ⌝ }
@@ -198,7 +198,7 @@ fn link_fits(site: &[u8], m: usize, ends: &[u8]) -> bool
     }
 }
 
-// The site does not meet item 6.
+// Item 6 is not met: each link touches present slots other than 0 alone.
 fn links_fit(site: &[u8]) -> bool
     requires { ⌜ length (now site) ≡ siteBytes ⌝ }
     ensures { λ r. ⌜ r ≡ not (item6 (siteOf (now (site .entry)))) ⌝ }

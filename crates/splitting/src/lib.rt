@@ -7,7 +7,7 @@ ghost use lib.ListN.{length, getD};
 ghost use Rattle.finite.specs.Tests.{first};
 ghost use Rattle.bitset.specs.Set.{setSlots};
 ghost use Rattle.site.specs.Layout.{rowsBytes};
-ghost use Rattle.partition.specs.Partition.{Partition, Parts, byRow, bySeen};
+ghost use Rattle.partition.specs.Partition.{Partition, Partitions, byRow, bySeen};
 use bitset::SET_BYTES;
 use bitset::SET_SLOTS;
 use site::ROWS_BYTES;
@@ -39,7 +39,7 @@ fn alike(q: &[u8], rows: &[u8], s: usize, t: usize) -> bool
     bitset::equal(&rows[a..a_end], &rows[b..b_end])
 }
 
-// The lowest slot in the class of s with its row. None is below the lowest of the class.
+// The lowest slot that is in the class of s and has its row. The search starts at the lowest slot of the class.
 fn first_alike(q: &[u8], rows: &[u8], s: usize) -> u8
     requires { ⌜ (length (now q) ≡ setSlots) × ((length (now rows) ≡ rowsBytes) × ((s < setSlots) × Partition (now q))) ⌝ }
     ensures { λ r. ⌜ r ≡ first setSlots (byRow (now (q .entry)) (now (rows .entry)) s) ⌝ }
@@ -57,7 +57,7 @@ fn first_alike(q: &[u8], rows: &[u8], s: usize) -> u8
 // The classes of q, each split by the rows of its slots.
 pub fn by_rows(q: &[u8], rows: &[u8]) -> [u8; SET_SLOTS]
     requires { ⌜ (length (now q) ≡ setSlots) × ((length (now rows) ≡ rowsBytes) × Partition (now q)) ⌝ }
-    ensures { λ r. ⌜ Parts (byRow (now (q .entry)) (now (rows .entry))) r ⌝ }
+    ensures { λ r. ⌜ Partitions (byRow (now (q .entry)) (now (rows .entry))) r ⌝ }
 {
     let mut r = [0u8; SET_SLOTS];
     for s in 0..SET_SLOTS {
@@ -69,7 +69,7 @@ pub fn by_rows(q: &[u8], rows: &[u8]) -> [u8; SET_SLOTS]
 // The classes of q, each split by the classes of p that the rows of its slots are in.
 pub fn by_seen(q: [u8; SET_SLOTS], rows: &[u8], p: &[u8]) -> [u8; SET_SLOTS]
     requires { ⌜ (length (now rows) ≡ rowsBytes) × ((length (now p) ≡ setSlots) × Partition q) ⌝ }
-    ensures { λ r. ⌜ Parts (bySeen q (now (rows .entry)) (now (p .entry))) r ⌝ }
+    ensures { λ r. ⌜ Partitions (bySeen q (now (rows .entry)) (now (p .entry))) r ⌝ }
 {
     if empty(rows) {
         return q;

@@ -7,7 +7,7 @@ use lib.ListN.{length, take, drop}
 use Rattle.trailer.specs.Refusal.{item2}
 use Rattle.trailer.specs.Pieces.{siteIn, conditionIn, sheetIn}
 
--- item 2 is met or not, and the places where the pieces end: each starts where the one before it ends, the site at 0
+-- item 2 is met or not, and the positions where the pieces end: each starts where the one before it ends, the site at 0
 pub record Cut (file : List ℕ) (met : Bool) (site condition sheet : ℕ) : Type 0 where
   pub met-is : met ≡ item2 file
   pub site-is : take site file ≡ siteIn file

@@ -1,4 +1,4 @@
--- The job file of document 01, "The job file and its print": site, condition, sheet, then a trailer that points back.
+-- The job file (docs/SPEC.md, "The job file"): site, condition, sheet, then a trailer that points back.
 use mathlib.Core.List.{List}
 use Prim.Native.Nat.{ℕ, _+_, _*_, _-_}
 use lib.ListN.{length, getD}
@@ -22,6 +22,6 @@ quadAt S a = getD S a 0 + 256 * getD S (a + 1) 0 + 65536 * getD S (a + 2) 0 + 16
 unfoldable pub distance : (k : ℕ) (file : List ℕ) → ℕ
 distance k file = quadAt file (trailerAt file + 4 * k)
 
--- where that piece starts
+-- where the piece of distance k starts
 unfoldable pub startOf : (k : ℕ) (file : List ℕ) → ℕ
 startOf k file = trailerAt file - distance k file

@@ -1,4 +1,4 @@
--- Item 2 of document 01, "Reasons for sending a job back". W is 0.
+-- Item 2 of docs/SPEC.md, "Reasons". W is 0.
 use mathlib.Core.Bool.{Bool, not, _||_, cond}
 use mathlib.Core.List.{List}
 use Prim.Native.Nat.{ℕ}

@@ -37,7 +37,7 @@ fn read_distance(file: &[u8], k: usize) -> usize
     quad(file[at], file[at + 1], file[at + 2], file[at + 3])
 }
 
-// Item 2 is met.
+// Is item 2 met?
 fn refused(file: &[u8]) -> bool
     ensures { λ r. ⌜ r ≡ item2 (now (file .entry)) ⌝ }
 {
@@ -70,7 +70,7 @@ pub struct Cuts {
     pub sheet: usize,
 }
 
-// Reads the trailer: the one place where item 2 is tested.
+// Reads the trailer. Item 2 is tested here and nowhere else.
 pub fn read(file: &[u8]) -> Cuts
     ensures { λ r. ⌜ Cut (now (file .entry)) (r .met) (r .site) (r .condition) (r .sheet) ⌝ }
 {
@@ -93,7 +93,7 @@ pub fn read(file: &[u8]) -> Cuts
     }
 }
 
-// Item 2 as a verdict.
+// The outcome of item 2.
 pub fn check(c: Cuts) -> Verdict
     ensures { λ r. ⌜ r ≡ metVerdict (c .met) ⌝ }
 {

@@ -16,7 +16,7 @@ use Rattle.sheet.specs.Bytes.{editsOf}
 use Rattle.sheet.specs.Refusal.{sheetVerdict}
 use Rattle.applying.specs.Refusal.{goesVerdict}
 use Rattle.applying.specs.Applies.{Applies}
-use Rattle.applying.specs.Laws.Left.{goes-out, goes-not}
+use Rattle.applying.specs.Laws.Goes.{goes-out, goes-not}
 use Rattle.refusals.specs.Refusal.{bufferVerdict}
 use Rattle.refusals.specs.Laws.Items.{buffer-in, buffer-out, buffer-not, then-out}
 use Rattle.apply_entry.specs.Refusal.{applyVerdict}

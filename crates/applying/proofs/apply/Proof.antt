@@ -20,23 +20,27 @@ zero-requires : tie.Need-zero-requires
 zero-requires c κs = search needs
 
 cast-t16 : tie.Need-cast-t16
-cast-t16 c = let s = c .before .before .before .before .before .before .before .before .before .before .before .before .before .before .before .before in
+cast-t16 c =
+    let s = c .before .before .before .before .before .before .before .before .before .before .before .before .before .before .before .before in
     omega (arith, edits-length (s .args .sheet .now), accepted-sheet (s .args .sheet .now) (s .pre .1 .0) .few)
 
 same-length : tie.Need-same-length
 same-length c = omega arith
 
 returns : tie.Need-returns
-returns c = let s = c .before .before .before .before .before .before .before .before .before .before .before .before .before .before .before .before in
+returns c =
+    let s = c .before .before .before .before .before .before .before .before .before .before .before .before .before .before .before .before in
+    let the-copy = c .before .before .before .before .before .before .before .before .before .before .before .copy in
     let l = accepted-out (s .args .site .now) (s .pre .0) .0 in
-    let e = c .before .before .before .before .before .before .before .before .before .before .before .copy .ensures ∙ copied-whole (s .args .site .now) (s .args .result .now) (omega arith) in
+    let e = the-copy .ensures ∙ copied-whole (s .args .site .now) (s .args .result .now) (omega arith) in
     ran-stuck e (c .before .before .before .before .before .before .before .run .ensures) (omega arith) (c .before .before .before .before .if1 .taken) (c .before .before .zero .ensures)
 
 same-length-2 : tie.Need-same-length-2
 same-length-2 c = omega arith
 
 returns-2 : tie.Need-returns-2
-returns-2 c = let s = c .before .before .before .before .before .before .before .before .before .before .before .before in
+returns-2 c =
+    let s = c .before .before .before .before .before .before .before .before .before .before .before .before in
     let l = accepted-out (s .args .site .now) (s .pre .0) .0 in
     let e = c .before .before .before .before .before .before .before .copy .ensures ∙ copied-whole (s .args .site .now) (s .args .result .now) (omega arith) in
     ran-through e (c .before .before .before .run .ensures) (omega arith) (c .if1 .left)

@@ -32,7 +32,8 @@ returns : tie.Need-returns Inv-loop μ-loop
 returns c = run-stop (c .before .before .before .before .before .loop .inv) (c .before .before .before .edit-at .ensures) (c .before .before .before .before .loop-test .taken) (sym (c .before .goes-through .ensures) ∙ not-true _ (c .if1 .taken))
 
 apply-edit-requires : tie.Need-apply-edit-requires Inv-loop μ-loop
-apply-edit-requires c κs = let s = c .before .before .before .before .before .before .before .before .before in
+apply-edit-requires c κs =
+    let s = c .before .before .before .before .before .before .before .before .before in
     let l = c .before .before .before .before .before .before .loop in
     (l .inv .long, (rw (c .before .before .before .before .edit-at .ensures) (accepted-at (s .args .sheet .now) (s .pre .1) (l .k) (c .before .before .before .before .before .loop-test .taken)), sym (c .before .before .goes-through .ensures) ∙ not-false _ (c .before .if1 .left)))
 
@@ -43,7 +44,8 @@ loop-less : tie.Need-loop-less Inv-loop μ-loop
 loop-less c = omega arith
 
 loop-again : tie.Need-loop-again Inv-loop μ-loop
-loop-again c = let l = c .before .before .before .before .before .before .before .before .before .loop in
+loop-again c =
+    let l = c .before .before .before .before .before .before .before .before .before .loop in
     let r = c .before .before .apply-edit in
     run-more (l .inv) (c .before .before .before .before .before .before .before .edit-at .ensures) (c .before .before .before .before .before .before .before .before .loop-test .taken) (sym (c .before .before .before .before .before .goes-through .ensures) ∙ not-false _ (c .before .before .before .before .if1 .left)) (r .ensures) (r .kept .0 ∙ l .inv .long)
 

@@ -19,7 +19,7 @@ abbrev μ-loop : tie.MeasureT-loop
 μ-loop classes seen₀ s₀ seen s = setSlots - s
 
 loop-holds : tie.Need-loop-holds Inv-loop μ-loop
-loop-holds c = let a = c .before .args in (omega arith, omega arith, gains-start (λ k y. same y (getD (a .classes .now) k 0)) _)
+loop-holds c = let a = c .before .args in (omega arith, omega arith, gains-start (λ k y. same y (getD (a .classes .now) k 0)))
 
 slice-aggregate-insert : tie.Need-slice-aggregate-insert Inv-loop μ-loop
 slice-aggregate-insert c = search needs
@@ -42,7 +42,7 @@ loop-less c = omega arith
 loop-again : tie.Need-loop-again Inv-loop μ-loop
 loop-again c = let a = c .before .before .before .before .before .before .before .before .args in let l = c .before .before .before .before .before .before .loop in
     let w = c .before .before .wide .ensures .0 in
-    (omega arith, omega arith, gains-more (λ k y. same y (getD (a .classes .now) k 0)) (replicate setBytes 0) (l .seen) _ (l .s) (l .inv .2) (gains-put (l .seen) _ (getD (a .classes .now) (l .s) 0) (rw w at (c .before .insert .ensures)) (omega arith)))
+    (omega arith, omega arith, gains-more (λ k y. same y (getD (a .classes .now) k 0)) (l .s) (l .inv .2) (gains-put (getD (a .classes .now) (l .s) 0) (rw w at (c .before .insert .ensures)) (omega arith)))
 
 slice-aggregate-count : tie.Need-slice-aggregate-count Inv-loop μ-loop
 slice-aggregate-count c = search needs
@@ -52,7 +52,7 @@ count-requires c κs = search needs
 
 returns : tie.Need-returns Inv-loop μ-loop
 returns c = let a = c .before .before .before .before .before .args in let l = c .before .before .before .loop in
-    c .count .ensures ∙ count-different (a .classes .now) setBytes _ (gains-done (λ k y. same y (getD (a .classes .now) k 0)) (replicate setBytes 0) (l .seen) setSlots (l .s) (l .inv .2) (omega arith) (omega arith))
+    c .count .ensures ∙ count-different (a .classes .now) setBytes (gains-done (λ k y. same y (getD (a .classes .now) k 0)) setSlots (l .s) (l .inv .2) (omega arith) (omega arith))
 
 pub count-spec : {M : Type 1} → statement M
 count-spec =

@@ -7,13 +7,13 @@ use lib.ListN.{length}
 use Rattle.bitset.specs.Set.{setSlots}
 use Rattle.site.specs.Site.{siteOf}
 use Rattle.semantics.specs.Laws.Refine.{bisimilarIn}
-use Rattle.partition.specs.Partition.{Parts, Next}
+use Rattle.partition.specs.Partition.{Partitions, Refines}
 use Rattle.classes.specs.Laws.Refined.{refined-still, refined-last}
 use Rattle.classes.proofs.refine.Statement.{statement}
 use Rattle.classes.proofs.refine.Tie as tie
 
 abbrev Inv-loop : tie.InvT-loop
-Inv-loop site ways p₀ rounds₀ p rounds = (rounds ≤ setSlots) × (length p ≡ setSlots) × Parts (bisimilarIn rounds (siteOf site) (siteOf site)) p
+Inv-loop site ways p₀ rounds₀ p rounds = (rounds ≤ setSlots) × (length p ≡ setSlots) × Partitions (bisimilarIn rounds (siteOf site) (siteOf site)) p
 
 abbrev μ-loop : tie.MeasureT-loop
 μ-loop site ways p₀ rounds₀ p rounds = setSlots - rounds
@@ -47,7 +47,7 @@ loop-less : tie.Need-loop-less Inv-loop μ-loop
 loop-less c = omega arith
 
 loop-again : tie.Need-loop-again Inv-loop μ-loop
-unfolding Next
+unfolding Refines
 loop-again c = (omega arith, omega arith, c .before .before .round .ensures (siteOf (c .before .before .before .before .before .before .before .before .before .args .site .now)) (c .before .before .before .before .before .before .before .of-site .ensures) (c .before .before .before .before .before .loop .rounds) (c .before .before .before .before .before .loop .inv .2))
 
 returns-2 : tie.Need-returns-2 Inv-loop μ-loop

@@ -8,19 +8,19 @@ use Rattle.semantics.specs.Holds.{Model}
 use Rattle.semantics.specs.Laws.Refine.{bisimilarIn}
 use Rattle.site.specs.Layout.{rowsBytes}
 use Rattle.partition.specs.Rows.{Neighbours}
-use Rattle.partition.specs.Partition.{Partition, Parts, Next}
+use Rattle.partition.specs.Partition.{Partition, Partitions, Refines}
 use Rattle.partition.specs.Laws.Rounds.{upto, upto-none, upto-more, upto-all}
 use Rattle.classes.proofs.round.Statement.{statement}
 use Rattle.classes.proofs.round.Tie as tie
 
 abbrev Inv-loop : tie.InvT-loop
-Inv-loop ways p q₀ w₀ q w = (w ≤ everyWay) × Partition q × ((M : Model) → Neighbours M ways → (k : ℕ) → Parts (bisimilarIn k M M) p → Parts (upto M M k w) q)
+Inv-loop ways p q₀ w₀ q w = (w ≤ everyWay) × Partition q × ((M : Model) → Neighbours M ways → (k : ℕ) → Partitions (bisimilarIn k M M) p → Partitions (upto M M k w) q)
 
 abbrev μ-loop : tie.MeasureT-loop
 μ-loop ways p q₀ w₀ q w = everyWay - w
 
 loop-holds : tie.Need-loop-holds Inv-loop μ-loop
-loop-holds c = (omega arith, c .before .pre .1, λ M _ k n. upto-none M k _ n)
+loop-holds c = (omega arith, c .before .pre .1, λ M _ k n. upto-none M k n)
 
 mul-b : tie.Need-mul-b Inv-loop μ-loop
 mul-b c = omega arith
@@ -54,8 +54,8 @@ loop-again c = let a = c .before .before .before .before .before .before .args i
     (omega arith, c .by-seen .ensures .lowest, λ M b k n. upto-more M k (l .w) (rowsBytes * l .w + rowsBytes - rowsBytes * l .w) (a .ways .now) _ (l .q) _ b (omega arith) (omega arith) n (l .inv .2 M b k n) (c .by-seen .ensures))
 
 returns : tie.Need-returns Inv-loop μ-loop
-unfolding Next
-returns c = λ M b k n. let e : c .before .loop .w ≡ everyWay = omega arith in upto-all M k _ (rw e at (c .before .loop .inv .2 M b k n))
+unfolding Refines
+returns c = λ M b k n. let e : c .before .loop .w ≡ everyWay = omega arith in upto-all M k (rw e at (c .before .loop .inv .2 M b k n))
 
 pub round-spec : {M : Type 1} → statement M
 round-spec =

@@ -1,14 +1,14 @@
--- One class, split by the marks.
+-- One class, split by the features.
 use native.Mathlib.Omega.{arith}
 use borrow.Author.Needs.{needs}
 use Rattle.site.specs.Site.{siteOf}
 use Rattle.bitset.specs.Set.{setSlots}
-use Rattle.classes.specs.Laws.Marks.{zeros-partition, marked-part}
+use Rattle.classes.specs.Laws.Features.{zeros-partition, features-partition}
 use Rattle.classes.proofs.start.Statement.{statement}
 use Rattle.classes.proofs.start.Tie as tie
 
-marks-of-requires : tie.Need-marks-of-requires
-marks-of-requires c κs = search needs
+features-of-requires : tie.Need-features-of-requires
+features-of-requires c κs = search needs
 
 slice-aggregate-by-rows : tie.Need-slice-aggregate-by-rows
 slice-aggregate-by-rows c = search needs
@@ -20,13 +20,13 @@ by-rows-requires : tie.Need-by-rows-requires
 by-rows-requires c κs = (omega arith, (omega arith, zeros-partition setSlots))
 
 returns : tie.Need-returns
-returns c = marked-part setSlots (siteOf (c .before .before .before .before .before .args .site .now)) (c .before .before .before .marks-of .result) _ (c .before .before .before .marks-of .ensures) (c .by-rows .ensures)
+returns c = features-partition setSlots (siteOf (c .before .before .before .before .before .args .site .now)) (c .before .before .before .features-of .result) _ (c .before .before .before .features-of .ensures) (c .by-rows .ensures)
 
 pub start-spec : {M : Type 1} → statement M
 start-spec =
     tie.close
     (tie.spec
-    marks-of-requires
+    features-of-requires
     slice-aggregate-by-rows
     slice-aggregate-by-rows-2
     by-rows-requires

@@ -14,8 +14,8 @@ use Rattle.classes.specs.Classes.{different}
 pub same-turned : (a b : ℕ) → same a b ≡ same b a
 same-turned a b = both (λ e. eq-same (sym (same-eq e))) (λ e. eq-same (sym (same-eq e)))
 
-pub count-different : (p : List ℕ) (n : ℕ) (S : List ℕ) → Gains (λ y. any setSlots (λ s. same y (getD p s 0))) (replicate n 0) S
+pub count-different : (p : List ℕ) (n : ℕ) {S : List ℕ} → Gains (λ y. any setSlots (λ s. same y (getD p s 0))) (replicate n 0) S
     → count setSlots (has S) ≡ different p
 unfolding different
-count-different p n S g = count-cong setSlots _ _ (λ c h.
-    gains-zeros (λ y. any setSlots (λ s. same y (getD p s 0))) n S g c ∙ any-cong setSlots _ _ (λ s k. same-turned c (getD p s 0)))
+count-different p n g = count-cong setSlots _ _ (λ c h.
+    gains-zeros n g c ∙ any-cong setSlots _ _ (λ s k. same-turned c (getD p s 0)))

@@ -28,7 +28,7 @@ eq-same {m} {n} p = subst (λ k. same m k ≡ true) p (same-refl m)
 pub ne-same : {m n : ℕ} → m ≢ n → same m n ≡ false
 ne-same h = no-true (λ p. h (same-eq p))
 
--- in the form that a binder asks for: the variables are not the same
+-- numbers of variables that are not equal, in the form that a binder asks for
 pub apart : (m n : ℕ) → same m n ≡ false → not (same n m) ≡ true
 apart m n e = not-in (λ q. clash (eq-same (sym (same-eq q))) e)
 
@@ -97,7 +97,7 @@ all-fails (suc n) f p =
     (λ q. let r = all-fails n f (rw q at p) in (r .0, omega (arith, r .1), r .2))
     (λ q. (n, omega arith, q))
 
--- where none passes, each fails; and the other way
+-- where no number passes, each fails; and where each fails, none passes
 pub any-none : (n : ℕ) (f : ℕ → Bool) → any n f ≡ false → (t : ℕ) → t < n → f t ≡ false
 any-none n f e t h = no-true (λ p. clash (any-in n f t h p) e)
 

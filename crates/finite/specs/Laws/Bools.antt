@@ -3,7 +3,7 @@ use mathlib.Core.Path.{_≡_, refl, sym, _∙_, subst}
 use mathlib.Core.Logic.{_⊎_, inl, inr}
 use mathlib.Core.Bool.{Bool, true, false, not, _&&_, _||_, cond, Bool·beq, true≢false}
 
--- by cases, what is split first: so that its type is known when the cases are read
+-- by cases; what is split comes first, so that its type is known when the cases are read
 abbrev pub either {ℓ ℓ′ ℓ″} : {A : Type ℓ} {B : Type ℓ′} {C : Type ℓ″} → A ⊎ B → (A → C) → (B → C) → C
 either (inl a) f g = f a
 either (inr b) f g = g b
@@ -71,7 +71,7 @@ imp-and true true = refl
 imp-and true false = refl
 imp-and false b = refl
 
--- two Booleans that compare as equal, and the other way
+-- Booleans that compare as equal are equal, and equal ones compare so
 pub beq-true : (a b : Bool) → Bool·beq a b ≡ true → a ≡ b
 beq-true true true p = refl
 beq-true true false p = clash p refl

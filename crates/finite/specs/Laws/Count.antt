@@ -50,7 +50,7 @@ count-full (suc n) f h x k =
     either (equal? x n) (λ q. subst (λ y. f y ≡ true) (sym q) e) (λ q. count-full n f l x (omega arith)))
     (λ e. absurd (omega (arith, rw (e, count) at h, count-le n f)))
 
--- below a bound that is a sum
+-- how many pass below a bound that is a sum
 pub count-add : (m n : ℕ) (f : ℕ → Bool) → count (m + n) f ≡ count m f + count n (λ k. f (m + k))
 unfolding count
 count-add m zero f = rw (add-zero m) (omega arith)

@@ -20,6 +20,6 @@ any-all (suc n) f = rw (any-all n f) (go (f n) (all n (λ k. not (f k))))
 pub none-all : (n : ℕ) (f : ℕ → Bool) → not (any n f) ≡ all n (λ k. not (f k))
 none-all n f = rw (any-all n f) (Bool·not-not (all n (λ k. not (f k))))
 
--- all that pass a pass b, where none passes a and not b
+-- all numbers that pass a pass b, where none passes a and fails b
 pub all-any : (n : ℕ) (a b : ℕ → Bool) → all n (λ t. not (a t) || b t) ≡ not (any n (λ t. a t && not (b t)))
 all-any n a b = all-cong n _ _ (λ t h. imp-and (a t) (b t)) ∙ sym (none-all n (λ t. a t && not (b t)))

@@ -8,7 +8,7 @@ use Rattle.finite.specs.Tests.{any, first}
 use Rattle.finite.specs.Laws.Bools.{either, look, clash, no-true, or-out}
 use Rattle.finite.specs.Laws.Below.{equal?, any-in, any-none, none-any}
 
--- it passes, and none below it does
+-- a number that passes, with none below it that does, is the lowest
 pub first-is : (n : ℕ) (f : ℕ → Bool) (i : ℕ) → i < n → any i f ≡ false → f i ≡ true → first n f ≡ i
 unfolding first any
 first-is zero f i h e p = absurd (omega arith)
@@ -18,7 +18,7 @@ first-is (suc n) f i h e p =
     (λ q. rw (subst (λ k. any k f ≡ false) q e, subst (λ k. f k ≡ true) q p, first) (sym q))
     (λ q. rw (any-in n f i (omega arith) p, first) (first-is n f i (omega arith) e p))
 
--- where none passes it is the bound
+-- where no number passes, the lowest is the bound
 pub first-none : (n : ℕ) (f : ℕ → Bool) → any n f ≡ false → first n f ≡ n
 unfolding first any
 first-none zero f e = refl

@@ -19,7 +19,7 @@ unfolding all
 all-add m zero f = rw add-zero (sym (and-true (all m f)))
 all-add m (suc n) f = rw (add-suc, all-add m n f) (and-swap (f (m + n)) (all m f) (all n (λ k. f (m + k))))
 
--- one that fails
+-- where one number fails, not all pass
 pub all-not : (n : ℕ) (f : ℕ → Bool) (k : ℕ) → k < n → f k ≡ false → all n f ≡ false
 all-not n f k h e = no-true (λ p. clash (all-out n f p k h) e)
 

@@ -15,7 +15,7 @@ use Rattle.condition.specs.Refusal.{conditionVerdict}
 use Rattle.sheet.specs.Bytes.{editsOf}
 use Rattle.sheet.specs.Refusal.{sheetVerdict}
 use Rattle.applying.specs.Refusal.{goesVerdict}
-use Rattle.applying.specs.Laws.Left.{goes-out}
+use Rattle.applying.specs.Laws.Goes.{goes-out}
 use Rattle.rewriting.specs.Refusal.{tooLong, lengthVerdict}
 use Rattle.refusals.specs.Laws.Items.{then-out, length-out, Numbered, numbered-then, numbered-site, numbered-condition, numbered-sheet, numbered-goes, numbered-length}
 use Rattle.job_steps.specs.Steps.{changeVerdict}

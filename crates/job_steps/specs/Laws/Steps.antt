@@ -11,7 +11,7 @@ use Rattle.site.specs.Site.{siteOf}
 use Rattle.even_rule.specs.Free.{FreeRows, FreeAfter, Checked}
 use Rattle.sheet.specs.Bytes.{editsOf}
 use Rattle.applying.specs.Applies.{Applies}
-use Rattle.applying.specs.Laws.Left.{goes-out}
+use Rattle.applying.specs.Laws.Goes.{goes-out}
 use Rattle.rewriting.specs.declared.Rewriting.{Rewriting}
 use Rattle.rewriting.specs.declared.Rewriting.the-variants as answer
 use Rattle.rewriting.specs.Answer.{verdictOf, nodesOf}

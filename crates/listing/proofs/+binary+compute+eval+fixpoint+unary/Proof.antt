@@ -15,12 +15,11 @@ use Rattle.semantics.specs.Laws.Agree.{_≐_}
 use Rattle.site.specs.Site.{siteOf}
 use Rattle.condition.specs.Bytes.{nodeAt}
 use Rattle.listing_sets.specs.Laws.Nodes.{is-unary, is-binary, is-loop}
-use Rattle.listing_sets.specs.Nodes.{applied, startOf}
-use Rattle.listing_sets.specs.Places.{setAt}
+use Rattle.listing_sets.specs.Nodes.{nodeMakes, startOf}
+use Rattle.listing_sets.specs.Offsets.{setAt}
 use Rattle.listing.specs.Laws.Rounds.{Rounds, rounds-none, assigned, rounds-more, rounds-done, restored}
-use Rattle.listing.specs.Laws.Memo.{good-moved, finish, was-known, leaf-done, flagged, again, since, child}
+use Rattle.listing.specs.Laws.Memo.{flags-moved, finish, was-known, leaf-done, flagged, again, since, child}
 use Rattle.listing.specs.Laws.Kinds.{unary-left, modal-in, loop-variable}
-use Rattle.listing.specs.State.{Done}
 use Rattle.listing.proofs.binary.Reads as binary
 use Rattle.listing.proofs.binary.Kinds as binary-kinds
 use Rattle.listing.proofs.+binary+compute+eval+fixpoint+unary.Lts-binary as binary-lts
@@ -101,12 +100,15 @@ abbrev binary-calls : ℕ → binary-lts.Claims
 binary-calls t = (left-child-reads.Asked, left-child-reads.Learnt, eval-below t, eval.Post, load-reads.Asked, load-reads.Learnt, right-child-reads.Asked, right-child-reads.Learnt, put-binary-reads.Asked, put-binary-reads.Learnt)
 
 binary-left-child-requires : (t : ℕ) → binary-lts.Need-left-child-requires (binary-calls t) (binary-at t) binary.Post
-binary-left-child-requires t c κs = let p = c .before .before .before .before .before .before .pre .1 in (p .0 .fits, (p .1 .0, omega (arith, p .1 .1)))
+binary-left-child-requires t c κs =
+    let p = c .before .before .before .before .before .before .pre .1 in
+    (p .0 .fits, (p .1 .0, omega (arith, p .1 .1)))
 
 binary-eval-requires : (t : ℕ) → binary-lts.Need-eval-requires (binary-calls t) (binary-at t) binary.Post
 binary-eval-requires t c κs =
-    let the-pre = c .before .before .before .before .before .before .before .before .before .before .pre in
-    let p = c .before .before .before .before .before .before .before .before .before .before .pre .1 in (omega (arith, the-pre, c .before .before .before .left-child .ensures), (p .0, omega (arith, p .1 .0, c .before .before .before .left-child .ensures)))
+    let start = c .before .before .before .before .before .before .before .before .before .before in
+    let p = start .pre .1 in
+    (omega (arith, start .pre, c .before .before .before .left-child .ensures), (p .0, omega (arith, p .1 .0, c .before .before .before .left-child .ensures)))
 
 binary-load-requires : (t : ℕ) → binary-lts.Need-load-requires (binary-calls t) (binary-at t) binary.Post
 binary-load-requires t c κs =
@@ -115,17 +117,19 @@ binary-load-requires t c κs =
     omega (arith, the-pre, the-left-child .ensures, c .before .before .before .before .before .before .before .eval .kept)
 
 binary-right-child-requires : (t : ℕ) → binary-lts.Need-right-child-requires (binary-calls t) (binary-at t) binary.Post
-binary-right-child-requires t c κs = let p = c .before .before .before .before .before .before .before .before .before .before .before .before .before .before .before .before .before .before .before .pre .1 in (p .0 .fits, (p .1 .0, p .1 .1))
+binary-right-child-requires t c κs =
+    let p = c .before .before .before .before .before .before .before .before .before .before .before .before .before .before .before .before .before .before .before .pre .1 in
+    (p .0 .fits, (p .1 .0, p .1 .1))
 
 binary-eval-requires-2 : (t : ℕ) → binary-lts.Need-eval-requires-2 (binary-calls t) (binary-at t) binary.Post
 binary-eval-requires-2 t c κs =
-    let the-pre = c .before .before .before .before .before .before .before .before .before .before .before .before .before .before .before .before .before .before .before .before .before .before .before .pre in
-    let the-left-child = c .before .before .before .before .before .before .before .before .before .before .before .before .before .before .before .before .left-child in
+    let start = c .before .before .before .before .before .before .before .before .before .before .before .before .before .before .before .before .before .before .before .before .before .before .before in
     let the-eval = c .before .before .before .before .before .before .before .before .before .before .before .before .eval in
-    let a = c .before .before .before .before .before .before .before .before .before .before .before .before .before .before .before .before .before .before .before .before .before .before .before .args in let p = c .before .before .before .before .before .before .before .before .before .before .before .before .before .before .before .before .before .before .before .before .before .before .before .pre .1 in let e = c .before .before .before .before .before .before .before .before .before .before .before .before .eval .last .1 .1 .1 in let q = c .before .before .before .before .before .before .before .before .before .before .before .before .eval .kept .1 .1 .1 in (
-      omega (arith, the-pre, c .before .before .before .right-child .ensures),
+    let p = start .pre .1 in
+    let q = the-eval .kept .1 .1 .1 in (
+      omega (arith, start .pre, c .before .before .before .right-child .ensures),
       (
-        again (a .site .now) (a .table .now) (a .free .now) (a .env .now) (e .0) (a .fresh .now) (e .1 .0) (a .work .now) (e .1 .1 .0) (the-left-child .result) (p .0) (the-eval .ensures) (q .0) (q .1 .0) (q .1 .1 .0),
+        again (p .0) (the-eval .ensures) (q .0) (q .1 .0) (q .1 .1 .0),
         omega (arith, p .1 .0, c .before .before .before .right-child .ensures),
       ),
     )
@@ -139,10 +143,11 @@ binary-load-requires-2 t c κs =
 
 binary-put-binary-requires : (t : ℕ) → binary-lts.Need-put-binary-requires (binary-calls t) (binary-at t) binary.Post
 binary-put-binary-requires t c κs =
-    let the-pre = c .before .before .before .before .before .before .before .before .before .before .before .before .before .before .before .before .before .before .before .before .before .before .before .before .before .before .before .before .before .before .before .before .before .pre in
+    let start = c .before .before .before .before .before .before .before .before .before .before .before .before .before .before .before .before .before .before .before .before .before .before .before .before .before .before .before .before .before .before .before .before .before in
     let the-eval = c .before .before .before .before .before .before .before .before .before .before .before .before .before .before .before .before .before .before .before .before .before .before .eval in
     let the-eval2 = c .before .before .before .before .before .before .before .before .before .eval2 in
-    let p = c .before .before .before .before .before .before .before .before .before .before .before .before .before .before .before .before .before .before .before .before .before .before .before .before .before .before .before .before .before .before .before .before .before .pre .1 in (p .1 .0, (omega (arith, the-pre, the-eval .kept, the-eval2 .kept), p .1 .1))
+    let p = start .pre .1 in
+    (p .1 .0, (omega (arith, start .pre, the-eval .kept, the-eval2 .kept), p .1 .1))
 
 binary-same-length : (t : ℕ) → binary-lts.Need-same-length (binary-calls t) (binary-at t) binary.Post
 binary-same-length t c =
@@ -164,19 +169,24 @@ binary-same-length-3 t c =
 
 binary-returns : (t : ℕ) → binary-lts.Need-returns (binary-calls t) (binary-at t) binary.Post
 binary-returns t c =
+    let start = c .before .before .before .before .before .before .before .before .before .before .before .before .before .before .before .before .before .before .before .before .before .before .before .before .before .before .before .before .before .before .before .before .before .before .before .before in
     let the-load = c .before .before .before .before .before .before .before .before .before .before .before .before .before .before .before .before .before .load in
     let the-right-child = c .before .before .before .before .before .before .before .before .before .before .before .before .before .before .before .before .right-child in
     let the-left-child = c .before .before .before .before .before .before .before .before .before .before .before .before .before .before .before .before .before .before .before .before .before .before .before .before .before .before .before .before .before .left-child in
     let the-eval2 = c .before .before .before .before .before .before .before .before .before .before .before .before .eval2 in
-    let a = c .before .before .before .before .before .before .before .before .before .before .before .before .before .before .before .before .before .before .before .before .before .before .before .before .before .before .before .before .before .before .before .before .before .before .before .before .args in let p = c .before .before .before .before .before .before .before .before .before .before .before .before .before .before .before .before .before .before .before .before .before .before .before .before .before .before .before .before .before .before .before .before .before .before .before .before .pre .1 in let d₁ = c .before .before .before .before .before .before .before .before .before .before .before .before .before .before .before .before .before .before .before .before .before .before .before .before .before .eval .ensures in let e₁ = c .before .before .before .before .before .before .before .before .before .before .before .before .before .before .before .before .before .before .before .before .before .before .before .before .before .eval .last .1 .1 .1 in let e = c .before .before .before .before .before .before .before .before .before .before .before .before .eval2 .last .1 .1 .1 in
-    let S = a .table .now in let P = has (the-load .result) in let Q = has (c .before .before .before .before .load2 .result) in let M = siteOf (a .site .now) in
-    let d : Done (a .site .now) S (a .env .now) (e .0) (e .1 .0) (e .1 .1 .0) (the-right-child .result) =
-    since (a .site .now) S (a .free .now) (a .env .now) (e₁ .0) (a .fresh .now) (e₁ .1 .0) (a .work .now) (e₁ .1 .1 .0) (the-left-child .result) (p .0) d₁ (e .0) (e .1 .0) (e .1 .1 .0) (the-right-child .result) (the-eval2 .ensures) in
-    finish (a .site .now) S (a .env .now) (e .0) (e .1 .0) (e .1 .1 .0) (c .before .before .put-binary .last .1 .0) (a .i) _ (d .kept) (d .good) (c .before .before .put-binary .ensures M)
+    let d₁ = c .before .before .before .before .before .before .before .before .before .before .before .before .before .before .before .before .before .before .before .before .before .before .before .before .before .eval .ensures in
+    let a = start .args in
+    let p = start .pre .1 in
+    let S = a .table .now in
+    let P = has (the-load .result) in
+    let Q = has (c .before .before .before .before .load2 .result) in
+    let M = siteOf (a .site .now) in
+    let d = since d₁ (the-eval2 .ensures) in
+    finish {P = nodeMakes M (nodeAt S (a .i)) P Q} (d .kept) (d .flags-right) (c .before .before .put-binary .ensures M)
     (is-binary S (p .0 .fits) (a .i) (p .1 .0) M (setAt (a .env .now)) P Q
-    (child (a .site .now) S (a .env .now) (e₁ .0) (e₁ .1 .0) (e₁ .1 .1 .0) (the-left-child .result) (nodeAt S (a .i) .left) P d₁ (the-load .ensures) (the-left-child .ensures .0))
+    (child d₁ (the-load .ensures) (the-left-child .ensures .0))
     (p .1 .1 .0) (p .1 .1 .1)
-    (child (a .site .now) S (a .env .now) (e .0) (e .1 .0) (e .1 .1 .0) (the-right-child .result) (nodeAt S (a .i) .right) Q d (c .before .before .before .before .load2 .ensures) (the-right-child .ensures .0)))
+    (child d (c .before .before .before .before .load2 .ensures) (the-right-child .ensures .0)))
 
 abbrev compute-calls : ℕ → compute-lts.Claims
 compute-calls t = (kind-reads.Asked, kind-reads.Learnt, binary-below t, binary.Post, fixpoint-below t, fixpoint.Post, put-leaf-reads.Asked, put-leaf-reads.Learnt, unary-below t, unary.Post)
@@ -186,19 +196,21 @@ compute-kind-requires t c κs = c .before .before .before .before .before .befor
 
 compute-binary-requires : (t : ℕ) → compute-lts.Need-binary-requires (compute-calls t) (compute-at t) compute.Post
 compute-binary-requires t c κs =
-    let the-pre = c .before .before .before .before .before .before .before .before .before .before .before .before .before .pre in
-    let p = c .before .before .before .before .before .before .before .before .before .before .before .before .before .pre .1 in (omega (arith, the-pre), (p .0, (p .1, (omega (arith, c .before .before .before .before .before .before .kind .ensures, c .before .before .before .before .before .match .rest .1, c .before .before .before .before .if1 .left), omega (arith, c .before .before .before .before .before .before .kind .ensures, c .before .before .before .if2 .taken)))))
+    let start = c .before .before .before .before .before .before .before .before .before .before .before .before .before in
+    let p = start .pre .1 in
+    (omega (arith, start .pre), (p .0, (p .1, (omega (arith, c .before .before .before .before .before .before .kind .ensures, c .before .before .before .before .before .match .rest .1, c .before .before .before .before .if1 .left), omega (arith, c .before .before .before .before .before .before .kind .ensures, c .before .before .before .if2 .taken)))))
 
 compute-fixpoint-requires : (t : ℕ) → compute-lts.Need-fixpoint-requires (compute-calls t) (compute-at t) compute.Post
 compute-fixpoint-requires t c κs =
-    let the-pre = c .before .before .before .before .before .before .before .before .before .before .before .before .before .before .before .pre in
-    let p = c .before .before .before .before .before .before .before .before .before .before .before .before .before .before .before .pre .1 in (omega (arith, the-pre), (p .0, (p .1, (omega (arith, c .before .before .before .before .before .before .before .before .kind .ensures, c .before .before .before .before .if3 .left), omega (arith, c .before .before .before .before .before .before .before .before .kind .ensures, c .before .before .before .if4 .taken)))))
+    let start = c .before .before .before .before .before .before .before .before .before .before .before .before .before .before .before in
+    let p = start .pre .1 in
+    (omega (arith, start .pre), (p .0, (p .1, (omega (arith, c .before .before .before .before .before .before .before .before .kind .ensures, c .before .before .before .before .if3 .left), omega (arith, c .before .before .before .before .before .before .before .before .kind .ensures, c .before .before .before .if4 .taken)))))
 
 compute-put-leaf-requires : (t : ℕ) → compute-lts.Need-put-leaf-requires (compute-calls t) (compute-at t) compute.Post
 compute-put-leaf-requires t c κs =
-    let the-pre = c .before .before .before .before .before .before .before .before .before .before .before .pre in
-    let p = c .before .before .before .before .before .before .before .before .before .before .before .pre .1 in (
-      (p .0 .site-size, p .0 .env-size, omega (arith, the-pre)),
+    let start = c .before .before .before .before .before .before .before .before .before .before .before in
+    let p = start .pre .1 in (
+      (p .0 .site-size, p .0 .env-size, omega (arith, start .pre)),
       (
         p .0 .fits,
         (
@@ -211,12 +223,13 @@ compute-put-leaf-requires t c κs =
 
 compute-unary-requires : (t : ℕ) → compute-lts.Need-unary-requires (compute-calls t) (compute-at t) compute.Post
 compute-unary-requires t c κs =
-    let the-pre = c .before .before .before .before .before .before .before .before .before .before .before .pre in
-    let a = c .before .before .before .before .before .before .before .before .before .before .before .args in let p = c .before .before .before .before .before .before .before .before .before .before .before .pre .1 in
+    let start = c .before .before .before .before .before .before .before .before .before .before .before in
+    let a = start .args in
+    let p = start .pre .1 in
     let k : ℕ = nodeAt (a .table .now) (a .i) .kind in
     let q : (k ≡ notNo) ⊎ ((k ≡ diaNo) ⊎ (k ≡ boxNo)) =
     either (c .before .before .before .match .came) (λ u. inl (sym (c .before .before .before .before .kind .ensures) ∙ u .keys1)) (λ u. inr (modal-in k (omega (arith, c .before .before .before .before .kind .ensures, u .2)) (omega (arith, c .before .before .before .before .kind .ensures, u .3)))) in
-    (omega (arith, the-pre), (p .0, (p .1, q)))
+    (omega (arith, start .pre), (p .0, (p .1, q)))
 
 compute-same-length : (t : ℕ) → compute-lts.Need-same-length (compute-calls t) (compute-at t) compute.Post
 compute-same-length t c = omega (arith, c .before .before .before .before .before .before .binary .kept)
@@ -251,8 +264,7 @@ compute-same-length-8 t c = omega (arith, c .before .before .put-leaf .kept)
 compute-returns-3 : (t : ℕ) → compute-lts.Need-returns-3 (compute-calls t) (compute-at t) compute.Post
 compute-returns-3 t c =
     let the-pre = c .before .before .before .before .before .before .before .before .before .before .before .before .before .before .pre in
-    let a = c .before .before .before .before .before .before .before .before .before .before .before .before .before .before .args in
-    leaf-done (a .site .now) (a .table .now) (a .free .now) (a .env .now) (a .fresh .now) (a .work .now) (c .before .before .put-leaf .last .1 .1 .1 .0) (a .i) (the-pre .1 .0) (c .before .before .put-leaf .ensures)
+    leaf-done (the-pre .1 .0) (c .before .before .put-leaf .ensures)
 
 compute-same-length-9 : (t : ℕ) → compute-lts.Need-same-length-9 (compute-calls t) (compute-at t) compute.Post
 compute-same-length-9 t c = omega (arith, c .before .before .before .before .before .before .unary .kept)
@@ -275,7 +287,9 @@ eval-slice-read-if1 t c = omega (arith, c .before .before .before .before .befor
 
 eval-returns :
     (t : ℕ) → eval-lts.Need-returns (eval-calls t) (eval-at t) eval.Post
-eval-returns t c = let a = c .before .before .before .before .before .before .before .before .args in let p = c .before .before .before .before .before .before .before .before .pre .1 in was-known (a .site .now) (a .table .now) (a .free .now) (a .env .now) (a .fresh .now) (a .work .now) (a .i) (p .0) (p .1) (c .if1 .taken)
+eval-returns t c =
+    let p = c .before .before .before .before .before .before .before .before .pre .1 in
+    was-known (p .0) (p .1) (c .if1 .taken)
 
 eval-compute-requires :
     (t : ℕ) → eval-lts.Need-compute-requires (eval-calls t) (eval-at t) eval.Post
@@ -304,7 +318,7 @@ eval-same-length-3 t c = omega (arith, c .before .before .before .before .before
 
 eval-returns-2 :
     (t : ℕ) → eval-lts.Need-returns-2 (eval-calls t) (eval-at t) eval.Post
-eval-returns-2 t c = let a = c .before .before .before .before .before .before .before .before .before .before .before .before .before .before .before .before .before .before .args in let e = c .before .before .before .before .before .before .compute .last .1 .1 .1 in flagged (a .site .now) (a .table .now) (a .env .now) (e .0) (e .1 .0) (e .1 .1 .0) (a .i) (c .before .before .before .before .before .before .compute .ensures)
+eval-returns-2 t c = flagged (c .before .before .before .before .before .before .compute .ensures)
 
 abbrev fixpoint-calls : ℕ → fixpoint-lts.Claims
 fixpoint-calls t = (number-reads.Asked, number-reads.Learnt, left-child-reads.Asked, left-child-reads.Learnt, load-reads.Asked, load-reads.Learnt, kind-reads.Asked, kind-reads.Learnt, start-reads.Asked, start-reads.Learnt, assign-reads.Asked, assign-reads.Learnt, eval-below t, eval.Post, same-set-reads.Asked, same-set-reads.Learnt, store-reads.Asked, store-reads.Learnt)
@@ -316,10 +330,14 @@ abbrev fixpoint-μ-loop : fixpoint-lts.MeasureT-loop
 fixpoint-μ-loop site table free env₀ fresh₀ work₀ i x b n old set₀ rounds₀ moved₀ env fresh work set rounds moved = setSlots - rounds
 
 fixpoint-number-requires : (t : ℕ) → fixpoint-lts.Need-number-requires (fixpoint-calls t) (fixpoint-at t) fixpoint.Post fixpoint-Inv-loop fixpoint-μ-loop
-fixpoint-number-requires t c κs = let p = c .before .before .before .before .before .before .pre .1 in (p .0 .fits, p .1 .0)
+fixpoint-number-requires t c κs =
+    let p = c .before .before .before .before .before .before .pre .1 in
+    (p .0 .fits, p .1 .0)
 
 fixpoint-left-child-requires : (t : ℕ) → fixpoint-lts.Need-left-child-requires (fixpoint-calls t) (fixpoint-at t) fixpoint.Post fixpoint-Inv-loop fixpoint-μ-loop
-fixpoint-left-child-requires t c κs = let p = c .before .before .before .before .before .before .before .pre .1 in (p .0 .fits, (p .1 .0, omega (arith, p .1 .1)))
+fixpoint-left-child-requires t c κs =
+    let p = c .before .before .before .before .before .before .before .pre .1 in
+    (p .0 .fits, (p .1 .0, omega (arith, p .1 .1)))
 
 fixpoint-load-requires : (t : ℕ) → fixpoint-lts.Need-load-requires (fixpoint-calls t) (fixpoint-at t) fixpoint.Post fixpoint-Inv-loop fixpoint-μ-loop
 fixpoint-load-requires t c κs =
@@ -335,8 +353,9 @@ fixpoint-start-requires : (t : ℕ) → fixpoint-lts.Need-start-requires (fixpoi
 fixpoint-start-requires t c κs = tt
 
 fixpoint-loop-holds : (t : ℕ) → fixpoint-lts.Need-loop-holds (fixpoint-calls t) (fixpoint-at t) fixpoint.Post fixpoint-Inv-loop fixpoint-μ-loop
-fixpoint-loop-holds t c = let a = c .before .before .before .before .before .before .before .before .before .before .before .before .args in let p = c .before .before .before .before .before .before .before .before .before .before .before .before .pre .1 in
-    rounds-none (a .site .now) (a .table .now) (a .free .now) (a .env .now) (a .fresh .now) (a .work .now) (nodeAt (a .table .now) (a .i) .kind) (c .before .before .before .before .before .number .result) (c .before .before .before .before .left-child .result) (c .start .result) (p .0)
+fixpoint-loop-holds t c =
+    let p = c .before .before .before .before .before .before .before .before .before .before .before .before .pre .1 in
+    rounds-none (p .0)
     (subst (λ (k : ℕ). has (c .start .result) ≐ startOf k) (c .before .kind .ensures) (c .start .ensures))
 
 fixpoint-assign-requires : (t : ℕ) → fixpoint-lts.Need-assign-requires (fixpoint-calls t) (fixpoint-at t) fixpoint.Post fixpoint-Inv-loop fixpoint-μ-loop
@@ -347,14 +366,14 @@ fixpoint-assign-requires t c κs =
 
 fixpoint-eval-requires : (t : ℕ) → fixpoint-lts.Need-eval-requires (fixpoint-calls t) (fixpoint-at t) fixpoint.Post fixpoint-Inv-loop fixpoint-μ-loop
 fixpoint-eval-requires t c κs =
-    let the-pre = c .before .before .before .before .before .before .before .before .before .before .before .before .before .before .before .before .before .before .before .before .before .before .before .before .before .pre in
+    let start = c .before .before .before .before .before .before .before .before .before .before .before .before .before .before .before .before .before .before .before .before .before .before .before .before .before in
     let the-left-child = c .before .before .before .before .before .before .before .before .before .before .before .before .before .before .before .before .before .left-child in
     let the-number = c .before .before .before .before .before .before .before .before .before .before .before .before .before .before .before .before .before .before .number in
-    let a = c .before .before .before .before .before .before .before .before .before .before .before .before .before .before .before .before .before .before .before .before .before .before .before .before .before .args in let p = c .before .before .before .before .before .before .before .before .before .before .before .before .before .before .before .before .before .before .before .before .before .before .before .before .before .pre .1 in let l = c .before .before .before .before .before .before .before .before .before .before .before .before .loop in (
-      omega (arith, the-pre, the-left-child .ensures),
+    let l = c .before .before .before .before .before .before .before .before .before .before .before .before .loop in
+    let p = start .pre .1 in (
+      omega (arith, start .pre, the-left-child .ensures),
       (
-        assigned (a .site .now) (a .table .now) (a .env .now) (l .env) (l .fresh) (l .work) (nodeAt (a .table .now) (a .i) .kind) (the-number .result) (the-left-child .result) (l .set) (l .rounds) (l .moved) (l .inv)
-            (c .before .before .before .before .before .before .before .assign .last .1 .0) (c .before .before .before .before .before .before .before .assign .ensures .0) (a .free .now) (a .fresh .now) (a .work .now) (c .before .before .before .before .before .before .before .assign .last .1 .1 .0) (length (a .table .now) / 6) (p .0) (loop-variable (p .1 .1) (the-number .ensures .1)) (omega arith) (c .before .before .before .before .before .before .before .assign .kept .1 .0) (c .before .before .before .before .before .before .before .assign .ensures .1) (c .before .before .before .before .before .before .before .assign .kept .1 .1 .0),
+        assigned (l .inv) (c .before .before .before .before .before .before .before .assign .ensures .0) (p .0) (loop-variable (p .1 .1) (the-number .ensures .1)) (omega arith) (c .before .before .before .before .before .before .before .assign .kept .1 .0) (c .before .before .before .before .before .before .before .assign .ensures .1) (c .before .before .before .before .before .before .before .assign .kept .1 .1 .0),
         omega (arith, p .1 .0, the-left-child .ensures),
       ),
     )
@@ -382,14 +401,11 @@ fixpoint-loop-less t c =
 
 fixpoint-loop-again : (t : ℕ) → fixpoint-lts.Need-loop-again (fixpoint-calls t) (fixpoint-at t) fixpoint.Post fixpoint-Inv-loop fixpoint-μ-loop
 fixpoint-loop-again t c =
-    let the-number = c .before .before .before .before .before .before .before .before .before .before .before .before .before .before .before .before .before .before .before .before .before .before .before .before .before .before .before .before .number in
-    let the-left-child = c .before .before .before .before .before .before .before .before .before .before .before .before .before .before .before .before .before .before .before .before .before .before .before .before .before .before .before .left-child in
     let the-assign = c .before .before .before .before .before .before .before .before .before .before .before .before .before .before .before .before .before .assign in
     let the-if1 = c .before .before .before .before .before .before .before .before .before .before .before .before .before .before .before .before .before .before .before .before .if1 in
     let the-eval = c .before .before .before .before .before .before .before .before .before .eval in
-    let a = c .before .before .before .before .before .before .before .before .before .before .before .before .before .before .before .before .before .before .before .before .before .before .before .before .before .before .before .before .before .before .before .before .before .before .before .args in let l = c .before .before .before .before .before .before .before .before .before .before .before .before .before .before .before .before .before .before .before .before .before .before .loop in let e = c .before .before .before .before .before .before .before .before .before .eval .last .1 .1 .1 in
-    rounds-more (a .site .now) (a .table .now) (a .env .now) (l .env) (l .fresh) (l .work) (nodeAt (a .table .now) (a .i) .kind) (the-number .result) (the-left-child .result) (l .set) (l .rounds) (l .moved) (l .inv)
-    (the-assign .last .1 .0) (the-assign .ensures .0) (e .0) (e .1 .0) (e .1 .1 .0) (c .before .load2 .result) (c .same-set .result) (ltb-true (l .rounds) setSlots (the-if1 .taken)) (the-eval .ensures) (c .before .load2 .ensures) (c .same-set .ensures .0)
+    let l = c .before .before .before .before .before .before .before .before .before .before .before .before .before .before .before .before .before .before .before .before .before .before .loop in
+    rounds-more (l .inv) (the-assign .ensures .0) (ltb-true (l .rounds) setSlots (the-if1 .taken)) (the-eval .ensures) (c .before .load2 .ensures) (c .same-set .ensures .0)
     (omega (arith, l .inv .env-size, the-assign .kept, the-eval .kept)) (omega (arith, l .inv .fresh-size, the-assign .kept, the-eval .kept)) (omega (arith, l .inv .work-size, the-eval .kept))
 
 fixpoint-assign-requires-2 : (t : ℕ) → fixpoint-lts.Need-assign-requires-2 (fixpoint-calls t) (fixpoint-at t) fixpoint.Post fixpoint-Inv-loop fixpoint-μ-loop
@@ -424,18 +440,22 @@ fixpoint-same-length-3 t c =
 
 fixpoint-returns : (t : ℕ) → fixpoint-lts.Need-returns (fixpoint-calls t) (fixpoint-at t) fixpoint.Post fixpoint-Inv-loop fixpoint-μ-loop
 fixpoint-returns t c =
+    let start = c .before .before .before .before .before .before .before .before .before .before .before .before .before .before .before .before .before .before .before .before .before .before .before .before .before in
     let the-number = c .before .before .before .before .before .before .before .before .before .before .before .before .before .before .before .before .before .before .number in
     let the-left-child = c .before .before .before .before .before .before .before .before .before .before .before .before .before .before .before .before .before .left-child in
     let the-loop-test = c .before .before .before .before .before .before .before .before .before .before .before .loop-test in
     let the-load = c .before .before .before .before .before .before .before .before .before .before .before .before .before .before .before .load in
-    let a = c .before .before .before .before .before .before .before .before .before .before .before .before .before .before .before .before .before .before .before .before .before .before .before .before .before .args in let p = c .before .before .before .before .before .before .before .before .before .before .before .before .before .before .before .before .before .before .before .before .before .before .before .before .before .pre .1 in let l = c .before .before .before .before .before .before .before .before .before .before .before .before .loop in
-    let S = a .table .now in let k : ℕ = nodeAt S (a .i) .kind in let x : ℕ = the-number .result in let b : ℕ = the-left-child .result in
-    let env₁ = c .before .before .before .before .before .before .before .before .assign2 .last .1 .0 in let fresh₁ = c .before .before .before .before .before .before .before .before .assign2 .last .1 .1 .0 in
+    let l = c .before .before .before .before .before .before .before .before .before .before .before .before .loop in
+    let a = start .args in
+    let p = start .pre .1 in
+    let S = a .table .now in
+    let x : ℕ = the-number .result in
+    let b : ℕ = the-left-child .result in
     let out : (l .moved ≡ false) ⊎ (setSlots ≤ l .rounds) = ⊎-elim (λ u. inr (ltb-false (l .rounds) setSlots (u .1 .left))) (λ u. inl (u .left)) (the-loop-test .came) in
-    let kept = restored (a .site .now) S (a .env .now) (l .env) (l .fresh) (l .work) k x b (l .set) (l .rounds) (l .moved) (l .inv) env₁ (the-load .result) (c .before .before .before .before .before .before .before .before .assign2 .ensures .0) (the-load .ensures) in
-    let value = rounds-done (a .site .now) S (a .env .now) (l .env) (l .fresh) (l .work) k x b (l .set) (l .rounds) (l .moved) (l .inv) out in
-    finish (a .site .now) S (a .env .now) env₁ fresh₁ (l .work) (c .before .before .store .last .0) (a .i) _ kept
-    (good-moved (a .site .now) S (a .free .now) (l .env) env₁ (l .fresh) fresh₁ (l .work) (length S / 6) x (has (the-load .result)) (p .0 .rows) (loop-variable (p .1 .1) (the-number .ensures .1)) (omega arith) (l .inv .good) (c .before .before .before .before .before .before .before .before .assign2 .ensures .0) (c .before .before .before .before .before .before .before .before .assign2 .ensures .1))
+    let kept = restored (l .inv) (c .before .before .before .before .before .before .before .before .assign2 .ensures .0) (the-load .ensures) in
+    let value = rounds-done (l .inv) out in
+    finish kept
+    (flags-moved (p .0 .rows) (loop-variable (p .1 .1) (the-number .ensures .1)) (omega arith) (l .inv .flags-right) (c .before .before .before .before .before .before .before .before .assign2 .ensures .0) (c .before .before .before .before .before .before .before .before .assign2 .ensures .1))
     (c .before .before .store .ensures)
     (λ s h. value s h ∙ sym (is-loop S (p .0 .fits) (a .i) (p .1 .0) (siteOf (a .site .now)) (setAt (a .env .now)) x b (the-number .ensures .0) (the-left-child .ensures .0) (p .1 .1 .0) (p .1 .1 .1) s h))
 
@@ -443,12 +463,15 @@ abbrev unary-calls : ℕ → unary-lts.Claims
 unary-calls t = (left-child-reads.Asked, left-child-reads.Learnt, eval-below t, eval.Post, load-reads.Asked, load-reads.Learnt, put-unary-reads.Asked, put-unary-reads.Learnt)
 
 unary-left-child-requires : (t : ℕ) → unary-lts.Need-left-child-requires (unary-calls t) (unary-at t) unary.Post
-unary-left-child-requires t c κs = let p = c .before .before .before .before .before .before .pre .1 in (p .0 .fits, (p .1 .0, unary-left _ (p .1 .1)))
+unary-left-child-requires t c κs =
+    let p = c .before .before .before .before .before .before .pre .1 in
+    (p .0 .fits, (p .1 .0, unary-left _ (p .1 .1)))
 
 unary-eval-requires : (t : ℕ) → unary-lts.Need-eval-requires (unary-calls t) (unary-at t) unary.Post
 unary-eval-requires t c κs =
-    let the-pre = c .before .before .before .before .before .before .before .before .before .before .pre in
-    let p = c .before .before .before .before .before .before .before .before .before .before .pre .1 in (omega (arith, the-pre, c .before .before .before .left-child .ensures), (p .0, omega (arith, p .1 .0, c .before .before .before .left-child .ensures)))
+    let start = c .before .before .before .before .before .before .before .before .before .before in
+    let p = start .pre .1 in
+    (omega (arith, start .pre, c .before .before .before .left-child .ensures), (p .0, omega (arith, p .1 .0, c .before .before .before .left-child .ensures)))
 
 unary-load-requires : (t : ℕ) → unary-lts.Need-load-requires (unary-calls t) (unary-at t) unary.Post
 unary-load-requires t c κs =
@@ -458,9 +481,10 @@ unary-load-requires t c κs =
 
 unary-put-unary-requires : (t : ℕ) → unary-lts.Need-put-unary-requires (unary-calls t) (unary-at t) unary.Post
 unary-put-unary-requires t c κs =
-    let the-pre = c .before .before .before .before .before .before .before .before .before .before .before .before .before .before .before .before .before .before .before .before .pre in
+    let start = c .before .before .before .before .before .before .before .before .before .before .before .before .before .before .before .before .before .before .before .before in
     let the-eval = c .before .before .before .before .before .before .before .before .before .eval in
-    let p = c .before .before .before .before .before .before .before .before .before .before .before .before .before .before .before .before .before .before .before .before .pre .1 in (p .0 .site-size, (p .1 .0, (omega (arith, the-pre, the-eval .kept), p .1 .1)))
+    let p = start .pre .1 in
+    (p .0 .site-size, (p .1 .0, (omega (arith, start .pre, the-eval .kept), p .1 .1)))
 
 unary-same-length : (t : ℕ) → unary-lts.Need-same-length (unary-calls t) (unary-at t) unary.Post
 unary-same-length t c =
@@ -479,12 +503,17 @@ unary-same-length-3 t c =
 
 unary-returns : (t : ℕ) → unary-lts.Need-returns (unary-calls t) (unary-at t) unary.Post
 unary-returns t c =
+    let start = c .before .before .before .before .before .before .before .before .before .before .before .before .before .before .before .before .before .before .before .before .before .before .before in
     let the-left-child = c .before .before .before .before .before .before .before .before .before .before .before .before .before .before .before .before .left-child in
-    let a = c .before .before .before .before .before .before .before .before .before .before .before .before .before .before .before .before .before .before .before .before .before .before .before .args in let p = c .before .before .before .before .before .before .before .before .before .before .before .before .before .before .before .before .before .before .before .before .before .before .before .pre .1 in let d = c .before .before .before .before .before .before .before .before .before .before .before .before .eval .ensures in let e = c .before .before .before .before .before .before .before .before .before .before .before .before .eval .last .1 .1 .1 in
-    let S = a .table .now in let P = has (c .before .before .before .before .load .result) in
-    finish (a .site .now) S (a .env .now) (e .0) (e .1 .0) (e .1 .1 .0) (c .before .before .put-unary .last .1 .1 .0) (a .i) (applied (siteOf (a .site .now)) (nodeAt S (a .i)) P P) (d .kept) (d .good) (c .before .before .put-unary .ensures)
-    (is-unary S (p .0 .fits) (a .i) (p .1 .0) (siteOf (a .site .now)) (setAt (a .env .now)) P P
-    (child (a .site .now) S (a .env .now) (e .0) (e .1 .0) (e .1 .1 .0) (the-left-child .result) (nodeAt S (a .i) .left) P d (c .before .before .before .before .load .ensures) (the-left-child .ensures .0)) (p .1 .1))
+    let d = c .before .before .before .before .before .before .before .before .before .before .before .before .eval .ensures in
+    let a = start .args in
+    let p = start .pre .1 in
+    let S = a .table .now in
+    let M = siteOf (a .site .now) in
+    let P = has (c .before .before .before .before .load .result) in
+    finish {P = nodeMakes M (nodeAt S (a .i)) P P} (d .kept) (d .flags-right) (c .before .before .put-unary .ensures)
+    (is-unary S (p .0 .fits) (a .i) (p .1 .0) M (setAt (a .env .now)) P P
+    (child d (c .before .before .before .before .load .ensures) (the-left-child .ensures .0)) (p .1 .1))
 
 pub +binary+compute+eval+fixpoint+unary-spec : {M : Type 1} → statement M
 +binary+compute+eval+fixpoint+unary-spec =

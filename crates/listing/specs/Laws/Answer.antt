@@ -14,7 +14,7 @@ use Rattle.limits.specs.Limits.{slots, variables, tableNodes}
 use Rattle.semantics.specs.Form.{Form, occ, free, closed}
 use Rattle.semantics.specs.Holds.{Env, Model, Holds}
 use Rattle.semantics.specs.Table.{kTrue, kHere, kLabel, kName, kVar, kSlot, kNot, kDia, kBox, kMu, kNu, kOr, kAnd, Kind, leaf, unary, binary, Node, atom, one, two, build, treeAt, formOf, leafFits, kindFits, nodesFit}
-use Rattle.semantics.specs.Laws.TreeAt.{Parts, tree-ind}
+use Rattle.semantics.specs.Laws.TreeAt.{Subtrees, tree-ind}
 use Rattle.semantics.specs.Laws.Eval.{eval, eval-table}
 use Rattle.semantics.specs.Laws.Agree.{_≐_, eval-agree}
 use Rattle.site.specs.Layout.{siteBytes}
@@ -23,19 +23,19 @@ use Rattle.condition.specs.Bytes.{tableOf}
 use Rattle.condition.specs.Laws.Bytes.{length-table}
 use Rattle.condition.specs.Laws.Verdict.{Sound}
 use Rattle.even_rule.specs.Free.{FreeRows}
-use Rattle.listing_sets.specs.Places.{envBytes, setAt, Written}
+use Rattle.listing_sets.specs.Offsets.{envBytes, setAt, SetWritten}
 use Rattle.listing.specs.Listed.{workBytes}
-use Rattle.listing.specs.State.{Good, Ready, Done}
+use Rattle.listing.specs.State.{Evaluable, Done}
 
 -- each variable of a table's trees is one of the sixteen
 Known : Form → Type 0
 Known φ = (b : Bool) (v : ℕ) → occ b v φ ≡ true → v < variables
 
 known : (xs : List Node) → nodesFit 0 xs ≡ true → (i : ℕ) → i < length xs → Known (treeAt xs i)
-unfolding Known occ build atom one two Parts kindFits leafFits
-known xs f = tree-ind Known xs f (λ i x k φ ψ _ _ _ fit _ parts. go i x k φ ψ fit parts)
+unfolding Known occ build atom one two Subtrees kindFits leafFits
+known xs f = tree-ind Known xs f (λ i x k φ ψ _ _ _ fit _ subtrees. go i x k φ ψ fit subtrees)
   where
-    go : (i : ℕ) (x : Node) (k : Kind) (φ ψ : Form) → kindFits i x k ≡ true → Parts Known k φ ψ → Known (build k (x .param) φ ψ)
+    go : (i : ℕ) (x : Node) (k : Kind) (φ ψ : Form) → kindFits i x k ≡ true → Subtrees Known k φ ψ → Known (build k (x .param) φ ψ)
     go i x (leaf kTrue) φ ψ fit q b v o = clash o refl
     go i x (leaf kHere) φ ψ fit q b v o = clash o refl
     go i x (leaf kLabel) φ ψ fit q b v o = clash o refl
@@ -58,8 +58,7 @@ closed-eval φ k c M ρ σ =
 
 -- at the start no flag is set
 pub none-known : (site S rows work : List ℕ) → length site ≡ siteBytes → Sound S → FreeRows S rows → length rows ≡ tableNodes → length work ≡ workBytes
-    → Ready site S rows (replicate envBytes 0) (replicate tableNodes 0) work
-unfolding Good
+    → Evaluable site S rows (replicate envBytes 0) (replicate tableNodes 0) work
 none-known site S rows work hs sound f hr hw =
     record {
       site-size = hs;
@@ -70,13 +69,15 @@ none-known site S rows work hs sound f hr hw =
       env-size = length-replicate {A = ℕ} envBytes 0;
       fresh-size = length-replicate {A = ℕ} tableNodes 0;
       work-size = hw;
-      good = λ j h e.
-          let z : _≡_ {A = ℕ} 1 0 = sym e ∙ getD-replicate {A = ℕ} tableNodes j 0 0 (omega (arith, sound .few)) in
-          absurd (omega arith);
+      flags-right = record {
+        node = λ j h e.
+            let z : _≡_ {A = ℕ} 1 0 = sym e ∙ getD-replicate {A = ℕ} tableNodes j 0 0 (omega (arith, sound .few)) in
+            absurd (omega arith);
+      };
     }
 
 -- the set that a buffer of one set holds
-pub whole : (b b′ found : List ℕ) → Written b b′ 0 (has found) → has b′ ≐ has found
+pub whole : (b b′ found : List ℕ) → SetWritten b b′ 0 (has found) → has b′ ≐ has found
 unfolding setAt
 whole b b′ found w s h = ap (has b′) (let q : s ≡ setSlots * 0 + s = omega arith in q) ∙ w .here s h
 

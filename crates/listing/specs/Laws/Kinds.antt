@@ -17,6 +17,6 @@ unary-left k q = either q (λ e. omega arith) (λ r. either r (λ e. omega arith
 pub modal-in : (k : ℕ) → diaNo ≤ k → k < muNo → (k ≡ diaNo) ⊎ (k ≡ boxNo)
 modal-in k h l = either (equal? k diaNo) inl (λ n. inr (omega arith))
 
--- the variable of a loop is one
+-- the number of a loop's variable is below the limit
 pub loop-variable : {k x : ℕ} → (muNo ≤ k) × (k ≤ nuNo) → x < paramLimit (kindOf k) → x < variables
 loop-variable {k} h l = rw (limit-loop k (h .0) (h .1)) at l

@@ -18,100 +18,103 @@ use Rattle.site.specs.Site.{siteOf}
 use Rattle.condition.specs.Bytes.{tableOf}
 use Rattle.condition.specs.Laws.Bytes.{length-table}
 use Rattle.even_rule.specs.Free.{FreeRows}
-use Rattle.listing_sets.specs.Places.{setAt, Written, Cleared}
-use Rattle.listing.specs.State.{nodeSet, Good, Ready, Done}
+use Rattle.listing_sets.specs.Offsets.{setAt, SetWritten, Cleared}
+use Rattle.listing.specs.State.{nodeSet, FlagsRight, Evaluable, Done}
 
--- the same slots for every variable, the same slots for every node
+-- where every variable has the same slots in two environments, so has every node
 pub env-same : (site S env env′ : List ℕ) → ((v : ℕ) → setAt env′ v ≐ setAt env v) → (j : ℕ) → nodeSet site S (setAt env′) j ≐ nodeSet site S (setAt env) j
 env-same site S env env′ e j = eval-agree (siteOf site) (treeAt (tableOf S) j) (setAt env′) (setAt env) (λ v _. e v)
 
 -- the variable x has moved: a flag that is still set is that of a node in which x is not free
-pub good-moved : (site S rows env env′ fresh fresh′ work : List ℕ) (n x : ℕ) (P : Set) → FreeRows S rows → x < variables → length S < 6 * n + 6
-    → Good site S env fresh work → Written env env′ x P → Cleared rows fresh fresh′ n x → Good site S env′ fresh′ work
-unfolding Good
-good-moved site S rows env env′ fresh fresh′ work n x P f hx hn g w c j h e =
-    let was = c .node j (omega arith) in
-    let len = length-table S in
-    either
-    (look (bit (getD rows j 0) x))
-    (λ b. let z : _≡_ {A = ℕ} 1 0 = sym e ∙ was ∙ rw b refl in absurd (omega arith))
-    (λ b.
-    let bound : free x (treeAt (tableOf S) j) ≡ false = sym (f .node j x (omega arith) hx) ∙ b in
-    let old : getD fresh j 0 ≡ 1 = sym (was ∙ rw b refl) ∙ e in
-    λ s k.
-    g j h old s k
-    ∙ eval-agree (siteOf site) (treeAt (tableOf S) j) (setAt env) (setAt env′)
-    (λ v o t l. sym (w .others v (λ q. clash (subst (λ (u : ℕ). free u (treeAt (tableOf S) j) ≡ true) q o) bound) t l)) s k)
+pub flags-moved : {site S rows env env′ fresh fresh′ work : List ℕ} {n x : ℕ} {P : Set} → FreeRows S rows → x < variables → length S < 6 * n + 6
+    → FlagsRight site S env fresh work → SetWritten env env′ x P → Cleared rows fresh fresh′ n x → FlagsRight site S env′ fresh′ work
+flags-moved {site} {S} {rows} {env} {env′} {fresh} {x = x} f hx hn g w c = record {
+  node = λ j h e.
+      let was = c .node j (omega arith) in
+      let len = length-table S in
+      either
+      (look (bit (getD rows j 0) x))
+      (λ b. let z : _≡_ {A = ℕ} 1 0 = sym e ∙ was ∙ rw b refl in absurd (omega arith))
+      (λ b.
+      let bound : free x (treeAt (tableOf S) j) ≡ false = sym (f .node j x (omega arith) hx) ∙ b in
+      let old : getD fresh j 0 ≡ 1 = sym (was ∙ rw b refl) ∙ e in
+      λ s k.
+      g .node j h old s k
+      ∙ eval-agree (siteOf site) (treeAt (tableOf S) j) (setAt env) (setAt env′)
+      (λ v o t l. sym (w .others v (λ q. clash (subst (λ (u : ℕ). free u (treeAt (tableOf S) j) ≡ true) q o) bound) t l)) s k);
+}
 
--- node i's set is written, which changes no other place
-pub finish : (site S env env′ fresh work work′ : List ℕ) (i : ℕ) (P : Set) → ((v : ℕ) → setAt env′ v ≐ setAt env v)
-    → Good site S env′ fresh work → Written work work′ i P → P ≐ nodeSet site S (setAt env) i → Done site S env env′ fresh work′ i
-unfolding Good
-finish site S env env′ fresh work work′ i P kept g w e =
+-- node i's set is written, which changes no other set
+pub finish : {site S env env′ fresh work work′ : List ℕ} {i : ℕ} {P : Set} → ((v : ℕ) → setAt env′ v ≐ setAt env v)
+    → FlagsRight site S env′ fresh work → SetWritten work work′ i P → P ≐ nodeSet site S (setAt env) i → Done site S env env′ fresh work′ i
+finish {site} {S} {env} {env′} {work′ = work′} {i} kept g w e =
     record {
       kept = kept;
-      good = λ j h f.
-          either
-          (equal? j i)
-          (λ q. subst (λ (k : ℕ). setAt work′ k ≐ nodeSet site S (setAt env′) k) (sym q)
-          (λ s k. w .here s k ∙ e s k ∙ sym (env-same site S env env′ kept i s k)))
-          (λ q s k. w .others j q s k ∙ g j h f s k);
+      flags-right = record {
+        node = λ j h f.
+            either
+            (equal? j i)
+            (λ q. subst (λ (k : ℕ). setAt work′ k ≐ nodeSet site S (setAt env′) k) (sym q)
+            (λ s k. w .here s k ∙ e s k ∙ sym (env-same site S env env′ kept i s k)))
+            (λ q s k. w .others j q s k ∙ g .node j h f s k);
+      };
       here = λ s k. w .here s k ∙ e s k;
     }
 
--- the node's set stands there
-pub was-known : (site S rows env fresh work : List ℕ) (i : ℕ) → Ready site S rows env fresh work → 6 * i + 6 ≤ length S
+-- a node whose flag is set: its set is there already
+pub was-known : {site S rows env fresh work : List ℕ} {i : ℕ} → Evaluable site S rows env fresh work → 6 * i + 6 ≤ length S
     → getD fresh i 0 ≡ 1 → Done site S env env fresh work i
-unfolding Good
-was-known site S rows env fresh work i r h e = record { kept = λ v s k. refl; good = r .good; here = r .good i h e }
+was-known {i = i} r h e = record { kept = λ v s k. refl; flags-right = r .flags-right; here = r .flags-right .node i h e }
 
 -- a leaf's set is written
-pub leaf-done : (site S rows env fresh work work′ : List ℕ) (i : ℕ) → Ready site S rows env fresh work
-    → Written work work′ i (nodeSet site S (setAt env) i) → Done site S env env fresh work′ i
-leaf-done site S rows env fresh work work′ i r w =
-    finish site S env env fresh work work′ i (nodeSet site S (setAt env) i) (λ v s k. refl) (r .good) w (λ s k. refl)
+pub leaf-done : {site S rows env fresh work work′ : List ℕ} {i : ℕ} → Evaluable site S rows env fresh work
+    → SetWritten work work′ i (nodeSet site S (setAt env) i) → Done site S env env fresh work′ i
+leaf-done r w = finish (λ v s k. refl) (r .flags-right) w (λ s k. refl)
 
--- and its flag is set
-pub flagged : (site S env env′ fresh work : List ℕ) (i : ℕ) → Done site S env env′ fresh work i → Done site S env env′ (set fresh i 1) work i
-unfolding Good
-flagged site S env env′ fresh work i d =
+-- the flag of node i is set, once its set is written
+pub flagged : {site S env env′ fresh work : List ℕ} {i : ℕ} → Done site S env env′ fresh work i → Done site S env env′ (set fresh i 1) work i
+flagged {site} {S} {env} {env′} {fresh} {work} {i} d =
     record {
       kept = d .kept;
-      good = λ j h f.
-          either
-          (equal? j i)
-          (λ q. subst (λ (k : ℕ). setAt work k ≐ nodeSet site S (setAt env′) k) (sym q)
-          (λ s k. d .here s k ∙ sym (env-same site S env env′ (d .kept) i s k)))
-          (λ q. d .good j h (sym (getD-set-other fresh i j 1 0 q) ∙ f));
+      flags-right = record {
+        node = λ j h f.
+            either
+            (equal? j i)
+            (λ q. subst (λ (k : ℕ). setAt work k ≐ nodeSet site S (setAt env′) k) (sym q)
+            (λ s k. d .here s k ∙ sym (env-same site S env env′ (d .kept) i s k)))
+            (λ q. d .flags-right .node j h (sym (getD-set-other fresh i j 1 0 q) ∙ f));
+      };
       here = d .here;
     }
 
--- what a call leaves is what the next one asks, and what that leaves is left since the first
-module _ (site S rows env env₁ fresh fresh₁ work work₁ : List ℕ) (i : ℕ) (r : Ready site S rows env fresh work) (d : Done site S env env₁ fresh₁ work₁ i) where
-  pub again : length env₁ ≡ length env → length fresh₁ ≡ length fresh → length work₁ ≡ length work → Ready site S rows env₁ fresh₁ work₁
-  again he hf hw =
-      record {
-        site-size = r .site-size;
-        few = r .few;
-        fits = r .fits;
-        rows = r .rows;
-        free-size = r .free-size;
-        env-size = he ∙ r .env-size;
-        fresh-size = hf ∙ r .fresh-size;
-        work-size = hw ∙ r .work-size;
-        good = d .good;
-      }
+-- what a call leaves is what the next call asks
+pub again : {site S rows env env₁ fresh fresh₁ work work₁ : List ℕ} {i : ℕ} → Evaluable site S rows env fresh work → Done site S env env₁ fresh₁ work₁ i
+    → length env₁ ≡ length env → length fresh₁ ≡ length fresh → length work₁ ≡ length work → Evaluable site S rows env₁ fresh₁ work₁
+again r d he hf hw =
+    record {
+      site-size = r .site-size;
+      few = r .few;
+      fits = r .fits;
+      rows = r .rows;
+      free-size = r .free-size;
+      env-size = he ∙ r .env-size;
+      fresh-size = hf ∙ r .fresh-size;
+      work-size = hw ∙ r .work-size;
+      flags-right = d .flags-right;
+    }
 
-  pub since : (env₂ fresh₂ work₂ : List ℕ) (j : ℕ) → Done site S env₁ env₂ fresh₂ work₂ j → Done site S env env₂ fresh₂ work₂ j
-  since env₂ fresh₂ work₂ j d₂ =
-      record {
-        kept = λ v s k. d₂ .kept v s k ∙ d .kept v s k;
-        good = d₂ .good;
-        here = λ s k. d₂ .here s k ∙ env-same site S env env₁ (d .kept) j s k;
-      }
+-- what the second of two calls leaves holds from the first call on
+pub since : {site S env env₁ env₂ fresh₁ fresh₂ work₁ work₂ : List ℕ} {i j : ℕ} → Done site S env env₁ fresh₁ work₁ i
+    → Done site S env₁ env₂ fresh₂ work₂ j → Done site S env env₂ fresh₂ work₂ j
+since {site} {S} {env} {env₁} {j = j} d d₂ =
+    record {
+      kept = λ v s k. d₂ .kept v s k ∙ d .kept v s k;
+      flags-right = d₂ .flags-right;
+      here = λ s k. d₂ .here s k ∙ env-same site S env env₁ (d .kept) j s k;
+    }
 
--- the set P that was taken out of a child's place is the child's
-pub child : (site S env env₁ fresh₁ work₁ : List ℕ) (l j : ℕ) (P : Set) → Done site S env env₁ fresh₁ work₁ l → P ≐ setAt work₁ l → l ≡ j
+-- the set P that was read from the work buffer after a child's call is the child's set
+pub child : {site S env env₁ fresh₁ work₁ : List ℕ} {l j : ℕ} {P : Set} → Done site S env env₁ fresh₁ work₁ l → P ≐ setAt work₁ l → l ≡ j
     → P ≐ nodeSet site S (setAt env) j
-child site S env env₁ fresh₁ work₁ l j P d e q =
+child {site} {S} {env} {P = P} d e q =
     subst (λ (k : ℕ). P ≐ nodeSet site S (setAt env) k) q (λ s h. e s h ∙ d .here s h)

@@ -18,9 +18,9 @@ use Rattle.semantics.specs.Block.{rewriteSheet}
 use Rattle.semantics.specs.Laws.Demands.{rewritten-holds}
 use Rattle.listing.specs.Listed.{Listed}
 
--- two sets of bytes
+-- two sets A and B, as bytes
 module _ {A B : List ℕ} (ha : (k : ℕ) → getD A k 0 < 256) (hb : (k : ℕ) → getD B k 0 < 256) {m n : ℕ} where
-  -- of conditions that hold at the same slots
+  -- the sets of conditions that hold at the same slots are the same bytes
   pub same-listed : {M N : Model} {φ ψ : Form} → Listed M φ A m → Listed N ψ B n
       → ((ρ : Env) (s : ℕ) → s < slots → Holds M ρ φ s ↔ Holds N ρ ψ s) → (A ≡ B) × (m ≡ n)
   unfolding slots
@@ -33,7 +33,7 @@ module _ {A B : List ℕ} (ha : (k : ℕ) → getD A k 0 < 256) (hb : (k : ℕ) 
       in
       (e, p .counted ∙ ap (λ (S : List ℕ). count slots (has S)) e ∙ sym (q .counted))
 
-  -- of a table rewritten through a sheet, on the site before, and of the table itself on the site after
+  -- the set of a table rewritten through a sheet, on the site before, and that of the table itself on the site after, are the same bytes
   pub same-lists : (es : List Edit) → sheetLegal es ≡ true → (M : Model) → Valid M → sheetGoes es M ≡ true
       → (xs : List Node) → nodesFit 0 xs ≡ true → 0 < length xs
       → Listed M (formOf (rewriteSheet es xs)) A m → Listed (sheet es M) (formOf xs) B n → (A ≡ B) × (m ≡ n)

@@ -4,7 +4,7 @@ use mathlib.Core.Path.{_∙_, ap}
 use native.Mathlib.Omega.{arith}
 use borrow.Author.Needs.{needs}
 use Rattle.limits.specs.Limits.{slots}
-use Rattle.listing_sets.specs.Laws.Places.{part-set, written}
+use Rattle.listing_sets.specs.Laws.Offsets.{part-set, set-written}
 use Rattle.listing_sets.proofs.invert.Statement.{statement}
 use Rattle.listing_sets.proofs.invert.Tie as tie
 
@@ -32,7 +32,7 @@ same-length c = search needs
 returns : tie.Need-returns
 unfolding slots
 returns c = let a = c .before .before .before .before .before .args in
-    written (a .buf .now) (a .j) (omega arith) (c .before .before .complement .last .0) (c .before .before .complement .kept .0) _ (λ s h. c .before .before .complement .ensures s h ∙ ap not (part-set (a .buf .now) (a .j) s h))
+    set-written (a .buf .now) (a .j) (omega arith) (c .before .before .complement .last .0) (c .before .before .complement .kept .0) _ (λ s h. c .before .before .complement .ensures s h ∙ ap not (part-set (a .buf .now) (a .j) s h))
 
 pub invert-spec : {M : Type 1} → statement M
 invert-spec =

@@ -10,7 +10,7 @@ use Rattle.site.specs.Site.{siteOf}
 use Rattle.condition.specs.Laws.Limits.{limit-label, limit-name, limit-variable}
 use Rattle.condition.specs.Bytes.{nodeAt}
 use Rattle.listing_sets.specs.Laws.Nodes.{here-set, label-set, is-true, is-here, is-label, is-name, is-variable, is-slot}
-use Rattle.listing_sets.specs.Places.{setAt}
+use Rattle.listing_sets.specs.Offsets.{setAt}
 use Rattle.listing_sets.proofs.leaf_set.Statement.{statement}
 use Rattle.listing_sets.proofs.leaf_set.Tie as tie
 

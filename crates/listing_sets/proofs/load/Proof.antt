@@ -1,9 +1,9 @@
--- The part at place j, copied.
+-- The part of set j, copied.
 use mathlib.Core.Path.{_∙_}
 use native.Mathlib.Omega.{arith}
 use borrow.Author.Needs.{needs}
 use Rattle.limits.specs.Limits.{slots}
-use Rattle.listing_sets.specs.Laws.Places.{part-set}
+use Rattle.listing_sets.specs.Laws.Offsets.{part-set}
 use Rattle.listing_sets.proofs.load.Statement.{statement}
 use Rattle.listing_sets.proofs.load.Tie as tie
 

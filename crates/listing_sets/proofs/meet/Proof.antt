@@ -5,7 +5,7 @@ use native.Mathlib.Omega.{arith}
 use borrow.Author.Needs.{needs}
 use Rattle.bitset.specs.Set.{has}
 use Rattle.limits.specs.Limits.{slots}
-use Rattle.listing_sets.specs.Laws.Places.{part-set, written}
+use Rattle.listing_sets.specs.Laws.Offsets.{part-set, set-written}
 use Rattle.listing_sets.proofs.meet.Statement.{statement}
 use Rattle.listing_sets.proofs.meet.Tie as tie
 
@@ -36,7 +36,7 @@ same-length c = search needs
 returns : tie.Need-returns
 unfolding slots
 returns c = let a = c .before .before .before .before .before .before .args in
-    written (a .buf .now) (a .j) (omega arith) (c .before .before .meet-with .last .0) (c .before .before .meet-with .kept .0) _ (λ s h. c .before .before .meet-with .ensures s h ∙ ap (λ (x : Bool). x && has (a .t3) s) (part-set (a .buf .now) (a .j) s h))
+    set-written (a .buf .now) (a .j) (omega arith) (c .before .before .meet-with .last .0) (c .before .before .meet-with .kept .0) _ (λ s h. c .before .before .meet-with .ensures s h ∙ ap (λ (x : Bool). x && has (a .t3) s) (part-set (a .buf .now) (a .j) s h))
 
 pub meet-spec : {M : Type 1} → statement M
 meet-spec =

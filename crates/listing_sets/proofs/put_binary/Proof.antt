@@ -22,7 +22,9 @@ same-length : tie.Need-same-length
 same-length c = search needs
 
 returns : tie.Need-returns
-returns c = λ M. let a = c .before .before .before .before .before .before .before .before .before .before .before .before .args in
+returns c =
+    let start = c .before .before .before .before .before .before .before .before .before .before .before .before in
+    λ M. let a = start .args in
     record {
       here = λ s h. c .before .before .unite .ensures .here s h ∙ ap (λ (b : Bool). b || has (a .right) s) (c .before .before .before .before .before .before .before .before .store .ensures .here s h)
           ∙ sym (makes-or M (nodeAt (a .table .now) (a .i)) (has (a .left)) (has (a .right)) s (omega arith));
@@ -36,7 +38,9 @@ same-length-2 : tie.Need-same-length-2
 same-length-2 c = search needs
 
 returns-2 : tie.Need-returns-2
-returns-2 c = λ M. let a = c .before .before .before .before .before .before .before .before .before .before .before .before .args in
+returns-2 c =
+    let start = c .before .before .before .before .before .before .before .before .before .before .before .before in
+    λ M. let a = start .args in
     record {
       here = λ s h. c .before .before .meet .ensures .here s h ∙ ap (λ (b : Bool). b && has (a .right) s) (c .before .before .before .before .before .before .before .before .store .ensures .here s h)
           ∙ sym (makes-and M (nodeAt (a .table .now) (a .i)) (has (a .left)) (has (a .right)) s (omega arith));

@@ -13,7 +13,7 @@ use Rattle.limits.specs.Limits.{slots, boxNo}
 use Rattle.site.specs.Site.{siteOf}
 use Rattle.condition.specs.Bytes.{nodeAt}
 use Rattle.listing_sets.specs.Laws.Nodes.{makes-not, makes-diamond, makes-box}
-use Rattle.listing_sets.specs.Laws.Places.{slot-in}
+use Rattle.listing_sets.specs.Laws.Offsets.{slot-in}
 use Rattle.listing_sets.proofs.put_unary.Statement.{statement}
 use Rattle.listing_sets.proofs.put_unary.Tie as tie
 
@@ -30,7 +30,8 @@ same-length : tie.Need-same-length
 same-length c = search needs
 
 returns : tie.Need-returns
-returns c = let a = c .before .before .before .before .before .before .before .before .before .before .before .before .before .args in
+returns c =
+    let a = c .before .before .before .before .before .before .before .before .before .before .before .before .before .args in
     record {
       here = λ s h. c .before .before .invert .ensures .here s h ∙ ap not (c .before .before .before .before .before .before .store .ensures .here s h)
           ∙ sym (makes-not (siteOf (a .site .now)) (nodeAt (a .table .now) (a .i)) (has (a .set)) (has (a .set)) s (omega arith));
@@ -50,7 +51,9 @@ same-length-2 : tie.Need-same-length-2
 same-length-2 c = search needs
 
 returns-2 : tie.Need-returns-2
-returns-2 c = let a = c .before .before .before .before .before .before .before .before .before .before .before .before .args in let M = siteOf (a .site .now) in
+returns-2 c =
+    let a = c .before .before .before .before .before .before .before .before .before .before .before .before .args in
+    let M = siteOf (a .site .now) in
     record {
       here = λ s h. c .before .before .store2 .ensures .here s h ∙ c .before .before .before .before .diamond .ensures s (slot-in h)
           ∙ ap (λ (w : ℕ). any slots (λ t. step M (wayOf w) s t && has (a .set) t)) (c .before .before .before .before .before .before .param .ensures)
@@ -70,7 +73,8 @@ same-length-3 c = search needs
 returns-3 : tie.Need-returns-3
 returns-3 c =
     let the-pre = c .before .before .before .before .before .before .before .before .before .before .before .before .pre in
-    let a = c .before .before .before .before .before .before .before .before .before .before .before .before .args in let M = siteOf (a .site .now) in
+    let a = c .before .before .before .before .before .before .before .before .before .before .before .before .args in
+    let M = siteOf (a .site .now) in
     let e : nodeAt (a .table .now) (a .i) .kind ≡ boxNo =
     either (the-pre .1 .1 .1) (λ p. absurd (c .before .before .before .before .before .before .before .if1 .left (c .before .before .before .before .before .before .before .before .kind .ensures ∙ p))) (λ q. either q (λ p. absurd (c .before .before .before .before .before .if2 .left (c .before .before .before .before .before .before .before .before .kind .ensures ∙ p))) (λ p. p)) in
     record {

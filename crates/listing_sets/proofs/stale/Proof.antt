@@ -5,8 +5,8 @@ use Prim.Native.Nat.{_-_, _≤_}
 use native.Mathlib.Omega.{arith}
 use lib.ListN.{length, length-set}
 use Rattle.limits.specs.Limits.{tableNodes}
-use Rattle.listing_sets.specs.Laws.Places.{cleared-none, cleared-node, cleared-other}
-use Rattle.listing_sets.specs.Places.{Cleared}
+use Rattle.listing_sets.specs.Laws.Offsets.{cleared-none, cleared-node, cleared-other}
+use Rattle.listing_sets.specs.Offsets.{Cleared}
 use Rattle.listing_sets.proofs.stale.Statement.{statement}
 use Rattle.listing_sets.proofs.stale.Tie as tie
 

@@ -1,4 +1,4 @@
--- By the kind.
+-- By cases: the kind is mu, or it is not.
 use borrow.Author.Needs.{needs}
 use Rattle.listing_sets.specs.Laws.Nodes.{mu-start, nu-start}
 use Rattle.listing_sets.proofs.start.Statement.{statement}

@@ -2,7 +2,7 @@
 use native.Mathlib.Omega.{arith}
 use borrow.Author.Needs.{needs}
 use Rattle.limits.specs.Limits.{slots}
-use Rattle.listing_sets.specs.Laws.Places.{written}
+use Rattle.listing_sets.specs.Laws.Offsets.{set-written}
 use Rattle.listing_sets.proofs.store.Statement.{statement}
 use Rattle.listing_sets.proofs.store.Tie as tie
 
@@ -33,7 +33,7 @@ same-length c = search needs
 returns : tie.Need-returns
 unfolding slots
 returns c = let a = c .before .before .before .before .before .before .args in
-    written (a .buf .now) (a .j) (omega arith) (c .before .before .copy .last .0) (c .before .before .copy .kept .0) _ (c .before .before .copy .ensures)
+    set-written (a .buf .now) (a .j) (omega arith) (c .before .before .copy .last .0) (c .before .before .copy .kept .0) _ (c .before .before .copy .ensures)
 
 pub store-spec : {M : Type 1} → statement M
 store-spec =

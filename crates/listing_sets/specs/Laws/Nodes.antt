@@ -22,10 +22,10 @@ use Rattle.site.specs.Laws.Read.{present-is, marked-is}
 use Rattle.condition.specs.Bytes.{nodeAt, tableOf}
 use Rattle.condition.specs.Laws.Fits.{node-tree}
 use Rattle.condition.specs.Laws.Limits.{kind-past}
-use Rattle.listing_sets.specs.Places.{setAt}
-use Rattle.listing_sets.specs.Nodes.{applied, startOf}
+use Rattle.listing_sets.specs.Offsets.{setAt}
+use Rattle.listing_sets.specs.Nodes.{nodeMakes, startOf}
 
--- the present slots and the labels' slots stand at places of the site
+-- the present slots are set 0 of the site's bytes, and the slots of label p are set 1 + p
 pub here-set : (site : List ℕ) → setAt site 0 ≐ siteOf site .present
 unfolding setAt
 here-set site s h = ap (has site) (let q : setSlots * 0 + s ≡ s = omega arith in q) ∙ sym (present-is site s h)
@@ -73,35 +73,35 @@ module _ (S : List ℕ) (f : nodesFit 0 (tableOf S) ≡ true) (i : ℕ) (h : 6 *
 
 -- what a node makes of two sets, by the kind's number
 module _ (M : Model) (x : Node) (P Q : Set) (s : ℕ) where
-  applied-kind : (k : Kind) → kindOf (x .kind) ≡ k
-      → applied M x P Q s ≡ eval M (λ v. cond (same v 0) P Q) (build k (x .param) (var 0) (var 1)) s
-  unfolding applied
-  applied-kind k e = ap (λ (j : Kind). eval M (λ v. cond (same v 0) P Q) (build j (x .param) (var 0) (var 1)) s) e
+  makes-kind : (k : Kind) → kindOf (x .kind) ≡ k
+      → nodeMakes M x P Q s ≡ eval M (λ v. cond (same v 0) P Q) (build k (x .param) (var 0) (var 1)) s
+  unfolding nodeMakes
+  makes-kind k e = ap (λ (j : Kind). eval M (λ v. cond (same v 0) P Q) (build j (x .param) (var 0) (var 1)) s) e
 
-  pub makes-not : x .kind ≡ notNo → applied M x P Q s ≡ not (P s)
+  pub makes-not : x .kind ≡ notNo → nodeMakes M x P Q s ≡ not (P s)
   unfolding eval build one kindOf same
-  makes-not e = applied-kind (unary kNot) (ap kindOf e)
+  makes-not e = makes-kind (unary kNot) (ap kindOf e)
 
-  pub makes-or : x .kind ≡ orNo → applied M x P Q s ≡ (P s || Q s)
+  pub makes-or : x .kind ≡ orNo → nodeMakes M x P Q s ≡ (P s || Q s)
   unfolding eval build two kindOf same
-  makes-or e = applied-kind (binary kOr) (ap kindOf e)
+  makes-or e = makes-kind (binary kOr) (ap kindOf e)
 
-  pub makes-and : x .kind ≡ andNo → applied M x P Q s ≡ (P s && Q s)
+  pub makes-and : x .kind ≡ andNo → nodeMakes M x P Q s ≡ (P s && Q s)
   unfolding eval build two kindOf same
-  makes-and e = applied-kind (binary kAnd) (ap kindOf e)
+  makes-and e = makes-kind (binary kAnd) (ap kindOf e)
 
-  pub makes-diamond : x .kind ≡ diaNo → applied M x P Q s ≡ any slots (λ t. step M (wayOf (x .param)) s t && P t)
+  pub makes-diamond : x .kind ≡ diaNo → nodeMakes M x P Q s ≡ any slots (λ t. step M (wayOf (x .param)) s t && P t)
   unfolding eval build one kindOf same
-  makes-diamond e = applied-kind (unary kDia) (ap kindOf e)
+  makes-diamond e = makes-kind (unary kDia) (ap kindOf e)
 
-  pub makes-box : x .kind ≡ boxNo → applied M x P Q s ≡ all slots (λ t. not (step M (wayOf (x .param)) s t) || P t)
+  pub makes-box : x .kind ≡ boxNo → nodeMakes M x P Q s ≡ all slots (λ t. not (step M (wayOf (x .param)) s t) || P t)
   unfolding eval build one kindOf same
-  makes-box e = applied-kind (unary kBox) (ap kindOf e)
+  makes-box e = makes-kind (unary kBox) (ap kindOf e)
 
--- so the set of a node that is no loop is what it makes of its children's sets
+-- the set of a node that is not a loop is what it makes of its children's sets
 module _ (S : List ℕ) (f : nodesFit 0 (tableOf S) ≡ true) (i : ℕ) (h : 6 * i + 6 ≤ length S) (M : Model) (ρ : Env) (P Q : Set)
     (l : P ≐ eval M ρ (treeAt (tableOf S) (nodeAt S i .left))) where
-  pub is-unary : (nodeAt S i .kind ≡ notNo) ⊎ ((nodeAt S i .kind ≡ diaNo) ⊎ (nodeAt S i .kind ≡ boxNo)) → applied M (nodeAt S i) P Q ≐ eval M ρ (treeAt (tableOf S) i)
+  pub is-unary : (nodeAt S i .kind ≡ notNo) ⊎ ((nodeAt S i .kind ≡ diaNo) ⊎ (nodeAt S i .kind ≡ boxNo)) → nodeMakes M (nodeAt S i) P Q ≐ eval M ρ (treeAt (tableOf S) i)
   unfolding eval build one kindOf
   is-unary (inl e) s k = makes-not M (nodeAt S i) P Q s e ∙ ap not (l s k) ∙ sym (node-eval S f i h M ρ (unary kNot) (ap kindOf e) s)
   is-unary (inr (inl e)) s k =
@@ -114,7 +114,7 @@ module _ (S : List ℕ) (f : nodesFit 0 (tableOf S) ≡ true) (i : ℕ) (h : 6 *
       ∙ sym (node-eval S f i h M ρ (unary kBox) (ap kindOf e) s)
 
   pub is-binary : orNo ≤ nodeAt S i .kind → nodeAt S i .kind ≤ andNo → Q ≐ eval M ρ (treeAt (tableOf S) (nodeAt S i .right))
-      → applied M (nodeAt S i) P Q ≐ eval M ρ (treeAt (tableOf S) i)
+      → nodeMakes M (nodeAt S i) P Q ≐ eval M ρ (treeAt (tableOf S) i)
   unfolding eval build two kindOf
   is-binary a b r s k =
       either
@@ -133,7 +133,7 @@ pub nu-start : (k : ℕ) → k ≢ muNo → startOf k ≡ full
 unfolding startOf
 nu-start k n = rw (ne-same n)
 
--- and that of a mu or nu of the variable x and the body b is what the rounds come to
+-- the set of a mu or nu of the variable x and the body b is what the rounds come to
 module _ (S : List ℕ) (f : nodesFit 0 (tableOf S) ≡ true) (i : ℕ) (h : 6 * i + 6 ≤ length S) (M : Model) (ρ : Env) (x b : ℕ)
     (ex : x ≡ nodeAt S i .param) (eb : b ≡ nodeAt S i .left) where
   pub is-loop : muNo ≤ nodeAt S i .kind → nodeAt S i .kind ≤ nuNo

@@ -29,7 +29,9 @@ same-length : tie.Need-same-length
 same-length c = search needs
 
 returns : tie.Need-returns
-returns c = row-added (c .before .before .before .before .before .before .before .before .before .args .site .now) _ _ (c .before .before .before .before .before .before .before .before .before .pre .1 .1 .0) (c .before .before .before .before .before .before .if1 .taken) (c .before .before .before .before .before .row-at .result) (c .before .before .before .before .before .row-at .result + setBytes - c .before .before .before .before .before .row-at .result) (c .before .before .before .before .before .row-at .ensures) (omega arith) (c .before .before .before .before .before .before .before .before .before .args .found .now) _ (c .before .before .union-with .ensures)
+returns c =
+    let start = c .before .before .before .before .before .before .before .before .before in
+    row-added (start .args .site .now) _ _ (start .pre .1 .1 .0) (c .before .before .before .before .before .before .if1 .taken) (c .before .before .before .before .before .row-at .result) (c .before .before .before .before .before .row-at .result + setBytes - c .before .before .before .before .before .row-at .result) (c .before .before .before .before .before .row-at .ensures) (omega arith) (start .args .found .now) _ (c .before .before .union-with .ensures)
 
 target-requires : tie.Need-target-requires
 target-requires c κs = search needs
@@ -44,7 +46,9 @@ same-length-2 : tie.Need-same-length-2
 same-length-2 c = search needs
 
 returns-3 : tie.Need-returns-3
-returns-3 c = target-added (c .before .before .before .before .before .before .before .before .before .args .site .now) _ _ (c .before .before .before .before .before .before .before .before .before .pre .1 .1 .0) (c .before .before .before .before .before .before .if1 .left) (c .before .before .before .before .before .before .before .before .before .pre .1 .0) _ (c .before .before .before .before .before .target .ensures .1 .0) (c .before .before .before .before .before .before .before .before .before .args .found .now) _ (c .before .before .before .before .before .before .before .before .before .pre .1 .1 .1) (c .before .before .before .before .before .target .ensures .1 .1) (c .before .before .before .before .if2 .left) (c .before .before .insert .ensures)
+returns-3 c =
+    let start = c .before .before .before .before .before .before .before .before .before in
+    target-added (start .args .site .now) _ _ (start .pre .1 .1 .0) (c .before .before .before .before .before .before .if1 .left) (start .pre .1 .0) _ (c .before .before .before .before .before .target .ensures .1 .0) (start .args .found .now) _ (start .pre .1 .1 .1) (c .before .before .before .before .before .target .ensures .1 .1) (c .before .before .before .before .if2 .left) (c .before .before .insert .ensures)
 
 pub add-targets-spec : {M : Type 1} → statement M
 add-targets-spec =

@@ -1,11 +1,11 @@
--- Turn i puts in the targets of the slots of byte i that are in the set.
+-- Pass i adds the targets of the slots of byte i that are in the set.
 use mathlib.Core.Bool.{_&&_}
 use Prim.Native.Nat.{_*_, _-_}
 use native.Mathlib.Omega.{arith}
 use borrow.Author.Needs.{needs}
 use Rattle.bitset.specs.Set.{setBytes, has}
 use Rattle.site.specs.Site.{siteOf}
-use Rattle.modal.specs.Laws.Gather.{Gathered, gather-none, gather-eight, gather-done}
+use Rattle.modal.specs.Laws.Gather.{Gathered, gather-none, gather-byte, gather-done}
 use Rattle.modal.proofs.image.Statement.{statement}
 use Rattle.modal.proofs.image.Tie as tie
 
@@ -18,14 +18,14 @@ abbrev μ-loop : tie.MeasureT-loop
 loop-holds : tie.Need-loop-holds Inv-loop μ-loop
 loop-holds c = gather-none _
 
-slice-aggregate-add-eight : tie.Need-slice-aggregate-add-eight Inv-loop μ-loop
-slice-aggregate-add-eight c = search needs
+slice-aggregate-add-byte : tie.Need-slice-aggregate-add-byte Inv-loop μ-loop
+slice-aggregate-add-byte c = search needs
 
-slice-aggregate-add-eight-2 : tie.Need-slice-aggregate-add-eight-2 Inv-loop μ-loop
-slice-aggregate-add-eight-2 c = search needs
+slice-aggregate-add-byte-2 : tie.Need-slice-aggregate-add-byte-2 Inv-loop μ-loop
+slice-aggregate-add-byte-2 c = search needs
 
-add-eight-requires : tie.Need-add-eight-requires Inv-loop μ-loop
-add-eight-requires c κs = search needs
+add-byte-requires : tie.Need-add-byte-requires Inv-loop μ-loop
+add-byte-requires c κs = search needs
 
 add-i : tie.Need-add-i Inv-loop μ-loop
 add-i c = omega arith
@@ -34,7 +34,7 @@ loop-less : tie.Need-loop-less Inv-loop μ-loop
 loop-less c = omega arith
 
 loop-again : tie.Need-loop-again Inv-loop μ-loop
-loop-again c = gather-eight _ (c .before .before .before .before .before .loop .found) _ (c .before .before .before .before .before .loop .i) (c .before .before .before .before .before .loop .inv) (omega arith) (omega arith) (c .before .add-eight .ensures)
+loop-again c = gather-byte _ (c .before .before .before .before .before .loop .found) _ (c .before .before .before .before .before .loop .i) (c .before .before .before .before .before .loop .inv) (omega arith) (omega arith) (c .before .add-byte .ensures)
 
 returns : tie.Need-returns Inv-loop μ-loop
 returns c = gather-done _ _ (c .before .loop .i * 8) (c .before .loop .inv) (omega arith)
@@ -46,9 +46,9 @@ image-spec =
     Inv-loop
     μ-loop
     loop-holds
-    slice-aggregate-add-eight
-    slice-aggregate-add-eight-2
-    add-eight-requires
+    slice-aggregate-add-byte
+    slice-aggregate-add-byte-2
+    add-byte-requires
     add-i
     loop-less
     loop-again

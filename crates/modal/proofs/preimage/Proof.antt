@@ -1,4 +1,4 @@
--- Turn k puts slot k in where link m leads from it into the set.
+-- Pass k puts slot k in if link m leads from it into the set.
 use mathlib.Core.Bool.{_&&_}
 use Prim.Native.Nat.{_-_}
 use native.Mathlib.Omega.{arith}

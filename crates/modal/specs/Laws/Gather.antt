@@ -1,4 +1,4 @@
--- A loop over the slots that gathers a set: slot s is in exactly if some turn put it in.
+-- A loop over the slots that gathers a set: a slot is in the set exactly if some pass of the loop put it in.
 use mathlib.Core.Path.{_≡_, sym, _∙_, ap}
 use mathlib.Core.Logic.{_≢_}
 use mathlib.Core.Bool.{Bool, true, false, _&&_, _||_, and-true, and-false, or-false, or-comm, or-assoc}
@@ -17,7 +17,7 @@ use Rattle.bitset.specs.Set.{setBytes, setSlots, has, Is}
 use Rattle.bitset.specs.Laws.Bytes.{has-byte, has-empty}
 use Rattle.limits.specs.Limits.{slots}
 
--- R has the slots that the turns below i put in; turn k puts in those of f k
+-- R has the slots that the first i passes put in; pass k puts in those of f k
 pub record Gathered (f : ℕ → ℕ → Bool) (R : List ℕ) (i : ℕ) : Type 0 where
   pub long : length R ≡ setBytes
   pub upto : i ≤ setSlots
@@ -41,7 +41,7 @@ module _ (f : ℕ → ℕ → Bool) where
   unfolding slots
   gather-done R i g h s hs = rw (let e : setSlots ≡ i = omega arith in e) (g .holds s hs)
 
--- R′ has the slots of R and those that the turns below i put in
+-- R′ has the slots of R and those that the first i passes put in
 abbrev pub Adds : (ℕ → ℕ → Bool) → List ℕ → List ℕ → ℕ → Type 0
 Adds f R R′ i = Is R′ (λ s. has R s || any i (λ k. f k s))
 
@@ -73,10 +73,10 @@ module _ (f : ℕ → ℕ → Bool) where
       rw (add-one i)
       (e s h ∙ rw (a s h) (or-assoc (has R s) (any i (λ k. f k s)) (f i s) ∙ ap (λ (x : Bool). has R s || x) (or-comm (any i (λ k. f k s)) (f i s))))
 
-  -- the eight turns of byte i
-  pub gather-eight : (R R′ : List ℕ) (i : ℕ) → Gathered f R (i * 8) → i < setBytes → length R′ ≡ setBytes → Adds (λ k. f (i * 8 + k)) R R′ 8
+  -- the eight passes for the slots of byte i
+  pub gather-byte : (R R′ : List ℕ) (i : ℕ) → Gathered f R (i * 8) → i < setBytes → length R′ ≡ setBytes → Adds (λ k. f (i * 8 + k)) R R′ 8
       → Gathered f R′ ((i + 1) * 8)
-  gather-eight R R′ i g h l e = record {
+  gather-byte R R′ i g h l e = record {
     long = l;
     upto = omega arith;
     holds = λ s hs.
@@ -91,14 +91,14 @@ shifted-out (suc j) zero v e h = absurd (omega arith)
 shifted-out (suc j) (suc k) v e h =
     bit-suc v k ∙ shifted-out j k (v / 2) (div-div-eq-div-mul v 2 (2 ^ j) ∙ rw (← (pow-succ' 2 j)) e) (omega arith)
 
--- one that is not 0 yet has a slot left
+-- a byte that is not 0 when it is shifted down by j has a slot from there on
 pub slot-left : (v j : ℕ) → v < 256 → j ≤ 8 → v / 2 ^ j ≢ 0 → j < 8
 slot-left v j h l n = either (equal? j 8) (λ q. absurd (n (rw q (let z : v / 256 ≡ 0 = omega arith in z)))) (λ q. omega arith)
 
--- so the turns below j are all that the slots of byte i make, where the byte is v
-pub eight-done : (f : ℕ → ℕ → Bool) (T R R′ : List ℕ) (i v j : ℕ) → v ≡ getD T i 0 → Adds (λ k s. f (i * 8 + k) s && has T (i * 8 + k)) R R′ j → j ≤ 8
+-- where the byte i is v, and v shifted down by j is 0, the first j passes put in all that its eight slots do
+pub byte-done : (f : ℕ → ℕ → Bool) (T R R′ : List ℕ) (i v j : ℕ) → v ≡ getD T i 0 → Adds (λ k s. f (i * 8 + k) s && has T (i * 8 + k)) R R′ j → j ≤ 8
     → v / 2 ^ j ≡ 0 → Adds (λ k s. f (i * 8 + k) s && has T (i * 8 + k)) R R′ 8
-eight-done f T R R′ i v j q a l e s h = a s h ∙ ap (λ (x : Bool). has R s || x) (both
+byte-done f T R R′ i v j q a l e s h = a s h ∙ ap (λ (x : Bool). has R s || x) (both
     (λ p. let t = any-out j _ p in any-in 8 _ (t .0) (omega (arith, t .1)) (t .2))
     (λ p.
     let t = any-out 8 _ p in
@@ -109,14 +109,14 @@ eight-done f T R R′ i v j q a l e s h = a s h ∙ ap (λ (x : Bool). has R s |
     let out : has T (i * 8 + t .0) ≡ false = has-byte T i (t .0) (t .1) ∙ rw (← q) (shifted-out j (t .0) v e (not-below (t .0) j b)) in
     clash (and-r (f (i * 8 + t .0) s) _ (t .2)) out)))
 
--- a turn puts in the slots of f, or none
-pub turn-puts : (R R′ : List ℕ) (f : ℕ → Bool) (a : Bool) → a ≡ true → Is R′ (λ s. has R s || f s) → Is R′ (λ s. has R s || (f s && a))
-turn-puts R R′ f a e i s h = rw (e, and-true (f s)) (i s h)
+-- a pass puts in the slots of f where a slot is in the set, and none where it is not
+pub puts-if-in : (R R′ : List ℕ) (f : ℕ → Bool) (a : Bool) → a ≡ true → Is R′ (λ s. has R s || f s) → Is R′ (λ s. has R s || (f s && a))
+puts-if-in R R′ f a e i s h = rw (e, and-true (f s)) (i s h)
 
-pub turn-skips : (R : List ℕ) (f : ℕ → Bool) (a : Bool) → a ≡ false → Is R (λ s. has R s || (f s && a))
-turn-skips R f a e s h = rw (e, and-false (f s)) (sym (or-false (has R s)))
+pub puts-none-if-out : (R : List ℕ) (f : ℕ → Bool) (a : Bool) → a ≡ false → Is R (λ s. has R s || (f s && a))
+puts-none-if-out R f a e s h = rw (e, and-false (f s)) (sym (or-false (has R s)))
 
--- where all but v fail by themselves, v decides
+-- where all numbers but v fail, v decides
 pub any-only : (n : ℕ) (f : ℕ → Bool) (v : ℕ) → v < n → ((t : ℕ) → t ≢ v → f t ≡ false) → any n f ≡ f v
 any-only n f v hv h =
     either
@@ -124,7 +124,7 @@ any-only n f v hv h =
     (λ e. any-in n f v hv e ∙ sym e)
     (λ e. none-any n f (λ t l. either (equal? t v) (λ q. rw q e) (h t)) ∙ sym e)
 
--- where turn k puts in slot k alone, and only if k passes p
+-- where pass k puts in slot k alone, and only if k passes p
 pub gather-each : (p : ℕ → Bool) (R : List ℕ) (i : ℕ) → Gathered (λ k s. same s k && p k) R i → setSlots ≤ i → Is R p
 unfolding slots
 gather-each p R i g h s hs =

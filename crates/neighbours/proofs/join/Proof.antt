@@ -41,7 +41,7 @@ same-length : tie.Need-same-length
 same-length c = omega arith
 
 returns : tie.Need-returns
-returns c = joined _ _ _ _ _ _ (c .before .before .before .before .before .before .insert .ensures) (c .before .before .insert2 .ensures) (omega arith) (omega arith)
+returns c = joined _ _ _ (c .before .before .before .before .before .before .insert .ensures) (c .before .before .insert2 .ensures) (omega arith) (omega arith)
 
 pub join-spec : {M : Type 1} → statement M
 join-spec =

@@ -1,4 +1,4 @@
--- Turn j puts slot 8 * i + j into row s.
+-- Pass j puts slot 8 * i + j into row s.
 use mathlib.Core.Bool.{Bool, _&&_}
 use mathlib.Core.Path.{sym, _∙_, ap}
 use Prim.Native.Nat.{_+_, _*_, _-_, _≤_}
@@ -20,7 +20,7 @@ abbrev μ-loop : tie.MeasureT-loop
 μ-loop site m s i ways₀ j₀ ways j = 8 - j
 
 loop-holds : tie.Need-loop-holds Inv-loop μ-loop
-loop-holds c = let a = c .before .before .args in (omega arith, gains-start (λ k y. siteOf (a .site .now) .link (a .m) (a .s) (8 * a .i + k) && same y (at (a .m) (a .s) (8 * a .i + k))) _)
+loop-holds c = let a = c .before .before .args in (omega arith, gains-start (λ k y. siteOf (a .site .now) .link (a .m) (a .s) (8 * a .i + k) && same y (at (a .m) (a .s) (8 * a .i + k))))
 
 mul-t : tie.Need-mul-t Inv-loop μ-loop
 mul-t c = omega arith
@@ -72,11 +72,13 @@ loop-less c = omega arith
 
 loop-again : tie.Need-loop-again Inv-loop μ-loop
 unfolding slots
-loop-again c = let a = c .before .before .before .before .before .before .before .before .before .args in let l = c .before .before .before .before .before .before .loop in
+loop-again c =
+    let a = c .before .before .before .before .before .before .before .before .before .args in
+    let l = c .before .before .before .before .before .before .loop in
     let t = 8 * a .i + l .j in (
       omega arith,
-      gains-more (λ k y. siteOf (a .site .now) .link (a .m) (a .s) (8 * a .i + k) && same y (at (a .m) (a .s) (8 * a .i + k))) (a .ways .now) (l .ways) _ (l .j) (l .inv .1)
-          (gains-map _ _ (l .ways) _ (λ y. ap (λ (z : Bool). z && same y (at (a .m) (a .s) t)) (c .before .before .before .before .member .ensures ∙ sym (row-is (a .site .now) (a .m) (a .s) t (omega arith) (omega arith) (omega arith)))) (c .before .before .put-if .ensures)),
+      gains-more (λ k y. siteOf (a .site .now) .link (a .m) (a .s) (8 * a .i + k) && same y (at (a .m) (a .s) (8 * a .i + k))) (l .j) (l .inv .1)
+          (gains-map (λ y. ap (λ (z : Bool). z && same y (at (a .m) (a .s) t)) (c .before .before .before .before .member .ensures ∙ sym (row-is (a .site .now) (a .m) (a .s) t (omega arith) (omega arith) (omega arith)))) (c .before .before .put-if .ensures)),
     )
 
 same-length : tie.Need-same-length Inv-loop μ-loop
@@ -85,7 +87,7 @@ same-length c = omega arith
 returns : tie.Need-returns Inv-loop μ-loop
 unfolding alongJoins
 returns c = let a = c .before .before .before .before .args in let l = c .before .loop in
-    gains-done (λ k y. siteOf (a .site .now) .link (a .m) (a .s) (8 * a .i + k) && same y (at (a .m) (a .s) (8 * a .i + k))) (a .ways .now) (l .ways) 8 (l .j) (l .inv .1) (omega arith) (omega arith)
+    gains-done (λ k y. siteOf (a .site .now) .link (a .m) (a .s) (8 * a .i + k) && same y (at (a .m) (a .s) (8 * a .i + k))) 8 (l .j) (l .inv .1) (omega arith) (omega arith)
 
 pub join-along-spec : {M : Type 1} → statement M
 join-along-spec =

@@ -1,4 +1,4 @@
--- Turn s joins s and its targets.
+-- Pass s joins s and its targets.
 use Prim.Native.Nat.{_-_, _≤_}
 use native.Mathlib.Omega.{arith}
 use borrow.Author.Needs.{needs}
@@ -18,7 +18,7 @@ abbrev μ-loop : tie.MeasureT-loop
 μ-loop site m ways₀ s₀ ways s = setSlots - s
 
 loop-holds : tie.Need-loop-holds Inv-loop μ-loop
-loop-holds c = let a = c .before .before .args in (omega arith, gains-start (targetJoins (siteOf (a .site .now)) (a .m)) _)
+loop-holds c = let a = c .before .before .args in (omega arith, gains-start (targetJoins (siteOf (a .site .now)) (a .m)))
 
 join-targets-requires : tie.Need-join-targets-requires Inv-loop μ-loop
 join-targets-requires c κs = search needs
@@ -31,14 +31,14 @@ loop-less c = omega arith
 
 loop-again : tie.Need-loop-again Inv-loop μ-loop
 loop-again c = let a = c .before .before .before .before .before .before .before .before .args in let l = c .before .before .before .before .before .loop in
-    (omega arith, gains-more (targetJoins (siteOf (a .site .now)) (a .m)) (a .ways .now) (l .ways) _ (l .s) (l .inv .1) (c .before .before .join-targets .ensures))
+    (omega arith, gains-more (targetJoins (siteOf (a .site .now)) (a .m)) (l .s) (l .inv .1) (c .before .before .join-targets .ensures))
 
 same-length : tie.Need-same-length Inv-loop μ-loop
 same-length c = omega arith
 
 returns : tie.Need-returns Inv-loop μ-loop
 returns c = let a = c .before .before .before .before .args in let l = c .before .loop in
-    gains-done (targetJoins (siteOf (a .site .now)) (a .m)) (a .ways .now) (l .ways) setSlots (l .s) (l .inv .1) (omega arith) (omega arith)
+    gains-done (targetJoins (siteOf (a .site .now)) (a .m)) setSlots (l .s) (l .inv .1) (omega arith) (omega arith)
 
 pub join-ends-spec : {M : Type 1} → statement M
 join-ends-spec =

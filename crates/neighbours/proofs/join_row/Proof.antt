@@ -1,4 +1,4 @@
--- Turn i joins s and its targets among the slots of byte i.
+-- Pass i joins s and its targets among the slots of byte i.
 use Prim.Native.Nat.{_-_, _≤_}
 use native.Mathlib.Omega.{arith}
 use borrow.Author.Needs.{needs}
@@ -7,22 +7,22 @@ use Rattle.bitset.specs.Set.{setBytes}
 use Rattle.partition.specs.Gains.{Gains}
 use Rattle.partition.specs.Laws.Gains.{gains-start, gains-more, gains-done}
 use Rattle.finite.specs.Tests.{any}
-use Rattle.neighbours.specs.Steps.{eightJoins}
-use Rattle.neighbours.specs.Laws.Steps.{eights-all}
+use Rattle.neighbours.specs.Steps.{byteJoins}
+use Rattle.neighbours.specs.Laws.Steps.{bytes-all}
 use Rattle.neighbours.proofs.join_row.Statement.{statement}
 use Rattle.neighbours.proofs.join_row.Tie as tie
 
 abbrev Inv-loop : tie.InvT-loop
-Inv-loop site m s ways₀ i₀ ways i = (i ≤ setBytes) × Gains (λ y. any i (λ k. eightJoins (siteOf site) m s k y)) ways₀ ways
+Inv-loop site m s ways₀ i₀ ways i = (i ≤ setBytes) × Gains (λ y. any i (λ k. byteJoins (siteOf site) m s k y)) ways₀ ways
 
 abbrev μ-loop : tie.MeasureT-loop
 μ-loop site m s ways₀ i₀ ways i = setBytes - i
 
 loop-holds : tie.Need-loop-holds Inv-loop μ-loop
-loop-holds c = let a = c .before .before .args in (omega arith, gains-start (eightJoins (siteOf (a .site .now)) (a .m) (a .s)) _)
+loop-holds c = let a = c .before .before .args in (omega arith, gains-start (byteJoins (siteOf (a .site .now)) (a .m) (a .s)))
 
-join-eight-requires : tie.Need-join-eight-requires Inv-loop μ-loop
-join-eight-requires c κs = search needs
+join-byte-requires : tie.Need-join-byte-requires Inv-loop μ-loop
+join-byte-requires c κs = search needs
 
 add-i : tie.Need-add-i Inv-loop μ-loop
 add-i c = omega arith
@@ -32,14 +32,14 @@ loop-less c = omega arith
 
 loop-again : tie.Need-loop-again Inv-loop μ-loop
 loop-again c = let a = c .before .before .before .before .before .before .before .before .args in let l = c .before .before .before .before .before .loop in
-    (omega arith, gains-more (eightJoins (siteOf (a .site .now)) (a .m) (a .s)) (a .ways .now) (l .ways) _ (l .i) (l .inv .1) (c .before .before .join-eight .ensures))
+    (omega arith, gains-more (byteJoins (siteOf (a .site .now)) (a .m) (a .s)) (l .i) (l .inv .1) (c .before .before .join-byte .ensures))
 
 same-length : tie.Need-same-length Inv-loop μ-loop
 same-length c = omega arith
 
 returns : tie.Need-returns Inv-loop μ-loop
 returns c = let a = c .before .before .before .before .args in let l = c .before .loop in
-    eights-all _ (a .m) (a .s) _ _ (gains-done (eightJoins (siteOf (a .site .now)) (a .m) (a .s)) (a .ways .now) (l .ways) setBytes (l .i) (l .inv .1) (omega arith) (omega arith))
+    bytes-all _ (a .m) (a .s) (gains-done (byteJoins (siteOf (a .site .now)) (a .m) (a .s)) setBytes (l .i) (l .inv .1) (omega arith) (omega arith))
 
 pub join-row-spec : {M : Type 1} → statement M
 join-row-spec =
@@ -48,7 +48,7 @@ join-row-spec =
     Inv-loop
     μ-loop
     loop-holds
-    join-eight-requires
+    join-byte-requires
     add-i
     loop-less
     loop-again

@@ -9,7 +9,7 @@ target-requires c κs = omega arith
 
 returns : tie.Need-returns
 returns c = let a = c .before .before .before .before .args in
-    target-none _ (a .f) (a .s) (omega arith) (omega arith) (omega arith) _ (c .before .target .ensures .1 .0) _ (c .if1 .taken)
+    target-none _ (a .f) (a .s) (omega arith) (omega arith) (omega arith) _ (c .before .target .ensures .1 .0) (c .if1 .taken)
 
 join-requires : tie.Need-join-requires
 join-requires c κs = omega arith
@@ -19,7 +19,7 @@ same-length c = omega arith
 
 returns-2 : tie.Need-returns-2
 returns-2 c = let a = c .before .before .before .before .before .before .before .before .args in
-    target-joins _ (a .f) (a .s) (omega arith) (omega arith) (omega arith) _ (c .before .before .before .before .before .target .ensures .1 .0) _ _ (omega arith) (c .before .before .before .before .if1 .left) (c .before .before .join .ensures)
+    target-joins _ (a .f) (a .s) (omega arith) (omega arith) (omega arith) _ (c .before .before .before .before .before .target .ensures .1 .0) (omega arith) (c .before .before .before .before .if1 .left) (c .before .before .join .ensures)
 
 pub join-target-spec : {M : Type 1} → statement M
 join-target-spec = tie.close (tie.spec target-requires returns join-requires same-length returns-2)

@@ -1,4 +1,4 @@
--- Turn m joins the ends of link m.
+-- Pass m joins the ends of link m.
 use mathlib.Core.Path.{_≡_}
 use Prim.Native.Nat.{_-_, _≤_}
 use native.Mathlib.Omega.{arith}
@@ -23,7 +23,7 @@ abbrev μ-loop : tie.MeasureT-loop
 μ-loop site ways₀ m₀ ways m = links - m
 
 loop-holds : tie.Need-loop-holds Inv-loop μ-loop
-loop-holds c = let a = c .before .args in (omega arith, omega arith, gains-start (λ k y. any setSlots (λ s. targetJoins (siteOf (a .site .now)) k s y)) _)
+loop-holds c = let a = c .before .args in (omega arith, omega arith, gains-start (λ k y. any setSlots (λ s. targetJoins (siteOf (a .site .now)) k s y)))
 
 slice-aggregate-join-ends : tie.Need-slice-aggregate-join-ends Inv-loop μ-loop
 slice-aggregate-join-ends c = search needs
@@ -39,11 +39,11 @@ loop-less c = omega arith
 
 loop-again : tie.Need-loop-again Inv-loop μ-loop
 loop-again c = let a = c .before .before .before .before .before .before .args in let l = c .before .before .before .before .loop in
-    (omega arith, omega arith, gains-more (λ k y. any setSlots (λ s. targetJoins (siteOf (a .site .now)) k s y)) (replicate waysBytes 0) (l .ways) _ (l .m) (l .inv .2) (c .before .join-ends .ensures))
+    (omega arith, omega arith, gains-more (λ k y. any setSlots (λ s. targetJoins (siteOf (a .site .now)) k s y)) (l .m) (l .inv .2) (c .before .join-ends .ensures))
 
 returns : tie.Need-returns Inv-loop μ-loop
 returns c = let a = c .before .before .before .args in let l = c .before .loop in
-    neighbours-all _ waysBytes _ (gains-done (λ k y. any setSlots (λ s. targetJoins (siteOf (a .site .now)) k s y)) (replicate waysBytes 0) (l .ways) links (l .m) (l .inv .2) (omega arith) (omega arith))
+    neighbours-all _ waysBytes (gains-done (λ k y. any setSlots (λ s. targetJoins (siteOf (a .site .now)) k s y)) links (l .m) (l .inv .2) (omega arith) (omega arith))
 
 pub of-site-spec : {M : Type 1} → statement M
 of-site-spec =

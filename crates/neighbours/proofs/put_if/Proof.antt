@@ -18,7 +18,7 @@ same-length : tie.Need-same-length
 same-length c = search needs
 
 returns : tie.Need-returns
-returns c = let s = c .before .before .before in weighed (s .args .put) (s .args .ways .now) (s .args .x) (c .before .weight-if .result) (c .before .weight-if .ensures) (s .pre)
+returns c = let s = c .before .before .before in weighed (s .args .put) (s .args .x) (c .before .weight-if .result) (c .before .weight-if .ensures) (s .pre)
 
 pub put-if-spec : {M : Type 1} → statement M
 put-if-spec = tie.close (tie.spec weight-if-requires slice-read-ways slice-write-ways same-length returns)

@@ -1,4 +1,4 @@
--- By whether it is put.
+-- By cases on `put`.
 use native.Mathlib.Omega.{arith}
 use Rattle.bitset.specs.Laws.Slot.{weight}
 use Rattle.neighbours.proofs.weight_if.Statement.{statement}

@@ -22,22 +22,22 @@ use Rattle.site.specs.Laws.Read.{row-is, target-read}
 use Rattle.partition.specs.Gains.{Gains}
 use Rattle.partition.specs.Rows.{Neighbours}
 use Rattle.partition.specs.Laws.Gains.{gains-none, gains-put, gains-map, gains-join, gains-zeros}
-use Rattle.neighbours.specs.Steps.{at, joins, linkJoins, alongJoins, backJoins, eightJoins, targetJoins}
+use Rattle.neighbours.specs.Steps.{at, joins, linkJoins, alongJoins, backJoins, byteJoins, targetJoins}
 
--- both bits put in
-pub joined : (m s t : ℕ) (b a d : List ℕ) → a ≡ inserted b (at m s t) → d ≡ inserted a (at (m + links) t s) → at m s t / 8 < length b
+-- both bits of a join are set
+pub joined : (m s t : ℕ) {b a d : List ℕ} → a ≡ inserted b (at m s t) → d ≡ inserted a (at (m + links) t s) → at m s t / 8 < length b
     → at (m + links) t s / 8 < length b → Gains (joins m s t) b d
 unfolding joins
-joined m s t b a d e f h k =
-    let g = gains-put b a (at m s t) e h in
-    gains-join (λ y. same y (at m s t)) (λ y. same y (at (m + links) t s)) b a d g (gains-put a d (at (m + links) t s) f (rw (g .long) k))
+joined m s t e f h k =
+    let g = gains-put (at m s t) e h in
+    gains-join g (gains-put (at (m + links) t s) f (rw (g .long) k))
 
--- a weight put in: that of bit x, or 0
-pub weighed : (put : Bool) (b : List ℕ) (x w : ℕ) → w ≡ cond put (2 ^ (x % 8)) 0 → x / 8 < length b
+-- a byte is united with the weight of bit x, or with 0
+pub weighed : (put : Bool) {b : List ℕ} (x w : ℕ) → w ≡ cond put (2 ^ (x % 8)) 0 → x / 8 < length b
     → Gains (λ y. put && same y x) b (set b (x / 8) (bitOr (getD b (x / 8) 0) w))
 unfolding inserted has
-weighed true b x w e h = gains-put b _ x (rw e) h
-weighed false b x w e h = record {
+weighed true x w e h = gains-put x (rw e) h
+weighed false {b} x w e h = record {
   long = length-set b (x / 8) _;
   holds = λ y. either
       (equal? (y / 8) (x / 8))
@@ -58,34 +58,34 @@ any-or (suc n) f g h = rw (← (any-or n f g h)) (mixed (f n) (g n) (h n) (any n
     mixed true false true false q = refl
     mixed true false false p q = refl
 
--- both halves put in
-pub eight-joined : (M : Model) (m s i : ℕ) (b a d : List ℕ) → Gains (alongJoins M m s i) b a → Gains (backJoins M m s i) a d → Gains (eightJoins M m s i) b d
-unfolding alongJoins backJoins eightJoins linkJoins joins
-eight-joined M m s i b a d g h =
-    gains-map _ _ b d (λ y.
+-- both halves of a byte's joins are put in
+pub byte-joined : (M : Model) (m s i : ℕ) {b a d : List ℕ} → Gains (alongJoins M m s i) b a → Gains (backJoins M m s i) a d → Gains (byteJoins M m s i) b d
+unfolding alongJoins backJoins byteJoins linkJoins joins
+byte-joined M m s i g h =
+    gains-map (λ y.
     any-or 8 (λ j. M .link m s (8 * i + j)) (λ j. same y (at m s (8 * i + j))) (λ j. same y (at (m + links) (8 * i + j) s)))
-    (gains-join (alongJoins M m s i) (backJoins M m s i) b a d g h)
+    (gains-join g h)
 
 module _ (S : List ℕ) (m s : ℕ) (hs : s < setSlots) where
-  -- a byte of the row that is 0
-  pub eight-none : (i : ℕ) (b : List ℕ) → m < generalLinks → i < setBytes → getD S (rowAt m s + i) 0 ≡ 0 → Gains (eightJoins (siteOf S) m s i) b b
-  unfolding eightJoins linkJoins slots has
-  eight-none i b hm hi e = gains-none _ b (λ y. none-any 8 _ (λ j h.
+  -- a byte of the row that is 0 joins nothing
+  pub byte-none : (i : ℕ) {b : List ℕ} → m < generalLinks → i < setBytes → getD S (rowAt m s + i) 0 ≡ 0 → Gains (byteJoins (siteOf S) m s i) b b
+  unfolding byteJoins linkJoins slots has
+  byte-none i hm hi e = gains-none (λ y. none-any 8 _ (λ j h.
       let x : (rowAt m s * 8 + (8 * i + j)) / 8 ≡ rowAt m s + i = omega arith in
       rw (row-is S m s (8 * i + j) hm hs (omega arith), x, e, bit-zero ((rowAt m s * 8 + (8 * i + j)) % 8))))
 
   -- a functional link leads to its target v, or nowhere
   module _ (f : generalLinks ≤ m) (l : m < links) (v : ℕ) (e : v ≡ getD S (targetAt m s) 0) where
-    pub target-none : (b : List ℕ) → v ≡ 0 → Gains (targetJoins (siteOf S) m s) b b
+    pub target-none : {b : List ℕ} → v ≡ 0 → Gains (targetJoins (siteOf S) m s) b b
     unfolding targetJoins linkJoins
-    target-none b z = gains-none _ b (λ y. none-any setSlots _ (λ t h. rw (target-read S m s f l hs v e t h, z) (never t y)))
+    target-none z = gains-none (λ y. none-any setSlots _ (λ t h. rw (target-read S m s f l hs v e t h, z) (never t y)))
       where
         never : (t y : ℕ) → ((same 0 t && not (same t 0)) && joins m s t y) ≡ false
         never t y = either (equal? t 0) (λ q. rw (q, same-refl 0)) (λ n. rw (ne-same (λ q. n (sym q))))
 
-    pub target-joins : (b a : List ℕ) → v < setSlots → v ≢ 0 → Gains (joins m s v) b a → Gains (targetJoins (siteOf S) m s) b a
+    pub target-joins : {b a : List ℕ} → v < setSlots → v ≢ 0 → Gains (joins m s v) b a → Gains (targetJoins (siteOf S) m s) b a
     unfolding targetJoins linkJoins
-    target-joins b a h n g = gains-map (joins m s v) _ b a (λ y. both
+    target-joins h n g = gains-map (λ y. both
         (λ q. any-in setSlots _ v h (and-in (target-read S m s f l hs v e v h ∙ rw (same-refl v, ne-same n)) q))
         (λ q.
         let r = any-out setSlots _ q in
@@ -93,10 +93,10 @@ module _ (S : List ℕ) (m s : ℕ) (hs : s < setSlots) where
         let j : v ≡ r .0 = same-eq (and-l _ _ i) in
         rw j (and-r (siteOf S .link m s (r .0)) _ (r .2)))) g
 
--- the bytes of a row, and its slots
-pub eights-all : (M : Model) (m s : ℕ) (b a : List ℕ) → Gains (λ y. any setBytes (λ i. eightJoins M m s i y)) b a → Gains (targetJoins M m s) b a
-unfolding eightJoins targetJoins
-eights-all M m s b a = gains-map _ _ b a (λ y. both
+-- the joins of the bytes of a row are those of its slots
+pub bytes-all : (M : Model) (m s : ℕ) {b a : List ℕ} → Gains (λ y. any setBytes (λ i. byteJoins M m s i y)) b a → Gains (targetJoins M m s) b a
+unfolding byteJoins targetJoins
+bytes-all M m s = gains-map (λ y. both
     (λ q.
     let r = any-out setBytes _ q in
     let j = any-out 8 _ (r .2) in
@@ -107,16 +107,16 @@ eights-all M m s b a = gains-map _ _ b a (λ y. both
     any-in setBytes _ (r .0 / 8) (omega (arith, r .1)) (any-in 8 _ (r .0 % 8) (omega arith) (rw (← e) (r .2)))))
 
 -- all links joined
-module _ (M : Model) (n : ℕ) (W : List ℕ) (g : Gains (λ y. any links (λ m. any setSlots (λ s. targetJoins M m s y))) (replicate n 0) W) where
+module _ (M : Model) (n : ℕ) {W : List ℕ} (g : Gains (λ y. any links (λ m. any setSlots (λ s. targetJoins M m s y))) (replicate n 0) W) where
   put-in : (m s t y : ℕ) → m < links → s < setSlots → t < setSlots → M .link m s t ≡ true → joins m s t y ≡ true → has W y ≡ true
   unfolding targetJoins linkJoins
-  put-in m s t y hm hs ht e j = gains-zeros _ n W g y ∙ any-in links _ m hm (any-in setSlots _ s hs (any-in setSlots _ t ht (and-in e j)))
+  put-in m s t y hm hs ht e j = gains-zeros n g y ∙ any-in links _ m hm (any-in setSlots _ s hs (any-in setSlots _ t ht (and-in e j)))
 
   put-out : (y : ℕ) → has W y ≡ true
       → (m s t : ℕ) × (m < links) × (s < setSlots) × (t < setSlots) × (M .link m s t ≡ true) × (joins m s t y ≡ true)
   unfolding targetJoins linkJoins
   put-out y e =
-      let a = any-out links _ (sym (gains-zeros _ n W g y) ∙ e) in
+      let a = any-out links _ (sym (gains-zeros n g y) ∙ e) in
       let b = any-out setSlots _ (a .2) in
       let d = any-out setSlots _ (b .2) in
       (a .0, b .0, d .0, a .1, b .1, d .1, and-l _ _ (d .2), and-r (M .link (a .0) (b .0) (d .0)) _ (d .2))

@@ -16,12 +16,12 @@ use Rattle.semantics.specs.Holds.{Model}
 use Rattle.semantics.specs.Bisimulation.{Total}
 use Rattle.semantics.specs.Table.{wayOf}
 use Rattle.semantics.specs.Laws.Refine.{Rel, match, bisimilarIn, bisimilar-sym, bisimilar-less}
-use Rattle.partition.specs.Partition.{across, Parts, Follows}
-use Rattle.partition.specs.Laws.Parts.{first-cong, parts-first}
+use Rattle.partition.specs.Partition.{across, Partitions, Follows}
+use Rattle.partition.specs.Laws.Partitions.{first-cong, partitions-first}
 use Rattle.partition.specs.Laws.Rounds.{upto}
 
 -- the lowest slot of the first site that E relates to t is the class of t, where E relates whole classes of p
-pub follows-of : (F E : Rel) (p q : List ℕ) → Parts F p
+pub follows-of : (F E : Rel) (p q : List ℕ) → Partitions F p
     → ((t s u : ℕ) → t < setSlots → s < setSlots → u < setSlots → E t s ≡ true → F s u ≡ E t u)
     → ((t : ℕ) → t < setSlots → any setSlots (E t) ≡ true) → ((t : ℕ) → t < setSlots → getD q t 0 ≡ first setSlots (E t))
     → Follows E p q
@@ -31,13 +31,13 @@ follows-of F E p q n whole met low = record {
       let a = first-in setSlots (E t) (met t h) in
       let x : ℕ = first setSlots (E t) in
       let same-class : getD q t 0 ≡ getD p x 0 =
-      low t h ∙ first-cong setSlots (E t) (F x) (λ u l. sym (whole t x u h (a .0) l (a .1))) ∙ sym (parts-first F p n x (a .0)) in
+      low t h ∙ first-cong setSlots (E t) (F x) (λ u l. sym (whole t x u h (a .0) l (a .1))) ∙ sym (partitions-first n x (a .0)) in
       ap (λ (c : ℕ). same c (getD p s 0)) same-class ∙ n .by x s (a .0) j ∙ whole t x s h (a .0) j (a .1);
 }
 
--- relations that agree on slots
-pub follows-map : (E F : Rel) (p q : List ℕ) → ((t s : ℕ) → t < setSlots → s < setSlots → E t s ≡ F t s) → Follows E p q → Follows F p q
-follows-map E F p q e f = record {
+-- relations that agree on slots number the second site alike
+pub follows-map : {E F : Rel} {p q : List ℕ} → ((t s : ℕ) → t < setSlots → s < setSlots → E t s ≡ F t s) → Follows E p q → Follows F p q
+follows-map {E} {F} e f = record {
   met = λ t h. let a = any-out setSlots (E t) (f .met t h) in any-in setSlots (F t) (a .0) (a .1) (sym (e t (a .0) h (a .1)) ∙ a .2);
   by = λ t s h j. f .by t s h j ∙ e t s h j;
 }

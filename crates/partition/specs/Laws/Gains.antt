@@ -1,4 +1,4 @@
--- Bits put in by the turns of a loop.
+-- Bits set by the passes of a loop.
 use mathlib.Core.Path.{_≡_, refl, sym, _∙_, ap}
 use mathlib.Core.Bool.{Bool, true, false, _&&_, _||_, or-false, or-comm, or-assoc}
 use mathlib.Core.List.{List}
@@ -12,43 +12,42 @@ use Rattle.bitset.specs.Set.{has, inserted}
 use Rattle.bitset.specs.Laws.Slot.{has-inserted, length-inserted}
 use Rattle.partition.specs.Gains.{Gains}
 
--- what f says, said otherwise
-pub gains-map : (f g : ℕ → Bool) (b a : List ℕ) → ((y : ℕ) → f y ≡ g y) → Gains f b a → Gains g b a
-gains-map f g b a e h = record { long = h .long; holds = λ y. h .holds y ∙ ap (λ (z : Bool). has b y || z) (e y) }
+-- two tests that agree set the same bits
+pub gains-map : {f g : ℕ → Bool} {b a : List ℕ} → ((y : ℕ) → f y ≡ g y) → Gains f b a → Gains g b a
+gains-map {b = b} e h = record { long = h .long; holds = λ y. h .holds y ∙ ap (λ (z : Bool). has b y || z) (e y) }
 
--- no bit is put in; one is; and one, where a test passes
-pub gains-none : (f : ℕ → Bool) (b : List ℕ) → ((y : ℕ) → f y ≡ false) → Gains f b b
-gains-none f b h = record { long = refl; holds = λ y. rw (h y) (sym (or-false (has b y))) }
+-- no bit is set; one is; and one is where a test passes
+pub gains-none : {f : ℕ → Bool} {b : List ℕ} → ((y : ℕ) → f y ≡ false) → Gains f b b
+gains-none {b = b} h = record { long = refl; holds = λ y. rw (h y) (sym (or-false (has b y))) }
 
-pub gains-put : (b a : List ℕ) (x : ℕ) → a ≡ inserted b x → x / 8 < length b → Gains (λ y. same y x) b a
-gains-put b a x e h = rw e (record { long = length-inserted b x; holds = λ y. has-inserted b x y h })
+pub gains-put : {b a : List ℕ} (x : ℕ) → a ≡ inserted b x → x / 8 < length b → Gains (λ y. same y x) b a
+gains-put {b} x e h = rw e (record { long = length-inserted b x; holds = λ y. has-inserted b x y h })
 
-pub gains-skip-if : (t : Bool) (b : List ℕ) (x : ℕ) → t ≡ false → Gains (λ y. t && same y x) b b
-gains-skip-if t b x e = gains-none _ b (λ y. rw e)
+pub gains-skip-if : {t : Bool} {b : List ℕ} (x : ℕ) → t ≡ false → Gains (λ y. t && same y x) b b
+gains-skip-if x e = gains-none (λ y. rw e)
 
-pub gains-put-if : (t : Bool) (b a : List ℕ) (x : ℕ) → t ≡ true → a ≡ inserted b x → x / 8 < length b → Gains (λ y. t && same y x) b a
-gains-put-if t b a x q e h = gains-map _ _ b a (λ y. rw q) (gains-put b a x e h)
+pub gains-put-if : {t : Bool} {b a : List ℕ} (x : ℕ) → t ≡ true → a ≡ inserted b x → x / 8 < length b → Gains (λ y. t && same y x) b a
+gains-put-if x q e h = gains-map (λ y. rw q) (gains-put x e h)
 
-pub gains-join : (f g : ℕ → Bool) (b a d : List ℕ) → Gains f b a → Gains g a d → Gains (λ y. f y || g y) b d
-gains-join f g b a d h k = record {
+pub gains-join : {f g : ℕ → Bool} {b a d : List ℕ} → Gains f b a → Gains g a d → Gains (λ y. f y || g y) b d
+gains-join {f} {g} {b} h k = record {
   long = k .long ∙ h .long;
   holds = λ y. k .holds y ∙ ap (λ (z : Bool). z || g y) (h .holds y) ∙ or-assoc (has b y) (f y) (g y);
 }
 
--- the turns below i put in what f says of each: at the start, after one more, at the end
-pub gains-start : (f : ℕ → ℕ → Bool) (b : List ℕ) → Gains (λ y. any 0 (λ k. f k y)) b b
+-- the first i passes set the bits that pass f of each: at the start, after one more, at the end
+pub gains-start : (f : ℕ → ℕ → Bool) {b : List ℕ} → Gains (λ y. any 0 (λ k. f k y)) b b
 unfolding any
-gains-start f b = gains-none _ b (λ y. refl)
+gains-start f = gains-none (λ y. refl)
 
-pub gains-more : (f : ℕ → ℕ → Bool) (b a d : List ℕ) (i : ℕ) → Gains (λ y. any i (λ k. f k y)) b a → Gains (f i) a d
+pub gains-more : (f : ℕ → ℕ → Bool) {b a d : List ℕ} (i : ℕ) → Gains (λ y. any i (λ k. f k y)) b a → Gains (f i) a d
     → Gains (λ y. any (i + 1) (λ k. f k y)) b d
 unfolding any
-gains-more f b a d i h k =
-    gains-map _ _ b d (λ y. rw (add-one i) (or-comm (any i (λ n. f n y)) (f i y))) (gains-join (λ y. any i (λ n. f n y)) (f i) b a d h k)
+gains-more f i h k = gains-map (λ y. rw (add-one i) (or-comm (any i (λ n. f n y)) (f i y))) (gains-join h k)
 
-pub gains-done : (f : ℕ → ℕ → Bool) (b a : List ℕ) (n i : ℕ) → Gains (λ y. any i (λ k. f k y)) b a → i ≤ n → n ≤ i
+pub gains-done : (f : ℕ → ℕ → Bool) {b a : List ℕ} (n i : ℕ) → Gains (λ y. any i (λ k. f k y)) b a → i ≤ n → n ≤ i
     → Gains (λ y. any n (λ k. f k y)) b a
-gains-done f b a n i h l m = rw (let e : n ≡ i = omega arith in e) h
+gains-done f n i h l m = rw (let e : n ≡ i = omega arith in e) h
 
 -- bytes that start as zeros have the bits that they gain
 pub zeros-at : (n k : ℕ) → getD {A = ℕ} (replicate n 0) k 0 ≡ 0
@@ -60,5 +59,5 @@ zeros-none : (n y : ℕ) → has (replicate n 0) y ≡ false
 unfolding has
 zeros-none n y = rw (zeros-at n (y / 8)) (bit-zero (y % 8))
 
-pub gains-zeros : (f : ℕ → Bool) (n : ℕ) (a : List ℕ) → Gains f (replicate n 0) a → (y : ℕ) → has a y ≡ f y
-gains-zeros f n a h y = h .holds y ∙ rw (zeros-none n y)
+pub gains-zeros : {f : ℕ → Bool} (n : ℕ) {a : List ℕ} → Gains f (replicate n 0) a → (y : ℕ) → has a y ≡ f y
+gains-zeros n h y = h .holds y ∙ rw (zeros-none n y)

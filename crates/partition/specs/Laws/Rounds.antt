@@ -19,8 +19,8 @@ use Rattle.semantics.specs.Laws.Classes.{class-is}
 use Rattle.semantics.specs.Laws.Refine.{Rel, covers, covers-iff, match, bisimilarIn, Stable, stable}
 use Rattle.site.specs.Layout.{rowsBytes}
 use Rattle.partition.specs.Rows.{inRow, sees, seeSame, Neighbours}
-use Rattle.partition.specs.Partition.{across, Parts, bySeen, Next}
-use Rattle.partition.specs.Laws.Parts.{parts-map, parts-first, number-small}
+use Rattle.partition.specs.Partition.{across, Partitions, bySeen, Refines}
+use Rattle.partition.specs.Laws.Partitions.{partitions-map, partitions-first, number-small}
 
 -- ---- one way
 
@@ -56,7 +56,7 @@ module _ (M N : Model) (E : Rel) (w : ℕ) (p q R S : List ℕ) (n : (s t : ℕ)
       let g = same-eq (n (a .0) (b .0) (a .1) (b .1) ∙ b .3) in
       any-in setSlots _ (b .0) (b .1) (and-in (rows′ t (b .0) j (b .1) ∙ b .2) (eq-same (sym g ∙ d)))
 
--- so slots see the same classes exactly if their neighbours match
+-- slots see the same classes exactly if their neighbours match
 module _ (M N : Model) (E : Rel) (w : ℕ) (p q R S : List ℕ) (n : (s t : ℕ) → s < setSlots → t < setSlots → across p q s t ≡ E s t)
     (small : (x : ℕ) → x < setSlots → getD p x 0 < setSlots) (small′ : (x : ℕ) → x < setSlots → getD q x 0 < setSlots)
     (rows : (s t : ℕ) → s < setSlots → t < setSlots → inRow R s t ≡ step M (wayOf w) s t)
@@ -99,38 +99,38 @@ upto-seen M N k w W W′ p q a b nb nb′ hw sp sq n u s t h j =
     (λ x y hx hy. way-row M W w x y nb hw hx hy) (λ x y hx hy. way-row N W′ w x y nb′ hw hx hy) s t h j)
     ∙ upto-next M N k w s t
 
--- one site
-pub upto-none : (M : Model) (k : ℕ) (p : List ℕ) → Parts (bisimilarIn k M M) p → Parts (upto M M k 0) p
+-- one site: its partition after k rounds and no way, after one way more, and after all ways
+pub upto-none : (M : Model) (k : ℕ) {p : List ℕ} → Partitions (bisimilarIn k M M) p → Partitions (upto M M k 0) p
 unfolding upto all
-upto-none M k p n = parts-map (bisimilarIn k M M) (upto M M k 0) p (λ s t h j. sym (and-true (bisimilarIn k M M s t))) n
+upto-none M k n = partitions-map (λ s t h j. sym (and-true (bisimilarIn k M M s t))) n
 
-pub upto-more : (M : Model) (k w m : ℕ) (W p q r : List ℕ) → Neighbours M W → w < everyWay → m ≡ rowsBytes → Parts (bisimilarIn k M M) p
-    → Parts (upto M M k w) q → Parts (bySeen q (take m (drop (rowsBytes * w) W)) p) r → Parts (upto M M k (w + 1)) r
+pub upto-more : (M : Model) (k w m : ℕ) (W p q r : List ℕ) → Neighbours M W → w < everyWay → m ≡ rowsBytes → Partitions (bisimilarIn k M M) p
+    → Partitions (upto M M k w) q → Partitions (bySeen q (take m (drop (rowsBytes * w) W)) p) r → Partitions (upto M M k (w + 1)) r
 unfolding bySeen
 upto-more M k w m W p q r nb hw e n u f =
     let small : (x : ℕ) → x < setSlots → getD p x 0 < setSlots = number-small p (n .lowest) in
-    parts-map (bySeen q (wayRows W w) p) (upto M M k (w + 1)) r (upto-seen M M k w W W p p q q nb nb hw small small (n .by) (u .by)) (rw e at f)
+    partitions-map (upto-seen M M k w W W p p q q nb nb hw small small (n .by) (u .by)) (rw e at f)
 
-pub upto-all : (M : Model) (k : ℕ) (q : List ℕ) → Parts (upto M M k everyWay) q → Parts (bisimilarIn (k + 1) M M) q
+pub upto-all : (M : Model) (k : ℕ) {q : List ℕ} → Partitions (upto M M k everyWay) q → Partitions (bisimilarIn (k + 1) M M) q
 unfolding upto bisimilarIn
-upto-all M k q u = rw (add-one k) (parts-map (upto M M k everyWay) (bisimilarIn (suc k) M M) q (λ s t h j. refl) u)
+upto-all M k u = rw (add-one k) (partitions-map {E = upto M M k everyWay} {F = bisimilarIn (suc k) M M} (λ s t h j. refl) u)
 
 -- ---- the end
 
 -- two rounds with one partition: nothing more is told apart
-pub same-stable : (M : Model) (W : List ℕ) (k : ℕ) (p q : List ℕ) → Neighbours M W → Parts (bisimilarIn k M M) p → Next W p q
+pub same-stable : (M : Model) (W : List ℕ) (k : ℕ) {p : List ℕ} (q : List ℕ) → Neighbours M W → Partitions (bisimilarIn k M M) p → Refines W p q
     → ((s : ℕ) → s < setSlots → getD p s 0 ≡ getD q s 0) → Stable M M k
-unfolding slots Next
-same-stable M W k p q nb n f e s t h j l =
-    let m : Parts (bisimilarIn (suc k) M M) q = rw add-one at (f M nb k n) in
+unfolding slots Refines
+same-stable M W k q nb n f e s t h j l =
+    let m : Partitions (bisimilarIn (suc k) M M) q = rw add-one at (f M nb k n) in
     sym (m .by s t h j) ∙ ap₂ same (sym (e s h)) (sym (e t j)) ∙ n .by s t h j ∙ l
 
--- the partition of such a round has the class numbers
-pub stable-class : (M : Model) (k : ℕ) (p : List ℕ) → Parts (bisimilarIn k M M) p → Stable M M k → (s : ℕ) → s < slots → IsClass M s (getD p s 0)
+-- a partition after which nothing more is told apart has the class numbers
+pub stable-class : (M : Model) (k : ℕ) {p : List ℕ} → Partitions (bisimilarIn k M M) p → Stable M M k → (s : ℕ) → s < slots → IsClass M s (getD p s 0)
 unfolding slots
-stable-class M k p n c s h = rw (parts-first (bisimilarIn k M M) p n s h) (class-is M k c s h)
+stable-class M k n c s h = rw (partitions-first n s h) (class-is M k c s h)
 
--- and after as many rounds as there are slots
+-- after as many rounds as there are slots nothing more is told apart
 pub last-stable : (M : Model) (k : ℕ) → k ≡ setSlots → Stable M M k
 unfolding slots
 last-stable M k e = rw e (stable M)

@@ -17,11 +17,11 @@ use Rattle.bitset.specs.Laws.Bytes.{same-slots}
 use Rattle.bitset.specs.Laws.Part.{has-part}
 use Rattle.partition.specs.Gains.{Gains}
 use Rattle.site.specs.Layout.{rowsBytes}
-use Rattle.partition.specs.Rows.{inRow, sameRow, sees, seeSame, Signed, turn, eight, part}
-use Rattle.partition.specs.Partition.{together, Partition, Parts, byRow, bySeen}
-use Rattle.partition.specs.Laws.Eight.{or-zero}
+use Rattle.partition.specs.Rows.{inRow, sameRow, sees, seeSame, Signed, slotPuts, bytePuts, groupPuts}
+use Rattle.partition.specs.Partition.{together, Partition, Partitions, byRow, bySeen}
+use Rattle.partition.specs.Laws.Puts.{or-zero}
 use Rattle.partition.specs.Laws.Gains.{gains-zeros}
-use Rattle.partition.specs.Laws.Parts.{parts-of, parts-map}
+use Rattle.partition.specs.Laws.Partitions.{partitions-of, partitions-map}
 
 -- ---- rows compared
 
@@ -51,14 +51,14 @@ module _ (R : List ℕ) (s t : ℕ) where
   unfolding sameRow
   row-in f = all-in setSlots _ (λ c h. eq-beq (f c h))
 
-  -- the rows as parts of the bytes: equal parts, equal rows
-  parts-same : rowOf R s ≡ rowOf R t → sameRow R s t ≡ true
-  parts-same e = row-in (λ c h. sym (row-has R s c h) ∙ ap (λ (x : List ℕ). has x c) e ∙ row-has R t c h)
+  -- rows whose bytes are equal are the same
+  row-bytes-same : rowOf R s ≡ rowOf R t → sameRow R s t ≡ true
+  row-bytes-same e = row-in (λ c h. sym (row-has R s c h) ∙ ap (λ (x : List ℕ). has x c) e ∙ row-has R t c h)
 
-  -- and the other way
-  parts-differ : length R ≡ rowsBytes → ((k : ℕ) → getD R k 0 < 256) → s < setSlots → t < setSlots → (rowOf R s ≡ rowOf R t → ⊥)
+  -- rows whose bytes differ are not the same
+  row-bytes-differ : length R ≡ rowsBytes → ((k : ℕ) → getD R k 0 < 256) → s < setSlots → t < setSlots → (rowOf R s ≡ rowOf R t → ⊥)
       → sameRow R s t ≡ false
-  parts-differ l b hs ht n = no-true (λ e. n (same-slots setBytes (rowOf R s) (rowOf R t) (row-length R s l hs) (row-length R t l ht)
+  row-bytes-differ l b hs ht n = no-true (λ e. n (same-slots setBytes (rowOf R s) (rowOf R t) (row-length R s l hs) (row-length R t l ht)
       (row-bytes R s l b hs) (row-bytes R t l b ht) (λ c h. row-has R s c h ∙ row-out e c h ∙ sym (row-has R t c h))))
 
 -- a relation by equal rows is an equivalence, so the lowest slots that it relates are its partition
@@ -79,17 +79,17 @@ module _ (q R : List ℕ) where
   unfolding byRow
   by-apart s t n = rw (ne-same n)
 
-  -- what `alike` answers, from the comparison of two parts
-  pub by-parts : (s t m n : ℕ) (r : Bool) → m ≡ setBytes → n ≡ setBytes → length R ≡ rowsBytes → ((k : ℕ) → getD R k 0 < 256) → s < setSlots → t < setSlots
+  -- what `alike` returns, from the comparison of the bytes of two rows
+  pub by-row-bytes : (s t m n : ℕ) (r : Bool) → m ≡ setBytes → n ≡ setBytes → length R ≡ rowsBytes → ((k : ℕ) → getD R k 0 < 256) → s < setSlots → t < setSlots
       → getD q s 0 ≡ getD q t 0
       → (r ≡ true → take m (drop (setBytes * s) R) ≡ take n (drop (setBytes * t) R))
       × (r ≡ false → take m (drop (setBytes * s) R) ≡ take n (drop (setBytes * t) R) → ⊥) → r ≡ byRow q R s t
   unfolding byRow
-  by-parts s t m n r hm hn l b hs ht c e =
+  by-row-bytes s t m n r hm hn l b hs ht c e =
       either
       (look r)
-      (λ x. x ∙ sym (by-in s t c (parts-same R s t (rw (hm, hn) at (e .0 x)))))
-      (λ x. x ∙ sym (rw (parts-differ R s t l b hs ht (rw (hm, hn) at (e .1 x))) (and-false (together q s t))))
+      (λ x. x ∙ sym (by-in s t c (row-bytes-same R s t (rw (hm, hn) at (e .0 x)))))
+      (λ x. x ∙ sym (rw (row-bytes-differ R s t l b hs ht (rw (hm, hn) at (e .1 x))) (and-false (together q s t))))
 
   by-sym : (s t : ℕ) → byRow q R s t ≡ true → byRow q R t s ≡ true
   by-sym s t e = let a = by-out s t e in by-in t s (sym (a .0)) (row-in R t s (λ c h. sym (row-out R s t (a .1) c h)))
@@ -100,16 +100,16 @@ module _ (q R : List ℕ) where
       let b = by-out t u f in
       by-in s u (a .0 ∙ b .0) (row-in R s u (λ c h. row-out R s t (a .1) c h ∙ row-out R t u (b .1) c h))
 
-  pub rows-part : (r : List ℕ) → ((s : ℕ) → s < setSlots → getD r s 0 ≡ first setSlots (byRow q R s)) → Parts (byRow q R) r
-  rows-part r n = parts-of (byRow q R) by-refl by-sym by-trans r n
+  pub rows-partition : (r : List ℕ) → ((s : ℕ) → s < setSlots → getD r s 0 ≡ first setSlots (byRow q R s)) → Partitions (byRow q R) r
+  rows-partition r n = partitions-of (byRow q R) by-refl by-sym by-trans r n
 
 -- ---- signatures
 
--- what all turns put into zeros
-pub signed : (R p : List ℕ) (n : ℕ) (G : List ℕ) → ((k : ℕ) → getD p k 0 < 256)
-    → Gains (λ y. any setSlots (λ s. any 4 (λ g. part R p s g y))) (replicate n 0) G → Signed R p G
-unfolding Signed sees part eight turn
-signed R p n G bp g s c h k = gains-zeros _ n G g (setSlots * s + c) ∙ both
+-- zeros, into which each group of each row has put what it does, are the signatures
+pub signed : (R p : List ℕ) (n : ℕ) {G : List ℕ} → ((k : ℕ) → getD p k 0 < 256)
+    → Gains (λ y. any setSlots (λ s. any 4 (λ g. groupPuts R p s g y))) (replicate n 0) G → Signed R p G
+unfolding Signed sees groupPuts bytePuts slotPuts
+signed R p n bp g s c h k = gains-zeros n g (setSlots * s + c) ∙ both
     (λ e.
     let b = any-out setSlots _ e in
     let o = any-out 4 _ (b .2) in
@@ -128,9 +128,9 @@ signed R p n G bp g s c h k = gains-zeros _ n G g (setSlots * s + c) ∙ both
     (rw (← t) (and-in b (eq-same (ap (λ (x : ℕ). setSlots * s + x) (sym (same-eq d))))))))))
 
 -- a partition split by the classes seen, from the signatures and their split
-pub signed-part : (R p G q r : List ℕ) → Signed R p G → Parts (byRow q G) r → Parts (bySeen q R p) r
+pub signed-partition : (R p G q r : List ℕ) → Signed R p G → Partitions (byRow q G) r → Partitions (bySeen q R p) r
 unfolding Signed byRow bySeen sameRow seeSame
-signed-part R p G q r g n = parts-map (byRow q G) (bySeen q R p) r (λ s t h k.
+signed-partition R p G q r g n = partitions-map (λ s t h k.
     ap (λ (x : Bool). together q s t && x) (all-cong setSlots _ _ (λ c l. ap₂ Bool·beq (g s c h l) (g t c k l)))) n
 
 -- rows without a slot see nothing, and leave the classes as they are
@@ -138,9 +138,9 @@ none-seen : (R p : List ℕ) (s c : ℕ) → ((k : ℕ) → k < rowsBytes → ge
 unfolding sees has
 none-seen R p s c z h = none-any setSlots _ (λ t k. rw (z ((setSlots * s + t) / 8) (omega arith), bit-zero ((setSlots * s + t) % 8)))
 
-pub unseen-part : (R p q : List ℕ) → ((k : ℕ) → k < rowsBytes → getD R k 0 ≡ 0) → Partition q → Parts (bySeen q R p) q
+pub unseen-partition : (R p q : List ℕ) → ((k : ℕ) → k < rowsBytes → getD R k 0 ≡ 0) → Partition q → Partitions (bySeen q R p) q
 unfolding bySeen seeSame
-unseen-part R p q z n = record {
+unseen-partition R p q z n = record {
   lowest = n;
   by = λ s t h k.
       let e = all-in setSlots (λ c. Bool·beq (sees R p s c) (sees R p t c)) (λ c l. eq-beq (none-seen R p s c z h ∙ sym (none-seen R p t c z k))) in

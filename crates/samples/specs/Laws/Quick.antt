@@ -67,7 +67,7 @@ loop : (S : Set) (F G : Set → Set) → ((T : Set) (x : ℕ) → F T x ≡ G T 
 loop S F G h s =
     ap (λ (T : Set). T s) (rounds-iter slots F S) ∙ ap (λ (H : Set → Set). iter slots H S s) (fun-ext (λ T. fun-ext (h T)))
 
--- the set of a condition
+-- the set of a condition, by those operations
 unfoldable pub quick : Model → Env → Form → Set
 quick M ρ top = always true
 quick M ρ here = M .present

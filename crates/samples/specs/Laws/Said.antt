@@ -107,6 +107,6 @@ all-said (r ∷ rs) p =
     let o = sound-out r (and-l _ _ (and-l _ _ (p ρ₀))) in
     ((o, says r o (r .expected) (λ ρ. and-r (soundTest r) _ (and-l _ _ (p ρ)))), all-said rs (λ ρ. and-r (rowPasses ρ r) _ (p ρ)))
 
--- each starred example
+-- each row of the table says what is expected of it
 pub samples : AllSaid rows
 samples = all-said rows rows-pass

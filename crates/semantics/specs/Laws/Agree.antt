@@ -12,12 +12,12 @@ use Rattle.semantics.specs.Holds.{Set, Env, put, Model, step}
 use Rattle.semantics.specs.Laws.FixedPoint.{iter, none, full}
 use Rattle.semantics.specs.Laws.Eval.{eval}
 
--- the same slots
+-- two sets with the same slots
 abbrev pub _≐_ : Set → Set → Type 0
 S ≐ S′ = (x : ℕ) → x < slots → S x ≡ S′ x
 
 infix 4 _≐_
--- the same slots for each variable that occurs free
+-- two valuations with the same slots for each variable that occurs free
 abbrev Agrees : Form → Env → Env → Type 0
 Agrees φ ρ ρ′ = (b : Bool) (v : ℕ) → occ b v φ ≡ true → ρ v ≐ ρ′ v
 
@@ -70,7 +70,7 @@ module _ (M : Model) where
   pub eval-put : (φ : Form) (ρ : Env) (v : ℕ) (S S′ : Set) → S ≐ S′ → eval M (put ρ v S) φ ≐ eval M (put ρ v S′) φ
   eval-put φ ρ v S S′ e = agree φ (put ρ v S) (put ρ v S′) (under φ v ρ ρ (λ b u o x k. refl) S S′ e)
 
--- a round that changes nothing is the last: all later rounds give the same
+-- after a round that changes nothing, all later rounds give the same
 pub iter-rest : (F : Set → Set) → ((S S′ : Set) → S ≐ S′ → F S ≐ F S′) → (S : Set) (k : ℕ) → F (iter k F S) ≐ iter k F S
     → (n : ℕ) → k ≤ n → iter n F S ≐ iter k F S
 unfolding iter

@@ -1,4 +1,4 @@
--- Class numbers: the lowest slot that a stable round relates; and two slots have the same exactly if they are bisimilar.
+-- Class numbers: the lowest slots that a stable round relates. Two slots have the same class number exactly if they are bisimilar.
 use mathlib.Core.Path.{_≡_, subst}
 use mathlib.Core.Logic.{_↔_}
 use mathlib.Core.Bool.{true}
@@ -13,7 +13,7 @@ use Rattle.semantics.specs.Bisimulation.{Bisimilar, IsClass}
 use Rattle.semantics.specs.Laws.Refine.{bisimilarIn, bisimilar-refl, bisimilar-sym, bisimilar-trans, Stable, stable-bisimilar, bisimilar-rounds}
 
 module _ (M : Model) where
-  -- the lowest slot that a round which told nothing apart relates to s
+  -- the class number of s is the lowest slot that a stable round relates to s
   pub class-is : (k : ℕ) → Stable M M k → (s : ℕ) → s < slots → IsClass M s (first slots (bisimilarIn k M M s))
   class-is k c s h =
       let a = first-in slots (bisimilarIn k M M s) (any-in slots _ s h (bisimilar-refl M k s)) in

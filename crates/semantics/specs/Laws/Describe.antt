@@ -54,7 +54,7 @@ describe M zero s =
     (join kAnd (conj labels (λ p. sign (M .marked p s) (end kLabel p))) (conj names (λ n. sign (same s (M .place n)) (end kName n))))
 describe M (suc k) s = join kAnd (describe M k s) (conj everyWay (λ w. covered M w (describe M k) s))
 
--- its value in N is what the rounds say
+-- the value in N of the condition that describes a slot is what the rounds say
 module _ (N : Model) (ρ : Env) where
   abbrev value : Block → ℕ → Bool
   value x t = eval N ρ (fill [] x) t
@@ -174,7 +174,7 @@ describe-ground M (suc k) s =
     and-in (describe-ground M k s)
     (conj-ground everyWay _ (λ w h. covered-ground M w (describe M k) s (below-in w (suc everyWay) (omega arith)) (describe-ground M k)))
 
--- the table of such a block
+-- the table of the block of a whole condition
 ground-fits : (x : Block) → ground x ≡ true → blockFits 0 x ≡ true
 unfolding ground blockFits
 ground-fits (old i) g = clash g refl

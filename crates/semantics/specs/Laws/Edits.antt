@@ -53,7 +53,7 @@ legal-out (DT2 f n) l = and-r (functional f) _ l
 legal-out (AS n k) l = (not-nil n (and-l _ _ l), and-r (below n names && not (same n 0)) _ l)
 legal-out (DS n) l = l
 
--- and of its going through: nil gets no link and stays, and a functional link from @n1 leads to @n2
+-- what proofs use of an edit's going through: nil gets no link and stays, and a functional link from @n1 leads to @n2
 unfoldable pub Goes : Edit → Model → Type 0
 Goes (CN1 n1 n2) M = Unit {0}
 Goes (CN2 n1 n2 f) M = Unit {0}

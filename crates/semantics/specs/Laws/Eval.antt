@@ -13,7 +13,7 @@ use Rattle.limits.specs.Limits.{slots}
 use Rattle.semantics.specs.Form.{Form, top, here, label, name, var, neg, or, and, dia, box, mu, nu, slot, occ, even}
 use Rattle.semantics.specs.Holds.{Set, Env, put, Model, step, Holds}
 use Rattle.semantics.specs.Table.{Leaf, kTrue, kHere, kLabel, kName, kVar, kSlot, Unary, kNot, kDia, kBox, kMu, kNu, Binary, kOr, kAnd, Kind, leaf, unary, binary, Node, atom, one, two, build, treeAt, nodesFit, evenTable}
-use Rattle.semantics.specs.Laws.TreeAt.{Parts, tree-ind}
+use Rattle.semantics.specs.Laws.TreeAt.{Subtrees, tree-ind}
 use Rattle.semantics.specs.Laws.Monotone.{_⊆_, mono-put}
 use Rattle.semantics.specs.Laws.FixedPoint.{iter, none, full, settled, least, settled-full, greatest}
 
@@ -108,12 +108,12 @@ two-even kAnd φ ψ = refl
 
 -- the rule at every node of a table is that of all its trees
 pub table-even : (xs : List Node) → nodesFit 0 xs ≡ true → evenTable xs ≡ true → (i : ℕ) → i < length xs → evenTree (treeAt xs i) ≡ true
-unfolding evenTable build Parts
+unfolding evenTable build Subtrees
 table-even xs f e =
     tree-ind (λ φ. evenTree φ ≡ true) xs f
-    (λ i x k φ ψ h _ _ _ at parts. go k (x .param) φ ψ (ap even (sym at) ∙ all-out (length xs) _ e i h) parts)
+    (λ i x k φ ψ h _ _ _ at subtrees. go k (x .param) φ ψ (ap even (sym at) ∙ all-out (length xs) _ e i h) subtrees)
   where
-    go : (k : Kind) (p : ℕ) (φ ψ : Form) → even (build k p φ ψ) ≡ true → Parts (λ χ. evenTree χ ≡ true) k φ ψ → evenTree (build k p φ ψ) ≡ true
+    go : (k : Kind) (p : ℕ) (φ ψ : Form) → even (build k p φ ψ) ≡ true → Subtrees (λ χ. evenTree χ ≡ true) k φ ψ → evenTree (build k p φ ψ) ≡ true
     go (leaf k) p φ ψ h q = atom-even k p
     go (unary k) p φ ψ h q = one-even k p φ ∙ and-in h q
     go (binary k) p φ ψ h q = two-even k φ ψ ∙ and-in (q .0) (q .1)

@@ -1,4 +1,4 @@
--- The global modality of source document 000: the diamond of E over (here and φ) says that some present slot meets φ.
+-- The global modality: the diamond of E over (here and φ) says that some present slot meets φ.
 use mathlib.Core.Path.{_≡_, refl}
 use mathlib.Core.Logic.{_↔_}
 use mathlib.Core.Bool.{true}
@@ -7,7 +7,7 @@ use Rattle.limits.specs.Limits.{slots}
 use Rattle.semantics.specs.Form.{every, Form, here, and, dia}
 use Rattle.semantics.specs.Holds.{Env, Model, step, Holds}
 
--- at any slot s whatever, for E reaches all slots from each
+-- it holds at any slot s whatever, since E reaches all slots from each
 pub global-modality : (M : Model) (ρ : Env) (φ : Form) (s : ℕ)
     → Holds M ρ (dia every (and here φ)) s ↔ ((t : ℕ) × (t < slots) × (M .present t ≡ true) × Holds M ρ φ t)
 unfolding Holds step

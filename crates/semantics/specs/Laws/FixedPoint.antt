@@ -63,7 +63,7 @@ module _ (F : Set → Set) (grows : (S S′ : Set) → S ⊆ S′ → F S ⊆ F 
   least S h zero x l p = clash p refl
   least S h (suc k) x l p = h x l (grows _ _ (least S h k) x l p)
 
--- The same from the full set, by complements.
+-- The rounds from the full set, which come to rest at the greatest fixed point: by complements.
 co : Set → Set
 co S x = not (S x)
 

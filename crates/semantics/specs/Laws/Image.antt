@@ -25,7 +25,7 @@ use Rattle.semantics.specs.Laws.Emit.{blockFits, fill, evenBlock}
 abbrev Says : Edit → Form → Form → Type 0
 Says e φ ψ = (M : Model) → Valid M → Goes e M → (ρ : Env) (s : ℕ) → s < slots → Holds (edit e M) ρ φ s ↔ Holds M ρ ψ s
 
--- and has the same free occurrences of variables, with their parity
+-- ψ says before the edit what φ says after it, with the same free occurrences of variables and their parity
 pub record Image (e : Edit) (φ ψ : Form) : Type 0 where
   pub occurs : (b : Bool) (v : ℕ) → occ b v ψ ≡ occ b v φ
   pub says : Says e φ ψ
@@ -45,15 +45,15 @@ root-last (on k p x) m b = omega arith
 root-last (join k x y) m b = omega arith
 
 -- the block B, over nodes with the trees ts, is right for a node with the tree φ
-pub record Good (e : Edit) (ts : List Form) (B : Block) (φ : Form) : Type 0 where
+pub record BlockRight (e : Edit) (ts : List Form) (B : Block) (φ : Form) : Type 0 where
   pub made : makes B ≡ true
   pub evens : even φ ≡ true → evenBlock ts B ≡ true
   pub fits : blockFits (length ts) B ≡ true
   pub image : Image e φ (fill ts B)
 
-good : {e : Edit} {ts : List Form} {B : Block} {φ : Form} → makes B ≡ true → (even φ ≡ true → evenBlock ts B ≡ true)
-    → ((b : Bool) (v : ℕ) → occ b v (fill ts B) ≡ occ b v φ) → Says e φ (fill ts B) → blockFits (length ts) B ≡ true → Good e ts B φ
-good m e o s f = record { made = m; evens = e; fits = f; image = record { occurs = o; says = s } }
+is-right : {e : Edit} {ts : List Form} {B : Block} {φ : Form} → makes B ≡ true → (even φ ≡ true → evenBlock ts B ≡ true)
+    → ((b : Bool) (v : ℕ) → occ b v (fill ts B) ≡ occ b v φ) → Says e φ (fill ts B) → blockFits (length ts) B ≡ true → BlockRight e ts B φ
+is-right m e o s f = record { made = m; evens = e; fits = f; image = record { occurs = o; says = s } }
 
 -- the names that a change speaks of are in range
 ChangeFits : Change → Type 0
@@ -105,95 +105,95 @@ even-nu p φ ψ e = cc
 module _ (e : Edit) (l : Legal e) (ts : List Form) (p i : ℕ) (t : below i (length ts) ≡ true) (φ : Form) (kid : Image e φ (getD ts i top)) where
   module _ (h : below p (suc everyWay) ≡ true) where
     dia-shape : (c : Change) → ChangeFits c → Says e (dia (wayOf p) φ) (fill ts (blockDia c p (old i)))
-        → Good e ts (blockDia c p (old i)) (dia (wayOf p) φ)
+        → BlockRight e ts (blockDia c p (old i)) (dia (wayOf p) φ)
     unfolding ChangeFits blockDia makes blockFits unaryFits leafFits fill atom one two occ evenBlock even
-    dia-shape keep f s = good refl (λ _. refl) (kid .occurs) s (and-in h t)
+    dia-shape keep f s = is-right refl (λ _. refl) (kid .occurs) s (and-in h t)
     dia-shape (added a n) f s =
-        good refl (λ _. refl) (λ b v. or-self _ ∙ kid .occurs b v) s
+        is-right refl (λ _. refl) (λ b v. or-self _ ∙ kid .occurs b v) s
         (and-in (and-in h t) (and-in (f .0) (and-in E-fits (and-in (f .1) t))))
     dia-shape (cut a n) f s =
-        good refl (λ _. refl) (λ b v. or-self _ ∙ kid .occurs b v) s
+        is-right refl (λ _. refl) (λ b v. or-self _ ∙ kid .occurs b v) s
         (and-in (and-in (no-fits (f .0)) (and-in h t)) (and-in h (and-in (no-fits (f .1)) t)))
-    dia-shape (cutFrom n) f s = good refl (λ _. refl) (kid .occurs) s (and-in (no-fits f) (and-in h t))
-    dia-shape (cutTo n) f s = good refl (λ _. refl) (kid .occurs) s (and-in h (and-in (no-fits f) t))
-    dia-shape (cutOff n) f s = good refl (λ _. refl) (kid .occurs) s (and-in (no-fits f) (and-in h (and-in (no-fits f) t)))
+    dia-shape (cutFrom n) f s = is-right refl (λ _. refl) (kid .occurs) s (and-in (no-fits f) (and-in h t))
+    dia-shape (cutTo n) f s = is-right refl (λ _. refl) (kid .occurs) s (and-in h (and-in (no-fits f) t))
+    dia-shape (cutOff n) f s = is-right refl (λ _. refl) (kid .occurs) s (and-in (no-fits f) (and-in h (and-in (no-fits f) t)))
 
     box-shape : (c : Change) → ChangeFits c → Says e (box (wayOf p) φ) (fill ts (blockBox c p (old i)))
-        → Good e ts (blockBox c p (old i)) (box (wayOf p) φ)
+        → BlockRight e ts (blockBox c p (old i)) (box (wayOf p) φ)
     unfolding ChangeFits blockBox makes blockFits unaryFits leafFits fill atom one two occ evenBlock even
-    box-shape keep f s = good refl (λ _. refl) (kid .occurs) s (and-in h t)
+    box-shape keep f s = is-right refl (λ _. refl) (kid .occurs) s (and-in h t)
     box-shape (added a n) f s =
-        good refl (λ _. refl) (λ b v. or-self _ ∙ kid .occurs b v) s
+        is-right refl (λ _. refl) (λ b v. or-self _ ∙ kid .occurs b v) s
         (and-in (and-in h t) (and-in (no-fits (f .0)) (and-in E-fits (and-in (no-fits (f .1)) t))))
     box-shape (cut a n) f s =
-        good refl (λ _. refl) (λ b v. or-self _ ∙ kid .occurs b v) s
+        is-right refl (λ _. refl) (λ b v. or-self _ ∙ kid .occurs b v) s
         (and-in (and-in (f .0) (and-in h t)) (and-in h (and-in (f .1) t)))
-    box-shape (cutFrom n) f s = good refl (λ _. refl) (kid .occurs) s (and-in f (and-in h t))
-    box-shape (cutTo n) f s = good refl (λ _. refl) (kid .occurs) s (and-in h (and-in f t))
-    box-shape (cutOff n) f s = good refl (λ _. refl) (kid .occurs) s (and-in f (and-in h (and-in f t)))
+    box-shape (cutFrom n) f s = is-right refl (λ _. refl) (kid .occurs) s (and-in f (and-in h t))
+    box-shape (cutTo n) f s = is-right refl (λ _. refl) (kid .occurs) s (and-in h (and-in f t))
+    box-shape (cutOff n) f s = is-right refl (λ _. refl) (kid .occurs) s (and-in f (and-in h (and-in f t)))
 
-    dia-good : Good e ts (blockDia (change e (wayOf p)) p (old i)) (dia (wayOf p) φ)
+    dia-right : BlockRight e ts (blockDia (change e (wayOf p)) p (old i)) (dia (wayOf p) φ)
     unfolding Holds
-    dia-good = dia-shape (change e (wayOf p)) (change-fits e l (wayOf p)) (λ M v g ρ s k.
+    dia-right = dia-shape (change e (wayOf p)) (change-fits e l (wayOf p)) (λ M v g ρ s k.
         let block = dia-says ts p i M ρ s (change e (wayOf p)) in
         let child = kid .says M v g ρ in (
           λ q. block .1 (q .0, q .1, step-iff M s (q .0) e (wayOf p) .0 (q .2), child (q .0) (q .1) .0 (q .3)),
           λ q. let r = block .0 q in (r .0, r .1, step-iff M s (r .0) e (wayOf p) .1 (r .2), child (r .0) (r .1) .1 (r .3)),
         ))
 
-    box-good : Good e ts (blockBox (change e (wayOf p)) p (old i)) (box (wayOf p) φ)
+    box-right : BlockRight e ts (blockBox (change e (wayOf p)) p (old i)) (box (wayOf p) φ)
     unfolding Holds
-    box-good = box-shape (change e (wayOf p)) (change-fits e l (wayOf p)) (λ M v g ρ s k.
+    box-right = box-shape (change e (wayOf p)) (change-fits e l (wayOf p)) (λ M v g ρ s k.
         let block = box-says ts p i M ρ s (change e (wayOf p)) in
         let child = kid .says M v g ρ in (
           λ q. block .1 (λ x j r. child x j .0 (q x j (step-iff M s x e (wayOf p) .1 r))),
           λ q x j r. child x j .1 (block .0 q x j (step-iff M s x e (wayOf p) .0 r)),
         ))
 
-  not-good : Good e ts (on kNot 0 (old i)) (neg φ)
+  not-right : BlockRight e ts (on kNot 0 (old i)) (neg φ)
   unfolding Holds occ fill one makes blockFits unaryFits evenBlock even
-  not-good =
-      good refl (λ _. refl) (λ b v. kid .occurs (not b) v)
+  not-right =
+      is-right refl (λ _. refl) (λ b v. kid .occurs (not b) v)
       (λ M v g ρ s k. let a = kid .says M v g ρ s k in (λ q r. q (a .1 r), λ q r. q (a .0 r)))
       (and-in (same-refl 0) t)
 
-  mu-good : below p variables ≡ true → Good e ts (on kMu p (old i)) (mu p φ)
+  mu-right : below p variables ≡ true → BlockRight e ts (on kMu p (old i)) (mu p φ)
   unfolding Holds occ fill one makes blockFits unaryFits evenBlock
-  mu-good h =
-      good refl (λ r. and-in (even-mu p φ _ (kid .occurs false p) ∙ r) refl) (λ b v. ap (λ x. not (same p v) && x) (kid .occurs b v))
+  mu-right h =
+      is-right refl (λ r. and-in (even-mu p φ _ (kid .occurs false p) ∙ r) refl) (λ b v. ap (λ x. not (same p v) && x) (kid .occurs b v))
       (λ M v g ρ s k. (
         λ q T c. q T (λ x j r. c x j (kid .says M v g _ x j .0 r)),
         λ q T c. q T (λ x j r. c x j (kid .says M v g _ x j .1 r)),
       ))
       (and-in h t)
 
-  nu-good : below p variables ≡ true → Good e ts (on kNu p (old i)) (nu p φ)
+  nu-right : below p variables ≡ true → BlockRight e ts (on kNu p (old i)) (nu p φ)
   unfolding Holds occ fill one makes blockFits unaryFits evenBlock
-  nu-good h =
-      good refl (λ r. and-in (even-nu p φ _ (kid .occurs false p) ∙ r) refl) (λ b v. ap (λ x. not (same p v) && x) (kid .occurs b v))
+  nu-right h =
+      is-right refl (λ r. and-in (even-nu p φ _ (kid .occurs false p) ∙ r) refl) (λ b v. ap (λ x. not (same p v) && x) (kid .occurs b v))
       (λ M v g ρ s k. (
         λ q. (q .0, λ x j r. kid .says M v g _ x j .0 (q .1 x j r), q .2),
         λ q. (q .0, λ x j r. kid .says M v g _ x j .1 (q .1 x j r), q .2),
       ))
       (and-in h t)
 
--- and of a node with two
+-- the block of a node with two children, given their images i and j
 module _ (e : Edit) (ts : List Form) (i j : ℕ) (ti : below i (length ts) ≡ true) (tj : below j (length ts) ≡ true) (φ ψ : Form)
     (kid : Image e φ (getD ts i top)) (kid′ : Image e ψ (getD ts j top)) where
-  or-good : Good e ts (join kOr (old i) (old j)) (or φ ψ)
+  or-right : BlockRight e ts (join kOr (old i) (old j)) (or φ ψ)
   unfolding Holds occ fill two makes blockFits evenBlock even
-  or-good =
-      good refl (λ _. refl) (λ b v. ap₂ _||_ (kid .occurs b v) (kid′ .occurs b v))
+  or-right =
+      is-right refl (λ _. refl) (λ b v. ap₂ _||_ (kid .occurs b v) (kid′ .occurs b v))
       (λ M v g ρ s k.
       let a = kid .says M v g ρ s k in
       let c = kid′ .says M v g ρ s k in
       (λ p. either p (λ q. inl (a .0 q)) (λ q. inr (c .0 q)), λ p. either p (λ q. inl (a .1 q)) (λ q. inr (c .1 q))))
       (and-in ti tj)
 
-  and-good : Good e ts (join kAnd (old i) (old j)) (and φ ψ)
+  and-right : BlockRight e ts (join kAnd (old i) (old j)) (and φ ψ)
   unfolding Holds occ fill two makes blockFits evenBlock even
-  and-good =
-      good refl (λ _. refl) (λ b v. ap₂ _||_ (kid .occurs b v) (kid′ .occurs b v))
+  and-right =
+      is-right refl (λ _. refl) (λ b v. ap₂ _||_ (kid .occurs b v) (kid′ .occurs b v))
       (λ M v g ρ s k.
       let a = kid .says M v g ρ s k in
       let c = kid′ .says M v g ρ s k in
@@ -201,9 +201,9 @@ module _ (e : Edit) (ts : List Form) (i j : ℕ) (ti : below i (length ts) ≡ t
       (and-in ti tj)
 
 -- a node with no child: copied where the edit leaves what it says
-copied : {e : Edit} {ts : List Form} (k : Leaf) (p : ℕ) → leafFits k p ≡ true → Says e (atom k p) (atom k p) → Good e ts (end k p) (atom k p)
+copied : {e : Edit} {ts : List Form} (k : Leaf) (p : ℕ) → leafFits k p ≡ true → Says e (atom k p) (atom k p) → BlockRight e ts (end k p) (atom k p)
 unfolding fill makes blockFits evenBlock
-copied k p f s = good refl (λ _. refl) (λ b v. refl) s f
+copied k p f s = is-right refl (λ _. refl) (λ b v. refl) s f
 
 -- CN2's block is at the f-target of @n
 module _ (M : Model) (v : Valid M) (ρ : Env) (s : ℕ) (k : s < slots) where
@@ -252,65 +252,65 @@ nil-fits : below 0 names ≡ true
 unfolding below
 nil-fits = refl
 
-leaf-good : (e : Edit) → Legal e → (ts : List Form) (k : Leaf) (p : ℕ) → leafFits k p ≡ true → Good e ts (blockLeaf e k p) (atom k p)
+leaf-right : (e : Edit) → Legal e → (ts : List Form) (k : Leaf) (p : ℕ) → leafFits k p ≡ true → BlockRight e ts (blockLeaf e k p) (atom k p)
 unfolding Legal Goes Holds edit blockLeaf fill atom one two makes blockFits leafFits unaryFits evenBlock even occ
-leaf-good e l ts kTrue p f = copied kTrue p f (λ M v g ρ s j. Iff·rfl)
-leaf-good (CN1 n1 n2) l ts kHere p f = copied kHere p f (λ M v g ρ s j. Iff·rfl)
-leaf-good (CN2 n1 n2 h) l ts kHere p f = copied kHere p f (λ M v g ρ s j. Iff·rfl)
-leaf-good (AP n q) l ts kHere p f = copied kHere p f (λ M v g ρ s j. Iff·rfl)
-leaf-good (DP n q) l ts kHere p f = copied kHere p f (λ M v g ρ s j. Iff·rfl)
-leaf-good (AT m n1 n2) l ts kHere p f = copied kHere p f (λ M v g ρ s j. Iff·rfl)
-leaf-good (DT1 m n1 n2) l ts kHere p f = copied kHere p f (λ M v g ρ s j. Iff·rfl)
-leaf-good (DT2 h n) l ts kHere p f = copied kHere p f (λ M v g ρ s j. Iff·rfl)
-leaf-good (AS n k) l ts kHere p f = good refl (λ _. refl) (λ b v. refl) (λ M v g ρ s j. or-iff _ _ Iff·rfl (same-iff s k)) (and-in f (l .1))
-leaf-good (DS n) l ts kHere p f = good refl (λ _. refl) (λ b v. refl) (λ M v g ρ s j. and-iff _ _ Iff·rfl (not-iff _ (same-iff s _))) (and-in f (no-fits l))
-leaf-good (CN1 n1 n2) l ts kLabel p f = copied kLabel p f (λ M v g ρ s j. Iff·rfl)
-leaf-good (CN2 n1 n2 h) l ts kLabel p f = copied kLabel p f (λ M v g ρ s j. Iff·rfl)
-leaf-good (AP n q) l ts kLabel p f =
+leaf-right e l ts kTrue p f = copied kTrue p f (λ M v g ρ s j. Iff·rfl)
+leaf-right (CN1 n1 n2) l ts kHere p f = copied kHere p f (λ M v g ρ s j. Iff·rfl)
+leaf-right (CN2 n1 n2 h) l ts kHere p f = copied kHere p f (λ M v g ρ s j. Iff·rfl)
+leaf-right (AP n q) l ts kHere p f = copied kHere p f (λ M v g ρ s j. Iff·rfl)
+leaf-right (DP n q) l ts kHere p f = copied kHere p f (λ M v g ρ s j. Iff·rfl)
+leaf-right (AT m n1 n2) l ts kHere p f = copied kHere p f (λ M v g ρ s j. Iff·rfl)
+leaf-right (DT1 m n1 n2) l ts kHere p f = copied kHere p f (λ M v g ρ s j. Iff·rfl)
+leaf-right (DT2 h n) l ts kHere p f = copied kHere p f (λ M v g ρ s j. Iff·rfl)
+leaf-right (AS n k) l ts kHere p f = is-right refl (λ _. refl) (λ b v. refl) (λ M v g ρ s j. or-iff _ _ Iff·rfl (same-iff s k)) (and-in f (l .1))
+leaf-right (DS n) l ts kHere p f = is-right refl (λ _. refl) (λ b v. refl) (λ M v g ρ s j. and-iff _ _ Iff·rfl (not-iff _ (same-iff s _))) (and-in f (no-fits l))
+leaf-right (CN1 n1 n2) l ts kLabel p f = copied kLabel p f (λ M v g ρ s j. Iff·rfl)
+leaf-right (CN2 n1 n2 h) l ts kLabel p f = copied kLabel p f (λ M v g ρ s j. Iff·rfl)
+leaf-right (AP n q) l ts kLabel p f =
     either (look (same p q))
-    (λ c. rw c (good refl (λ _. refl) (λ b v. refl) (λ M v g ρ s j. rw c (or-iff _ _ Iff·rfl (same-iff s _))) (and-in f l)))
+    (λ c. rw c (is-right refl (λ _. refl) (λ b v. refl) (λ M v g ρ s j. rw c (or-iff _ _ Iff·rfl (same-iff s _))) (and-in f l)))
     (λ c. rw c (copied kLabel p f (λ M v g ρ s j. rw c Iff·rfl)))
-leaf-good (DP n q) l ts kLabel p f =
+leaf-right (DP n q) l ts kLabel p f =
     either (look (same p q))
-    (λ c. rw c (good refl (λ _. refl) (λ b v. refl) (λ M v g ρ s j. rw c (and-iff _ _ Iff·rfl (not-iff _ (same-iff s _)))) (and-in f (no-fits l))))
+    (λ c. rw c (is-right refl (λ _. refl) (λ b v. refl) (λ M v g ρ s j. rw c (and-iff _ _ Iff·rfl (not-iff _ (same-iff s _)))) (and-in f (no-fits l))))
     (λ c. rw c (copied kLabel p f (λ M v g ρ s j. rw c Iff·rfl)))
-leaf-good (AT m n1 n2) l ts kLabel p f = copied kLabel p f (λ M v g ρ s j. Iff·rfl)
-leaf-good (DT1 m n1 n2) l ts kLabel p f = copied kLabel p f (λ M v g ρ s j. Iff·rfl)
-leaf-good (DT2 h n) l ts kLabel p f = copied kLabel p f (λ M v g ρ s j. Iff·rfl)
-leaf-good (AS n k) l ts kLabel p f = copied kLabel p f (λ M v g ρ s j. Iff·rfl)
-leaf-good (DS n) l ts kLabel p f = good refl (λ _. refl) (λ b v. refl) (λ M v g ρ s j. and-iff _ _ Iff·rfl (not-iff _ (same-iff s _))) (and-in f (no-fits l))
-leaf-good (CN1 n1 n2) l ts kName y f =
+leaf-right (AT m n1 n2) l ts kLabel p f = copied kLabel p f (λ M v g ρ s j. Iff·rfl)
+leaf-right (DT1 m n1 n2) l ts kLabel p f = copied kLabel p f (λ M v g ρ s j. Iff·rfl)
+leaf-right (DT2 h n) l ts kLabel p f = copied kLabel p f (λ M v g ρ s j. Iff·rfl)
+leaf-right (AS n k) l ts kLabel p f = copied kLabel p f (λ M v g ρ s j. Iff·rfl)
+leaf-right (DS n) l ts kLabel p f = is-right refl (λ _. refl) (λ b v. refl) (λ M v g ρ s j. and-iff _ _ Iff·rfl (not-iff _ (same-iff s _))) (and-in f (no-fits l))
+leaf-right (CN1 n1 n2) l ts kName y f =
     either (look (same y n1))
-    (λ c. rw c (good refl (λ _. refl) (λ b v. refl) (λ M v g ρ s j. rw c Iff·rfl) (l .1)))
+    (λ c. rw c (is-right refl (λ _. refl) (λ b v. refl) (λ M v g ρ s j. rw c Iff·rfl) (l .1)))
     (λ c. rw c (copied kName y f (λ M v g ρ s j. rw c Iff·rfl)))
-leaf-good (CN2 n1 n2 h) l ts kName y f =
+leaf-right (CN2 n1 n2 h) l ts kName y f =
     let small = functional-small h (l .2) in
     let forward = below-in h (suc everyWay) (omega arith) in
     let reverse = below-in (h + links) (suc everyWay) (omega arith) in
     either (look (same y n1))
-    (λ c. rw c (good refl (λ _. refl) (λ b v. refl)
+    (λ c. rw c (is-right refl (λ _. refl) (λ b v. refl)
     (λ M v g ρ s j. rw (c, way-against h small, way-along h small) (target-says M v ρ s j n2 h (l .2)))
     (and-in (and-in reverse (l .1)) (and-in nil-fits (no-fits (and-in E-fits (and-in (l .1) (and-in forward (same-refl 0)))))))))
     (λ c. rw c (copied kName y f (λ M v g ρ s j. rw c Iff·rfl)))
-leaf-good (AP n q) l ts kName y f = copied kName y f (λ M v g ρ s j. Iff·rfl)
-leaf-good (DP n q) l ts kName y f = copied kName y f (λ M v g ρ s j. Iff·rfl)
-leaf-good (AT m n1 n2) l ts kName y f = copied kName y f (λ M v g ρ s j. Iff·rfl)
-leaf-good (DT1 m n1 n2) l ts kName y f = copied kName y f (λ M v g ρ s j. Iff·rfl)
-leaf-good (DT2 h n) l ts kName y f = copied kName y f (λ M v g ρ s j. Iff·rfl)
-leaf-good (AS n k) l ts kName y f =
+leaf-right (AP n q) l ts kName y f = copied kName y f (λ M v g ρ s j. Iff·rfl)
+leaf-right (DP n q) l ts kName y f = copied kName y f (λ M v g ρ s j. Iff·rfl)
+leaf-right (AT m n1 n2) l ts kName y f = copied kName y f (λ M v g ρ s j. Iff·rfl)
+leaf-right (DT1 m n1 n2) l ts kName y f = copied kName y f (λ M v g ρ s j. Iff·rfl)
+leaf-right (DT2 h n) l ts kName y f = copied kName y f (λ M v g ρ s j. Iff·rfl)
+leaf-right (AS n k) l ts kName y f =
     either (look (same y n))
-    (λ c. rw c (good refl (λ _. refl) (λ b v. refl) (λ M v g ρ s j. rw c Iff·rfl) (l .1)))
+    (λ c. rw c (is-right refl (λ _. refl) (λ b v. refl) (λ M v g ρ s j. rw c Iff·rfl) (l .1)))
     (λ c. rw c (copied kName y f (λ M v g ρ s j. rw c Iff·rfl)))
-leaf-good (DS n) l ts kName y f =
+leaf-right (DS n) l ts kName y f =
     either (look (same y 0))
     (λ c. rw c (copied kName y f (λ M v g ρ s j.
     let nil : M .place y ≡ 0 = ap (M .place) (same-eq c) ∙ v .nil-named in
     let off : same (M .place y) (M .place n) ≡ false = ne-same (λ q. g (sym q ∙ nil)) in
     rw off Iff·rfl)))
-    (λ c. rw c (good refl (λ _. refl) (λ b v. refl) (λ M v g ρ s j. name-says M v ρ s j n y)
+    (λ c. rw c (is-right refl (λ _. refl) (λ b v. refl) (λ M v g ρ s j. name-says M v ρ s j n y)
     (and-in (and-in f (no-fits l)) (and-in nil-fits (and-in E-fits (and-in l f))))))
-leaf-good e l ts kVar p f = copied kVar p f (λ M v g ρ s j. Iff·rfl)
-leaf-good e l ts kSlot p f = copied kSlot p f (λ M v g ρ s j. Iff·rfl)
+leaf-right e l ts kVar p f = copied kVar p f (λ M v g ρ s j. Iff·rfl)
+leaf-right e l ts kSlot p f = copied kSlot p f (λ M v g ρ s j. Iff·rfl)
 
 -- the nodes a and b are the images of the children that a kind has
 abbrev pub Kid : Edit → List Form → ℕ → Form → Type 0
@@ -321,14 +321,14 @@ Kids e ts (leaf k) a b φ ψ = Unit {0}
 Kids e ts (unary k) a b φ ψ = Kid e ts a φ
 Kids e ts (binary k) a b φ ψ = Kid e ts a φ × Kid e ts b ψ
 
-pub block-good : (e : Edit) → Legal e → (ts : List Form) (i : ℕ) (x : Node) (k : Kind) → kindFits i x k ≡ true
-    → (a b : ℕ) (φ ψ : Form) → Kids e ts k a b φ ψ → Good e ts (block e k (x .param) (old a) (old b)) (build k (x .param) φ ψ)
+pub block-right : (e : Edit) → Legal e → (ts : List Form) (i : ℕ) (x : Node) (k : Kind) → kindFits i x k ≡ true
+    → (a b : ℕ) (φ ψ : Form) → Kids e ts k a b φ ψ → BlockRight e ts (block e k (x .param) (old a) (old b)) (build k (x .param) φ ψ)
 unfolding block build Kids kindFits one two unaryFits
-block-good e l ts i x (leaf k) f a b φ ψ h = leaf-good e l ts k (x .param) (and-l _ _ f)
-block-good e l ts i x (unary kNot) f a b φ ψ h = not-good e l ts (x .param) a (h .0) φ (h .1)
-block-good e l ts i x (unary kDia) f a b φ ψ h = dia-good e l ts (x .param) a (h .0) φ (h .1) (and-l _ _ f)
-block-good e l ts i x (unary kBox) f a b φ ψ h = box-good e l ts (x .param) a (h .0) φ (h .1) (and-l _ _ f)
-block-good e l ts i x (unary kMu) f a b φ ψ h = mu-good e l ts (x .param) a (h .0) φ (h .1) (and-l _ _ f)
-block-good e l ts i x (unary kNu) f a b φ ψ h = nu-good e l ts (x .param) a (h .0) φ (h .1) (and-l _ _ f)
-block-good e l ts i x (binary kOr) f a b φ ψ h = or-good e ts a b (h .0 .0) (h .1 .0) φ ψ (h .0 .1) (h .1 .1)
-block-good e l ts i x (binary kAnd) f a b φ ψ h = and-good e ts a b (h .0 .0) (h .1 .0) φ ψ (h .0 .1) (h .1 .1)
+block-right e l ts i x (leaf k) f a b φ ψ h = leaf-right e l ts k (x .param) (and-l _ _ f)
+block-right e l ts i x (unary kNot) f a b φ ψ h = not-right e l ts (x .param) a (h .0) φ (h .1)
+block-right e l ts i x (unary kDia) f a b φ ψ h = dia-right e l ts (x .param) a (h .0) φ (h .1) (and-l _ _ f)
+block-right e l ts i x (unary kBox) f a b φ ψ h = box-right e l ts (x .param) a (h .0) φ (h .1) (and-l _ _ f)
+block-right e l ts i x (unary kMu) f a b φ ψ h = mu-right e l ts (x .param) a (h .0) φ (h .1) (and-l _ _ f)
+block-right e l ts i x (unary kNu) f a b φ ψ h = nu-right e l ts (x .param) a (h .0) φ (h .1) (and-l _ _ f)
+block-right e l ts i x (binary kOr) f a b φ ψ h = or-right e ts a b (h .0 .0) (h .1 .0) φ ψ (h .0 .1) (h .1 .1)
+block-right e l ts i x (binary kAnd) f a b φ ψ h = and-right e ts a b (h .0 .0) (h .1 .0) φ ψ (h .0 .1) (h .1 .1)

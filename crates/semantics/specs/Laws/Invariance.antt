@@ -18,7 +18,7 @@ use Rattle.semantics.specs.Holds.{Set, Env, put, Model, step, Holds}
 use Rattle.semantics.specs.Table.{kTrue, kHere, kLabel, kName, kVar, kSlot, kNot, kDia, kBox, kMu, kNu, kOr, kAnd, Kind, leaf, unary, binary, kindNo, kindOf, wayOf, Node, atom, one, two, build, treeAt, formOf, leafFits, unaryFits, kindFits, nodeFits, nodesFit, slotFree, ClosedTable}
 use Rattle.semantics.specs.Bisimulation.{Link, Bisimulation, Total, Bisimilar}
 use Rattle.semantics.specs.Laws.Ways.{way-link}
-use Rattle.semantics.specs.Laws.TreeAt.{fits-at, blank, Parts, tree-ind}
+use Rattle.semantics.specs.Laws.TreeAt.{fits-at, blank, Subtrees, tree-ind}
 use Rattle.semantics.specs.Laws.Monotone.{coincide}
 use Rattle.semantics.specs.Laws.FixedPoint.{iter, none, full}
 use Rattle.semantics.specs.Laws.Eval.{eval, eval-table}
@@ -132,16 +132,16 @@ free-at (x ∷ xs) (suc i) f h = free-at xs i (and-r (not (same (x .kind) 12)) _
 
 -- the trees of a table without slot numbers
 table-plain : (xs : List Node) → nodesFit 0 xs ≡ true → slotFree xs ≡ true → (i : ℕ) → i < length xs → Plain (treeAt xs i)
-unfolding kindNo build atom one two Plain Parts nodeFits kindFits leafFits unaryFits
+unfolding kindNo build atom one two Plain Subtrees nodeFits kindFits leafFits unaryFits
 table-plain xs fits n =
-    tree-ind Plain xs fits (λ i x k φ ψ h ex ek f _ parts. go i x k φ ψ f (not-slot i x k h ex ek) parts)
+    tree-ind Plain xs fits (λ i x k φ ψ h ex ek f _ subtrees. go i x k φ ψ f (not-slot i x k h ex ek) subtrees)
   where
     not-slot : (i : ℕ) (x : Node) (k : Kind) → i < length xs → getD xs i blank ≡ x → kindOf (x .kind) ≡ k → k ≢ leaf kSlot
     not-slot i x k h ex ek e =
         let small = below-out _ 13 (and-l _ _ (fits-at xs blank fits i h)) in
         free-at xs i n h (sym (kind-number _ small) ∙ ap kindNo (ap (λ (y : Node). kindOf (y .kind)) ex ∙ ek ∙ e))
 
-    go : (i : ℕ) (x : Node) (k : Kind) (φ ψ : Form) → kindFits i x k ≡ true → k ≢ leaf kSlot → Parts Plain k φ ψ → Plain (build k (x .param) φ ψ)
+    go : (i : ℕ) (x : Node) (k : Kind) (φ ψ : Form) → kindFits i x k ≡ true → k ≢ leaf kSlot → Subtrees Plain k φ ψ → Plain (build k (x .param) φ ψ)
     go i x (leaf kTrue) φ ψ f n q = tt
     go i x (leaf kHere) φ ψ f n q = tt
     go i x (leaf kLabel) φ ψ f n q = below-out _ _ (and-l _ _ f)
@@ -190,7 +190,7 @@ total-holds M N R r total s t h k q xs c ρ =
     (λ v l _ _ _ _ _. rw (below-in v variables l) refl) s t h k q in
     (λ p. at-t .0 (sym e ∙ at-s .1 p), λ p. at-s .0 (e ∙ at-t .1 p))
 
--- and so do bisimilar slots, for the largest bisimulation on one site is total
+-- bisimilar slots satisfy the same closed conditions without slot numbers, for the largest bisimulation on one site is total
 pub bisimilar-holds : (M : Model) (s t : ℕ) → s < slots → t < slots → Bisimilar M s t
     → (xs : List Node) → ClosedTable xs → (ρ : Env) → Holds M ρ (formOf xs) s ↔ Holds M ρ (formOf xs) t
 bisimilar-holds M s t h k a =

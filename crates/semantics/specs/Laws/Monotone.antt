@@ -61,7 +61,7 @@ module _ (M : Model) where
       (S, λ x k q. mono φ (put ρ v S) (put ρ′ v S) (under true φ v S ρ ρ′ up) (under false φ v S ρ′ ρ down) x k (p .1 x k q), p .2)
   mono (slot _) ρ ρ′ up down s h p = p
 
-  -- the set of a variable that stands under no odd number of nots may grow
+  -- a variable that never stands under an odd number of nots: its set may grow
   pub mono-put : (φ : Form) (ρ : Env) (v : ℕ) → occ false v φ ≡ false → (S S′ : Set) → S ⊆ S′
       → (s : ℕ) → s < slots → Holds M (put ρ v S) φ s → Holds M (put ρ v S′) φ s
   unfolding put

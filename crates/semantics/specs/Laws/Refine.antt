@@ -1,4 +1,4 @@
--- Refinement: slots of two sites that agree on what is said of them, then those whose neighbours cannot be told apart, round after round. On
+-- Refinement: slots of two sites that agree on presence, labels and names; of these, those whose neighbours cannot be told apart, round after round. On
 -- one site the relation is a bisimulation after as many rounds as there are slots.
 use mathlib.Core.Path.{_≡_, refl, sym, _∙_, ap, subst}
 use mathlib.Core.Logic.{_⊎_, inl, inr, _↔_, Iff·rfl}
@@ -48,7 +48,7 @@ unfolding covers
 covers-iff M N w E s t =
     every-iff slots (step M w s) (λ s′. any slots (λ t′. step N w t t′ && E s′ t′)) (λ s′ h. some-iff slots (step N w t) (E s′) (λ t′ k. Iff·rfl))
 
--- both ways round, by every way 0 to 15
+-- what the tests say both ways round, for every way 0 to 15
 abbrev Match : Model → Model → Rel → ℕ → ℕ → Type 0
 Match M N E s t = (w : Way) → Link w → Cover M N w E s t × Cover N M w (λ a b. E b a) t s
 
@@ -231,7 +231,7 @@ module _ (M : Model) where
   pub stable : Stable M M slots
   stable = stable-from slots (omega arith)
 
-  -- so any stable round is the largest bisimulation
+  -- what a stable round relates is the largest bisimulation
   pub stable-bisimilar : (k : ℕ) → Stable M M k → (s t : ℕ) → s < slots → t < slots → Bisimilar M s t ↔ (bisimilarIn k M M s t ≡ true)
   unfolding Bisimilar
   stable-bisimilar k c s t h j =
@@ -240,6 +240,6 @@ module _ (M : Model) where
   pub bisimilar-rounds : (s t : ℕ) → s < slots → t < slots → Bisimilar M s t ↔ (bisimilarIn slots M M s t ≡ true)
   bisimilar-rounds = stable-bisimilar slots stable
 
-  -- that a bisimulation be a Boolean relation loses nothing: one of any kind relates none but bisimilar slots
+  -- Boolean relations are enough: a bisimulation of any kind relates bisimilar slots alone
   pub bisimulation-bisimilar : (R : ℕ → ℕ → Type 0) → Bisimulation M M R → (s t : ℕ) → s < slots → t < slots → R s t → Bisimilar M s t
   bisimulation-bisimilar R r s t h j p = bisimilar-rounds s t h j .1 (bisimulation-rounds M M R r slots s t h j p)

@@ -18,7 +18,7 @@ use Rattle.semantics.specs.Block.{Block, old, size, root, emit, block, r
 use Rattle.semantics.specs.Laws.TreeAt.{length-snoc, trees-append, table-length, trees-old, Lower, node-kind, node-lower, fits-first, fits-rest}
 use Rattle.semantics.specs.Laws.Edits.{Legal, legal-out, goes-out, edit-valid}
 use Rattle.semantics.specs.Laws.Emit.{fits-append, emit-length, blockFits, emit-fits, fill, emit-tree, Evens, emit-even}
-use Rattle.semantics.specs.Laws.Image.{Image, root-last, Good, Kid, Kids, block-good}
+use Rattle.semantics.specs.Laws.Image.{Image, root-last, BlockRight, Kid, Kids, block-right}
 
 -- what holds after some nodes, which have the trees ts and became the nodes out: each has its image there, and the last node's is the last
 record Done (e : Edit) (ts : List Form) (images : List ℕ) (out : List Node) : Type 0 where
@@ -66,10 +66,10 @@ module _ (e : Edit) (l : Legal e) (ts : List Form) (images : List ℕ) (out : Li
   kids (unary k) h = kid (x .left) h
   kids (binary k) h = (kid (x .left) (h .0), kid (x .right) (h .1))
 
-  good : Good e os B (tree ts x)
+  is-right : BlockRight e os B (tree ts x)
   unfolding tree
-  good =
-      block-good e l os (length ts) x (kindOf (x .kind)) (node-kind _ x fit) _ _ _ _ (kids (kindOf (x .kind)) (node-lower _ x fit))
+  is-right =
+      block-right e l os (length ts) x (kindOf (x .kind)) (node-kind _ x fit) _ _ _ _ (kids (kindOf (x .kind)) (node-lower _ x fit))
 
   -- the trees after the block, whose number is that of the trees before it
   all-trees : trees [] (out ++ emit B b) ≡ trees os (emit B b)
@@ -79,17 +79,17 @@ module _ (e : Edit) (l : Legal e) (ts : List Form) (images : List ℕ) (out : Li
   new-image =
       subst (Image e (tree ts x))
       (sym (ap (λ us. getD us (root B b) top) all-trees
-      ∙ subst (λ (n : ℕ). getD (trees os (emit B n)) (root B n) top ≡ fill os B) (table-length out) (emit-tree B os (good .fits))))
-      (good .image)
+      ∙ subst (λ (n : ℕ). getD (trees os (emit B n)) (root B n) top ≡ fill os B) (table-length out) (emit-tree B os (is-right .fits))))
+      (is-right .image)
 
   next : Done e (ts ++ (tree ts x ∷ [])) (images ++ (root B b ∷ [])) (out ++ emit B b)
   next =
       let n = length ts in
       let lenT = length-snoc ts (tree ts x) in
       let lenO : length (out ++ emit B b) ≡ b + size B = simp length-append (omega (arith, emit-length B b)) in
-      let end = root-last B (good .made) b in
+      let end = root-last B (is-right .made) b in
       let own : getD (images ++ (root B b ∷ [])) n 0 ≡ root B b = getD-at images (root B b) [] 0 n (done .len) in
-      let at-b : blockFits b B ≡ true = subst (λ (m : ℕ). blockFits m B ≡ true) (table-length out) (good .fits) in
+      let at-b : blockFits b B ≡ true = subst (λ (m : ℕ). blockFits m B ≡ true) (table-length out) (is-right .fits) in
       record {
         len = simp length-append (omega (arith, done .len));
         at = λ i h. either (equal? i n)
@@ -107,7 +107,7 @@ module _ (e : Edit) (l : Legal e) (ts : List Form) (images : List ℕ) (out : Li
         fits = fits-append 0 out (emit B b) (done .fits) (subst (λ (m : ℕ). nodesFit m (emit B b) ≡ true) (omega arith) (emit-fits B b at-b));
         evens = λ h. subst Evens (sym all-trees)
             (subst (λ (m : ℕ). Evens (trees os (emit B m))) (table-length out)
-            (emit-even B os (good .fits) (done .evens (evens-first ts _ h)) (good .evens (evens-last ts _ h))));
+            (emit-even B os (is-right .fits) (done .evens (evens-first ts _ h)) (is-right .evens (evens-last ts _ h))));
       }
 
 all-done : (e : Edit) → Legal e → (xs : List Node) (ts : List Form) (images : List ℕ) (out : List Node)

@@ -122,27 +122,27 @@ blank = record { kind = 0; param = 0; left = 0; right = 0 }
 
 -- induction on node numbers: what passes from the children's trees to each node's tree holds of all trees of a table
 module _ (P : Form → Type 0) where
-  unfoldable pub Parts : Kind → Form → Form → Type 0
-  Parts (leaf k) φ ψ = Unit {0}
-  Parts (unary k) φ ψ = P φ
-  Parts (binary k) φ ψ = P φ × P ψ
+  unfoldable pub Subtrees : Kind → Form → Form → Type 0
+  Subtrees (leaf k) φ ψ = Unit {0}
+  Subtrees (unary k) φ ψ = P φ
+  Subtrees (binary k) φ ψ = P φ × P ψ
 
   module _ (xs : List Node) (fits : nodesFit 0 xs ≡ true)
       (passes : (i : ℕ) (x : Node) (k : Kind) (φ ψ : Form) → i < length xs → getD xs i blank ≡ x → kindOf (x .kind) ≡ k
-      → kindFits i x k ≡ true → treeAt xs i ≡ build k (x .param) φ ψ → Parts k φ ψ → P (build k (x .param) φ ψ)) where
-    parts : (n : ℕ) (x : Node) (k : Kind) → Lower n x k → ((j : ℕ) → j < n → P (treeAt xs j))
-        → Parts k (treeAt xs (x .left)) (treeAt xs (x .right))
-    unfolding Parts Lower
-    parts n x (leaf k) l h = tt
-    parts n x (unary k) l h = h _ l
-    parts n x (binary k) l h = (h _ (l .0), h _ (l .1))
+      → kindFits i x k ≡ true → treeAt xs i ≡ build k (x .param) φ ψ → Subtrees k φ ψ → P (build k (x .param) φ ψ)) where
+    subtrees : (n : ℕ) (x : Node) (k : Kind) → Lower n x k → ((j : ℕ) → j < n → P (treeAt xs j))
+        → Subtrees k (treeAt xs (x .left)) (treeAt xs (x .right))
+    unfolding Subtrees Lower
+    subtrees n x (leaf k) l h = tt
+    subtrees n x (unary k) l h = h _ l
+    subtrees n x (binary k) l h = (h _ (l .0), h _ (l .1))
 
     trees-to : (n i : ℕ) → i < n → i < length xs → P (treeAt xs i)
     trees-to zero i h k = absurd (omega arith)
     trees-to (suc n) i h k =
         let at = tree-at xs blank fits i k in
         let fit = node-kind i (getD xs i blank) (fits-at xs blank fits i k) in
-        rw at (passes i _ _ _ _ k refl refl fit at (parts i _ _ (fits-lower i _ _ fit) (λ j l. trees-to n j (omega arith) (omega arith))))
+        rw at (passes i _ _ _ _ k refl refl fit at (subtrees i _ _ (fits-lower i _ _ fit) (λ j l. trees-to n j (omega arith) (omega arith))))
 
     pub tree-ind : (i : ℕ) → i < length xs → P (treeAt xs i)
     tree-ind i h = trees-to (suc i) i (omega arith) h

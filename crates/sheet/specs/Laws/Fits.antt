@@ -49,7 +49,7 @@ unfolding editFits
 fits-bytes o x y z p =
     unused-bytes o x y z (below-out o 9 (and-l _ _ p)) (and-r (legal (readEdit o x y z)) _ (and-r (below o 9) _ p))
 
--- and a legal edit's bytes fit
+-- the bytes of a legal edit fit
 pub bytes-fit : (e : Edit) (s : List ℕ) → legal e ≡ true → fourAt editFits (editBytes e ++ s) 0 ≡ true
 unfolding editFits unusedZero operands readEdit editBytes below same
 bytes-fit (CN1 n1 n2) s p = rw p

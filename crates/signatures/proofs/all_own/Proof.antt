@@ -3,13 +3,13 @@ use mathlib.Core.Path.{_≡_, refl}
 use Prim.Native.Nat.{_+_, _-_, _*_, _≤_}
 use native.Mathlib.Omega.{arith}
 use Rattle.finite.specs.Tests.{same, all}
-use Rattle.partition.specs.Rows.{noOther, noOthers}
-use Rattle.partition.specs.Laws.Eight.{others-next}
+use Rattle.partition.specs.Rows.{noOtherInByte, noOtherInGroup}
+use Rattle.partition.specs.Laws.Puts.{others-next}
 use Rattle.signatures.proofs.all_own.Statement.{statement}
 use Rattle.signatures.proofs.all_own.Tie as tie
 
 abbrev Inv-loop : tie.InvT-loop
-Inv-loop rows own s g others₀ k₀ others k = (k ≤ 8) × (same others 0 ≡ all k (λ j. noOther rows own s (8 * g + j)))
+Inv-loop rows own s g others₀ k₀ others k = (k ≤ 8) × (same others 0 ≡ all k (λ j. noOtherInByte rows own s (8 * g + j)))
 
 abbrev μ-loop : tie.MeasureT-loop
 μ-loop rows own s g others₀ k₀ others k = 8 - k
@@ -43,12 +43,12 @@ loop-less : tie.Need-loop-less Inv-loop μ-loop
 loop-less c = omega arith
 
 loop-again : tie.Need-loop-again Inv-loop μ-loop
-unfolding noOther
+unfolding noOtherInByte
 loop-again c = let a = c .before .before .before .before .args in let l = c .before .before .before .loop in
-    (omega arith, others-next (λ j. noOther (a .rows .now) (a .own .now) (a .s) (8 * a .g + j)) (l .k) (l .others) _ (l .inv .1) refl)
+    (omega arith, others-next (λ j. noOtherInByte (a .rows .now) (a .own .now) (a .s) (8 * a .g + j)) (l .k) (l .others) _ (l .inv .1) refl)
 
 returns : tie.Need-returns Inv-loop μ-loop
-unfolding noOthers same
+unfolding noOtherInGroup same
 returns c = let e : c .before .loop .k ≡ 8 = omega arith in rw e at (c .before .loop .inv .1)
 
 pub all-own-spec : {M : Type 1} → statement M

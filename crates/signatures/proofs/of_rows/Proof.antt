@@ -1,4 +1,4 @@
--- Turn s puts in what row s does.
+-- Pass s puts in what row s does.
 use mathlib.Core.Path.{_≡_}
 use Prim.Native.Nat.{_-_, _≤_}
 use native.Mathlib.Omega.{arith}
@@ -8,14 +8,14 @@ use Rattle.finite.specs.Tests.{any}
 use Rattle.bitset.specs.Set.{setSlots}
 use Rattle.partition.specs.Gains.{Gains}
 use Rattle.site.specs.Layout.{rowsBytes}
-use Rattle.partition.specs.Rows.{part}
+use Rattle.partition.specs.Rows.{groupPuts}
 use Rattle.partition.specs.Laws.Gains.{gains-start, gains-more, gains-done}
 use Rattle.partition.specs.Laws.Rows.{signed}
 use Rattle.signatures.proofs.of_rows.Statement.{statement}
 use Rattle.signatures.proofs.of_rows.Tie as tie
 
 abbrev Inv-loop : tie.InvT-loop
-Inv-loop rows p own others sig₀ s₀ sig s = (s ≤ setSlots) × (length sig ≡ rowsBytes) × Gains (λ y. any s (λ k. any 4 (λ g. part rows p k g y))) (replicate rowsBytes 0) sig
+Inv-loop rows p own others sig₀ s₀ sig s = (s ≤ setSlots) × (length sig ≡ rowsBytes) × Gains (λ y. any s (λ k. any 4 (λ g. groupPuts rows p k g y))) (replicate rowsBytes 0) sig
 
 abbrev μ-loop : tie.MeasureT-loop
 μ-loop rows p own others sig₀ s₀ sig s = setSlots - s
@@ -30,7 +30,7 @@ other-classes-requires : tie.Need-other-classes-requires Inv-loop μ-loop
 other-classes-requires c κs = search needs
 
 loop-holds : tie.Need-loop-holds Inv-loop μ-loop
-loop-holds c = let a = c .before .before .before .before .before .args in (omega arith, omega arith, gains-start (λ k y. any 4 (λ g. part (a .rows .now) (a .p .now) k g y)) _)
+loop-holds c = let a = c .before .before .before .before .before .args in (omega arith, omega arith, gains-start (λ k y. any 4 (λ g. groupPuts (a .rows .now) (a .p .now) k g y)))
 
 slice-aggregate-put-row : tie.Need-slice-aggregate-put-row Inv-loop μ-loop
 slice-aggregate-put-row c = search needs
@@ -51,12 +51,14 @@ loop-less : tie.Need-loop-less Inv-loop μ-loop
 loop-less c = omega arith
 
 loop-again : tie.Need-loop-again Inv-loop μ-loop
-loop-again c = let a = c .before .before .before .before .before .before .before .before .before .before .before .before .args in let l = c .before .before .before .before .before .before .loop in
-    (omega arith, omega arith, gains-more (λ k y. any 4 (λ g. part (a .rows .now) (a .p .now) k g y)) (replicate rowsBytes 0) (l .sig) _ (l .s) (l .inv .2) (c .before .put-row .ensures))
+loop-again c =
+    let a = c .before .before .before .before .before .before .before .before .before .before .before .before .args in
+    let l = c .before .before .before .before .before .before .loop in
+    (omega arith, omega arith, gains-more (λ k y. any 4 (λ g. groupPuts (a .rows .now) (a .p .now) k g y)) (l .s) (l .inv .2) (c .before .put-row .ensures))
 
 returns : tie.Need-returns Inv-loop μ-loop
 returns c = let a = c .before .before .before .before .before .before .before .args in let l = c .before .loop in
-    signed (a .rows .now) (a .p .now) rowsBytes _ (λ k. omega (arith, c .before .before .before .before .before .shared-slice-known2 .given k)) (gains-done (λ k y. any 4 (λ g. part (a .rows .now) (a .p .now) k g y)) (replicate rowsBytes 0) (l .sig) setSlots (l .s) (l .inv .2) (omega arith) (omega arith))
+    signed (a .rows .now) (a .p .now) rowsBytes (λ k. omega (arith, c .before .before .before .before .before .shared-slice-known2 .given k)) (gains-done (λ k y. any 4 (λ g. groupPuts (a .rows .now) (a .p .now) k g y)) setSlots (l .s) (l .inv .2) (omega arith) (omega arith))
 
 pub of-rows-spec : {M : Type 1} → statement M
 of-rows-spec =

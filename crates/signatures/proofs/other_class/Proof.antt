@@ -11,14 +11,14 @@ some-other-requires c κs = search needs
 shared-slice-read-c : tie.Need-shared-slice-read-c
 shared-slice-read-c c = omega arith
 
-part-others-in-requires : tie.Need-part-others-in-requires
-part-others-in-requires c κs = search needs
+group-others-in-class-requires : tie.Need-group-others-in-class-requires
+group-others-in-class-requires c κs = search needs
 
 number-requires : tie.Need-number-requires
 number-requires c κs = search needs
 
 returns : tie.Need-returns
-returns c = λ l. rw (c .number .ensures) (sym (c .before .before .part-others-in .ensures) ∙ c .before .if1 .taken)
+returns c = λ l. rw (c .number .ensures) (sym (c .before .before .group-others-in-class .ensures) ∙ c .before .if1 .taken)
 
 returns-2 : tie.Need-returns-2
 returns-2 c = λ l. absurd (omega arith)
@@ -29,7 +29,7 @@ other-class-spec =
     (tie.spec
     some-other-requires
     shared-slice-read-c
-    part-others-in-requires
+    group-others-in-class-requires
     number-requires
     returns
     returns-2)

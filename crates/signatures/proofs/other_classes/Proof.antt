@@ -1,16 +1,16 @@
--- The groups below g are looked at.
+-- The groups below g have their classes.
 use Prim.Native.Nat.{_-_, _≤_}
 use mathlib.Core.Path.{_≡_}
 use native.Mathlib.Omega.{arith}
 use borrow.Author.Needs.{needs}
 use lib.ListN.{length, length-set}
-use Rattle.partition.specs.Rows.{OthersIn}
-use Rattle.partition.specs.Laws.Eight.{others-more}
+use Rattle.partition.specs.Rows.{ClassOfOthers}
+use Rattle.partition.specs.Laws.Puts.{others-more}
 use Rattle.signatures.proofs.other_classes.Statement.{statement}
 use Rattle.signatures.proofs.other_classes.Tie as tie
 
 abbrev Inv-loop : tie.InvT-loop
-Inv-loop p own classes₀ g₀ classes g = (g ≤ 4) × (length classes ≡ 4) × OthersIn p own classes g
+Inv-loop p own classes₀ g₀ classes g = (g ≤ 4) × (length classes ≡ 4) × ClassOfOthers p own classes g
 
 abbrev μ-loop : tie.MeasureT-loop
 μ-loop p own classes₀ g₀ classes g = 4 - g

@@ -1,4 +1,4 @@
--- Turn t puts slot t in, where it has its own number.
+-- Pass t puts slot t in if it has its own number.
 use mathlib.Core.Path.{_≡_}
 use Prim.Native.Nat.{_-_, _≤_}
 use native.Mathlib.Omega.{arith}
@@ -10,7 +10,7 @@ use Rattle.bitset.specs.Set.{setBytes, setSlots}
 use Rattle.partition.specs.Gains.{Gains}
 use Rattle.partition.specs.Rows.{owns}
 use Rattle.partition.specs.Laws.Gains.{gains-start, gains-more, gains-done}
-use Rattle.partition.specs.Laws.Eight.{own-set}
+use Rattle.partition.specs.Laws.Puts.{own-set}
 use Rattle.signatures.proofs.own_slots.Statement.{statement}
 use Rattle.signatures.proofs.own_slots.Tie as tie
 
@@ -21,7 +21,7 @@ abbrev μ-loop : tie.MeasureT-loop
 μ-loop p set₀ t₀ set t = setSlots - t
 
 loop-holds : tie.Need-loop-holds Inv-loop μ-loop
-loop-holds c = let a = c .before .args in (omega arith, omega arith, gains-start (λ k y. owns (a .p .now) k && same y k) _)
+loop-holds c = let a = c .before .args in (omega arith, omega arith, gains-start (λ k y. owns (a .p .now) k && same y k))
 
 slice-aggregate-put-own : tie.Need-slice-aggregate-put-own Inv-loop μ-loop
 slice-aggregate-put-own c = search needs
@@ -37,11 +37,11 @@ loop-less c = omega arith
 
 loop-again : tie.Need-loop-again Inv-loop μ-loop
 loop-again c = let a = c .before .before .before .before .before .before .args in let l = c .before .before .before .before .loop in
-    (omega arith, omega arith, gains-more (λ k y. owns (a .p .now) k && same y k) (replicate setBytes 0) (l .set) _ (l .t) (l .inv .2) (c .before .put-own .ensures))
+    (omega arith, omega arith, gains-more (λ k y. owns (a .p .now) k && same y k) (l .t) (l .inv .2) (c .before .put-own .ensures))
 
 returns : tie.Need-returns Inv-loop μ-loop
 returns c = let a = c .before .before .before .args in let l = c .before .loop in
-    own-set (a .p .now) setBytes _ (gains-done (λ k y. owns (a .p .now) k && same y k) (replicate setBytes 0) (l .set) setSlots (l .t) (l .inv .2) (omega arith) (omega arith))
+    own-set (a .p .now) setBytes (gains-done (λ k y. owns (a .p .now) k && same y k) setSlots (l .t) (l .inv .2) (omega arith) (omega arith))
 
 pub own-slots-spec : {M : Type 1} → statement M
 own-slots-spec =

@@ -4,8 +4,8 @@ use native.Mathlib.Omega.{arith}
 use borrow.Author.Needs.{needs}
 use lib.ListN.{length-set}
 use Rattle.finite.specs.Laws.Below.{eq-same}
-use Rattle.partition.specs.Rows.{noOther}
-use Rattle.partition.specs.Laws.Eight.{own-puts, own-only, own-all}
+use Rattle.partition.specs.Rows.{noOtherInByte}
+use Rattle.partition.specs.Laws.Puts.{own-byte-puts, byte-own, byte-all}
 use Rattle.signatures.proofs.put_byte.Statement.{statement}
 use Rattle.signatures.proofs.put_byte.Tie as tie
 
@@ -37,9 +37,12 @@ same-length : tie.Need-same-length
 same-length c = search needs
 
 returns : tie.Need-returns
-unfolding noOther
-returns c = let s = c .before .before .before .before .before .before .before .before .before .before in let a = s .args in
-    own-only (a .rows .now) (a .p .now) (a .s) (a .i) (a .own .now) (s .pre .1) (omega arith) (omega (arith, c .before .before .before .before .before .before .before .before .before .shared-slice-known .given (32 * a .s + a .i))) (omega (arith, c .before .before .before .before .before .before .before .shared-slice-known3 .given (a .i))) (a .sig .now) _ (eq-same (c .if1 .taken)) (own-puts (a .rows .now) (a .p .now) (a .s) (a .i) (a .own .now) (s .pre .1) (omega arith) (a .sig .now) (omega arith))
+unfolding noOtherInByte
+returns c =
+    let s = c .before .before .before .before .before .before .before .before .before .before in
+    let a = s .args in
+    let row-bytes = c .before .before .before .before .before .before .before .before .before .shared-slice-known in
+    byte-own (a .rows .now) (a .p .now) (a .s) (a .i) (a .own .now) (s .pre .1) (omega arith) (omega (arith, row-bytes .given (32 * a .s + a .i))) (omega (arith, c .before .before .before .before .before .before .before .shared-slice-known3 .given (a .i))) (eq-same (c .if1 .taken)) (own-byte-puts (a .rows .now) (a .p .now) (a .s) (a .i) (a .own .now) (s .pre .1) (omega arith) (omega arith))
 
 put-slots-requires : tie.Need-put-slots-requires
 put-slots-requires c κs = simp length-set (omega arith)
@@ -48,8 +51,12 @@ same-length-2 : tie.Need-same-length-2
 same-length-2 c = omega (arith, simp length-set at (c .before .before .put-slots .ensures .long))
 
 returns-2 : tie.Need-returns-2
-returns-2 c = let s = c .before .before .before .before .before .before .before .before .before .before .before .before .before .before in let a = s .args in
-    own-all (a .rows .now) (a .p .now) (a .s) (a .i) (a .own .now) (s .pre .1) (omega arith) (omega (arith, c .before .before .before .before .before .before .before .before .before .before .before .before .before .shared-slice-known .given (32 * a .s + a .i))) (omega (arith, c .before .before .before .before .before .before .before .before .before .before .before .shared-slice-known3 .given (a .i))) (a .sig .now) _ _ (own-puts (a .rows .now) (a .p .now) (a .s) (a .i) (a .own .now) (s .pre .1) (omega arith) (a .sig .now) (omega arith)) (c .before .before .put-slots .ensures)
+returns-2 c =
+    let s = c .before .before .before .before .before .before .before .before .before .before .before .before .before .before in
+    let a = s .args in
+    let row-bytes = c .before .before .before .before .before .before .before .before .before .before .before .before .before .shared-slice-known in
+    let own-bytes = c .before .before .before .before .before .before .before .before .before .before .before .shared-slice-known3 in
+    byte-all (a .rows .now) (a .p .now) (a .s) (a .i) (a .own .now) (s .pre .1) (omega arith) (omega (arith, row-bytes .given (32 * a .s + a .i))) (omega (arith, own-bytes .given (a .i))) (own-byte-puts (a .rows .now) (a .p .now) (a .s) (a .i) (a .own .now) (s .pre .1) (omega arith) (omega arith)) (c .before .before .put-slots .ensures)
 
 pub put-byte-spec : {M : Type 1} → statement M
 put-byte-spec =

@@ -16,7 +16,7 @@ wide-requires c κs = search needs
 
 returns : tie.Need-returns
 unfolding owns
-returns c = gains-skip-if _ _ (c .before .before .before .before .before .args .t) (ne-same (λ e. c .if1 .taken (c .before .wide .ensures .0 ∙ e)))
+returns c = gains-skip-if (c .before .before .before .before .before .args .t) (ne-same (λ e. c .if1 .taken (c .before .wide .ensures .0 ∙ e)))
 
 insert-requires : tie.Need-insert-requires
 insert-requires c κs = omega arith
@@ -26,7 +26,9 @@ same-length c = omega arith
 
 returns-2 : tie.Need-returns-2
 unfolding owns
-returns-2 c = gains-put-if _ _ _ (c .before .before .before .before .before .before .before .before .before .args .t) (eq-same (sym (c .before .before .before .before .before .wide .ensures .0) ∙ c .before .before .before .before .if1 .left)) (c .before .before .insert .ensures) (omega arith)
+returns-2 c =
+    let start = c .before .before .before .before .before .before .before .before .before in
+    gains-put-if (start .args .t) (eq-same (sym (c .before .before .before .before .before .wide .ensures .0) ∙ c .before .before .before .before .if1 .left)) (c .before .before .insert .ensures) (omega arith)
 
 pub put-own-spec : {M : Type 1} → statement M
 put-own-spec =

@@ -3,7 +3,7 @@ use mathlib.Core.Path.{sym, _∙_}
 use native.Mathlib.Omega.{arith}
 use borrow.Author.Needs.{needs}
 use borrow.Author.Tests.{not-true, not-false}
-use Rattle.partition.specs.Laws.Eight.{turn-skips, turn-puts}
+use Rattle.partition.specs.Laws.Puts.{slot-skips, slot-puts}
 use Rattle.signatures.proofs.put_slot.Statement.{statement}
 use Rattle.signatures.proofs.put_slot.Tie as tie
 
@@ -17,7 +17,7 @@ member-requires : tie.Need-member-requires
 member-requires c κs = omega arith
 
 returns : tie.Need-returns
-returns c = let a = c .before .before .before .before .before .args in turn-skips (a .rows .now) (a .p .now) (a .s) (a .t) _ (sym (c .before .member .ensures) ∙ not-true _ (c .if1 .taken))
+returns c = let a = c .before .before .before .before .before .args in slot-skips (a .rows .now) (a .p .now) (a .s) (a .t) (sym (c .before .member .ensures) ∙ not-true _ (c .if1 .taken))
 
 mul-insert : tie.Need-mul-insert
 mul-insert c = omega arith
@@ -38,8 +38,9 @@ same-length : tie.Need-same-length
 same-length c = omega arith
 
 returns-2 : tie.Need-returns-2
-returns-2 c = let a = c .before .before .before .before .before .before .before .before .before .before .before .args in
-    turn-puts (a .rows .now) (a .p .now) (a .s) (a .t) _ _ _ (c .before .before .before .wide .ensures .0) (sym (c .before .before .before .before .before .before .before .member .ensures) ∙ not-false _ (c .before .before .before .before .before .before .if1 .left)) (c .before .before .insert .ensures) (omega arith)
+returns-2 c =
+    let a = c .before .before .before .before .before .before .before .before .before .before .before .args in
+    slot-puts (a .rows .now) (a .p .now) (a .s) (a .t) _ (c .before .before .before .wide .ensures .0) (sym (c .before .before .before .before .before .before .before .member .ensures) ∙ not-false _ (c .before .before .before .before .before .before .if1 .left)) (c .before .before .insert .ensures) (omega arith)
 
 pub put-slot-spec : {M : Type 1} → statement M
 put-slot-spec =

@@ -1,4 +1,4 @@
--- Any of the 64 slots does.
+-- The contract asks for some slot alone: any of the 64 will do.
 use Prim.Native.Nat.{_-_, _≤_}
 use native.Mathlib.Omega.{arith}
 use Rattle.signatures.proofs.some_other.Statement.{statement}

@@ -1,4 +1,4 @@
--- By whether s is in `ends`.
+-- By cases: s is in `ends`, or it is not and its row has to be empty.
 use mathlib.Core.Path.{sym, _∙_}
 use borrow.Author.Needs.{needs}
 use Rattle.site.specs.Laws.Fits.{row-none}

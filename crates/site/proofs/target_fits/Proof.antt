@@ -1,4 +1,4 @@
--- By the three tests.
+-- By the three tests: no target, s in `ends`, and t in `ends`.
 use mathlib.Core.Path.{sym, _∙_}
 use native.Mathlib.Omega.{arith}
 use borrow.Author.Tests.{not-true, not-false}

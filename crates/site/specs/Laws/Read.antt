@@ -60,7 +60,7 @@ module _ (S : List ℕ) where
   unfolding linked
   target-is f s t hg hl hs ht = link-is f s t hs ht ∙ rw (below-not f generalLinks hg, functional-in f hg hl)
 
-  -- the same by the target v that was read
+  -- a functional link by the target v that was read
   pub target-read : (f s : ℕ) → generalLinks ≤ f → f < links → s < setSlots → (v : ℕ) → v ≡ getD S (targetAt f s) 0
       → (t : ℕ) → t < setSlots → siteOf S .link f s t ≡ (same v t && not (same t 0))
   unfolding slots

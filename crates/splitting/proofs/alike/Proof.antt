@@ -1,10 +1,10 @@
--- By the classes, and then by the rows as parts of the bytes.
+-- By the classes, and then by the bytes of the rows.
 use mathlib.Core.Path.{sym}
 use Prim.Native.Nat.{_+_, _*_, _-_}
 use native.Mathlib.Omega.{arith}
 use borrow.Author.Needs.{needs}
 use Rattle.bitset.specs.Set.{setBytes}
-use Rattle.partition.specs.Laws.Rows.{by-apart, by-parts}
+use Rattle.partition.specs.Laws.Rows.{by-apart, by-row-bytes}
 use Rattle.splitting.proofs.alike.Statement.{statement}
 use Rattle.splitting.proofs.alike.Tie as tie
 
@@ -52,7 +52,7 @@ equal-requires c κs = search needs
 
 returns-2 : tie.Need-returns-2
 returns-2 c = let a = c .before .before .before .before .before .before .before .before .args in
-    by-parts (a .q .now) (a .rows .now) (a .s) (a .t) (setBytes * a .s + setBytes - setBytes * a .s) (setBytes * a .t + setBytes - setBytes * a .t) _ (omega arith) (omega arith) (omega arith) (λ k. omega (arith, c .before .before .before .before .before .before .shared-slice-known2 .given k)) (omega arith) (omega arith) (c .before .before .before .if1 .left) (c .equal .ensures)
+    by-row-bytes (a .q .now) (a .rows .now) (a .s) (a .t) (setBytes * a .s + setBytes - setBytes * a .s) (setBytes * a .t + setBytes - setBytes * a .t) _ (omega arith) (omega arith) (omega arith) (λ k. omega (arith, c .before .before .before .before .before .before .shared-slice-known2 .given k)) (omega arith) (omega arith) (c .before .before .before .if1 .left) (c .equal .ensures)
 
 pub alike-spec : {M : Type 1} → statement M
 alike-spec =

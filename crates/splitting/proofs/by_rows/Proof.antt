@@ -8,8 +8,8 @@ use borrow.Author.Count.{below-none}
 use Rattle.finite.specs.Tests.{first}
 use Rattle.bitset.specs.Set.{setSlots}
 use Rattle.partition.specs.Partition.{byRow}
-use Rattle.partition.specs.Laws.Parts.{put-more}
-use Rattle.partition.specs.Laws.Rows.{rows-part}
+use Rattle.partition.specs.Laws.Partitions.{put-more}
+use Rattle.partition.specs.Laws.Rows.{rows-partition}
 use Rattle.splitting.proofs.by_rows.Statement.{statement}
 use Rattle.splitting.proofs.by_rows.Tie as tie
 
@@ -39,7 +39,7 @@ loop-again c = let a = c .before .before .before .before .before .args in let l 
     (omega arith, simp length-set (omega arith), put-more (λ (k v : ℕ). v ≡ first setSlots (byRow (a .q .now) (a .rows .now) k)) (l .r) (l .s) _ (omega arith) (l .inv .2) (c .first-alike .ensures))
 
 returns : tie.Need-returns Inv-loop μ-loop
-returns c = let a = c .before .before .before .before .args in rows-part (a .q .now) (a .rows .now) _ (λ s h. c .before .loop .inv .2 s (omega arith))
+returns c = let a = c .before .before .before .before .args in rows-partition (a .q .now) (a .rows .now) _ (λ s h. c .before .loop .inv .2 s (omega arith))
 
 pub by-rows-spec : {M : Type 1} → statement M
 by-rows-spec =

@@ -8,7 +8,7 @@ use Rattle.finite.specs.Tests.{any}
 use Rattle.finite.specs.Laws.First.{first-is, none-more}
 use Rattle.bitset.specs.Set.{setSlots}
 use Rattle.partition.specs.Partition.{byRow}
-use Rattle.partition.specs.Laws.Parts.{number-le, number-low}
+use Rattle.partition.specs.Laws.Partitions.{number-le, number-low}
 use Rattle.partition.specs.Laws.Rows.{by-refl}
 use Rattle.splitting.proofs.first_alike.Statement.{statement}
 use Rattle.splitting.proofs.first_alike.Tie as tie

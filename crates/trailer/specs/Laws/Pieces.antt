@@ -48,7 +48,7 @@ pub piece-is : (a e : ℕ) (file : List ℕ) → item2 file ≡ false → pieceI
 unfolding pieceIn
 piece-is a e file p = rw p
 
--- ---- the places that the trailer is read as
+-- ---- the positions that the trailer is read as
 
 pub cut-none : (file : List ℕ) → item2 file ≡ true → Cut file true 0 0 0
 unfolding siteIn conditionIn sheetIn

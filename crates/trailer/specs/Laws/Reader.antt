@@ -106,11 +106,11 @@ module _ (s c h : List ℕ) (fits : length s + length c + length h ≤ fileLimit
     site-last = site-back ∙ sym front-length ∙ sym trailer-at;
   }
 
-  -- it is accepted, and its pieces are those that it was made of
+  -- the file is accepted, and its pieces are those that it was made of
   pub file-accepted : trailerVerdict (fileOf s c h) ≡ Accepted
   file-accepted = laid-accepted (fileOf s c h) file-laid
 
-  -- the part between two places, from what stands there
+  -- the part between two positions, from what stands there
   read : (p q r : List ℕ) (a e : ℕ) → fileOf s c h ≡ p ++ (q ++ r) → length p ≡ a → a + length q ≡ e → pieceIn a e (fileOf s c h) ≡ q
   read p q r a e there from to =
       let size : length q ≡ e - a = omega arith in

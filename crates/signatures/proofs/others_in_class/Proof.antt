@@ -1,4 +1,4 @@
--- The slots before 8 * i + j fit.
+-- The slots of byte i before 8 * i + j are in `own` or in class c.
 use mathlib.Core.Path.{_≡_, sym, _∙_}
 use Prim.Native.Nat.{_+_, _*_, _-_, _≤_}
 use native.Mathlib.Omega.{arith}
@@ -9,9 +9,9 @@ use borrow.Author.Tests.{not-true, not-false}
 use Rattle.finite.specs.Tests.{same, all}
 use Rattle.finite.specs.Laws.Loops.{all-none, all-more, all-done, all-not}
 use Rattle.bitset.specs.Set.{has}
-use Rattle.partition.specs.Rows.{othersIn}
-use Rattle.signatures.proofs.others_in.Statement.{statement}
-use Rattle.signatures.proofs.others_in.Tie as tie
+use Rattle.partition.specs.Rows.{othersInClass}
+use Rattle.signatures.proofs.others_in_class.Statement.{statement}
+use Rattle.signatures.proofs.others_in_class.Tie as tie
 
 abbrev Inv-loop : tie.InvT-loop
 Inv-loop p own i c j₀ j = (j ≤ 8) × (all j (λ k. has own (8 * i + k) || same (getD p (8 * i + k) 0) c) ≡ true)
@@ -22,18 +22,18 @@ abbrev μ-loop : tie.MeasureT-loop
 loop-holds : tie.Need-loop-holds Inv-loop μ-loop
 loop-holds c = (omega arith, all-none _)
 
-mul-fits : tie.Need-mul-fits Inv-loop μ-loop
-mul-fits c = omega arith
+mul-own-or-in-class : tie.Need-mul-own-or-in-class Inv-loop μ-loop
+mul-own-or-in-class c = omega arith
 
-add-fits : tie.Need-add-fits Inv-loop μ-loop
-add-fits c = omega arith
+add-own-or-in-class : tie.Need-add-own-or-in-class Inv-loop μ-loop
+add-own-or-in-class c = omega arith
 
-fits-requires : tie.Need-fits-requires Inv-loop μ-loop
-fits-requires c κs = search needs
+own-or-in-class-requires : tie.Need-own-or-in-class-requires Inv-loop μ-loop
+own-or-in-class-requires c κs = search needs
 
 returns : tie.Need-returns Inv-loop μ-loop
-unfolding othersIn
-returns c = sym (all-not 8 _ (c .before .before .before .loop .j) (omega arith) (sym (c .before .fits2 .ensures) ∙ not-true _ (c .if1 .taken)))
+unfolding othersInClass
+returns c = sym (all-not 8 _ (c .before .before .before .loop .j) (omega arith) (sym (c .before .own-or-in-class .ensures) ∙ not-true _ (c .if1 .taken)))
 
 add-j : tie.Need-add-j Inv-loop μ-loop
 add-j c = omega arith
@@ -42,22 +42,22 @@ loop-less : tie.Need-loop-less Inv-loop μ-loop
 loop-less c = omega arith
 
 loop-again : tie.Need-loop-again Inv-loop μ-loop
-loop-again c = (omega arith, all-more _ (c .before .before .before .loop .j) (c .before .before .before .loop .inv .1) (sym (c .before .fits2 .ensures) ∙ not-false _ (c .if1 .left)))
+loop-again c = (omega arith, all-more _ (c .before .before .before .loop .j) (c .before .before .before .loop .inv .1) (sym (c .before .own-or-in-class .ensures) ∙ not-false _ (c .if1 .left)))
 
 returns-2 : tie.Need-returns-2 Inv-loop μ-loop
-unfolding othersIn
+unfolding othersInClass
 returns-2 c = sym (all-done 8 _ (c .before .loop .j) (c .before .loop .inv .1) (omega arith) (omega arith))
 
-pub others-in-spec : {M : Type 1} → statement M
-others-in-spec =
+pub others-in-class-spec : {M : Type 1} → statement M
+others-in-class-spec =
     tie.close
     (tie.spec
     Inv-loop
     μ-loop
     loop-holds
-    mul-fits
-    add-fits
-    fits-requires
+    mul-own-or-in-class
+    add-own-or-in-class
+    own-or-in-class-requires
     returns
     add-j
     loop-less

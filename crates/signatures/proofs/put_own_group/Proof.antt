@@ -1,4 +1,4 @@
--- Turn k puts in what byte 8 * g + k of row s does by the slots of `own`.
+-- Pass k puts in what the slots of `own` in byte 8 * g + k of row s do.
 use mathlib.Core.Path.{_≡_}
 use Prim.Native.Nat.{_+_, _*_, _-_, _≤_}
 use native.Mathlib.Omega.{arith}
@@ -6,20 +6,20 @@ use lib.ListN.{length, length-set}
 use Rattle.finite.specs.Tests.{any}
 use Rattle.site.specs.Layout.{rowsBytes}
 use Rattle.partition.specs.Gains.{Gains}
-use Rattle.partition.specs.Rows.{ownEight, ownPart}
+use Rattle.partition.specs.Rows.{ownBytePuts, ownGroupPuts}
 use Rattle.partition.specs.Laws.Gains.{gains-start, gains-more, gains-done}
-use Rattle.partition.specs.Laws.Eight.{own-puts}
-use Rattle.signatures.proofs.put_own_eight.Statement.{statement}
-use Rattle.signatures.proofs.put_own_eight.Tie as tie
+use Rattle.partition.specs.Laws.Puts.{own-byte-puts}
+use Rattle.signatures.proofs.put_own_group.Statement.{statement}
+use Rattle.signatures.proofs.put_own_group.Tie as tie
 
 abbrev Inv-loop : tie.InvT-loop
-Inv-loop rows p own s g sig₀ k₀ sig k = (k ≤ 8) × (length sig ≡ rowsBytes) × Gains (λ y. any k (λ j. ownEight rows p own s (8 * g + j) y)) sig₀ sig
+Inv-loop rows p own s g sig₀ k₀ sig k = (k ≤ 8) × (length sig ≡ rowsBytes) × Gains (λ y. any k (λ j. ownBytePuts rows p own s (8 * g + j) y)) sig₀ sig
 
 abbrev μ-loop : tie.MeasureT-loop
 μ-loop rows p own s g sig₀ k₀ sig k = 8 - k
 
 loop-holds : tie.Need-loop-holds Inv-loop μ-loop
-loop-holds c = let a = c .args in (omega arith, omega arith, gains-start (λ k. ownEight (a .rows .now) (a .p .now) (a .own .now) (a .s) (8 * a .g + k)) _)
+loop-holds c = let a = c .args in (omega arith, omega arith, gains-start (λ k. ownBytePuts (a .rows .now) (a .p .now) (a .own .now) (a .s) (8 * a .g + k)))
 
 mul-i : tie.Need-mul-i Inv-loop μ-loop
 mul-i c = omega arith
@@ -53,18 +53,18 @@ loop-less c = omega arith
 
 loop-again : tie.Need-loop-again Inv-loop μ-loop
 loop-again c = let s = c .before .before .before .before .before in let a = s .args in let l = c .before .before .before .before .loop in
-    (omega arith, simp length-set (l .inv .1), gains-more (λ k. ownEight (a .rows .now) (a .p .now) (a .own .now) (a .s) (8 * a .g + k)) (a .sig .now) (l .sig) _ (l .k) (l .inv .2) (own-puts (a .rows .now) (a .p .now) (a .s) (8 * a .g + l .k) (a .own .now) (s .pre .1) (omega arith) (l .sig) (omega arith)))
+    (omega arith, simp length-set (l .inv .1), gains-more (λ k. ownBytePuts (a .rows .now) (a .p .now) (a .own .now) (a .s) (8 * a .g + k)) (l .k) (l .inv .2) (own-byte-puts (a .rows .now) (a .p .now) (a .s) (8 * a .g + l .k) (a .own .now) (s .pre .1) (omega arith) (omega arith)))
 
 same-length : tie.Need-same-length Inv-loop μ-loop
 same-length c = omega arith
 
 returns : tie.Need-returns Inv-loop μ-loop
-unfolding ownPart
+unfolding ownGroupPuts
 returns c = let a = c .before .before .args in let l = c .before .loop in
-    gains-done (λ k. ownEight (a .rows .now) (a .p .now) (a .own .now) (a .s) (8 * a .g + k)) (a .sig .now) (l .sig) 8 (l .k) (l .inv .2) (omega arith) (omega arith)
+    gains-done (λ k. ownBytePuts (a .rows .now) (a .p .now) (a .own .now) (a .s) (8 * a .g + k)) 8 (l .k) (l .inv .2) (omega arith) (omega arith)
 
-pub put-own-eight-spec : {M : Type 1} → statement M
-put-own-eight-spec =
+pub put-own-group-spec : {M : Type 1} → statement M
+put-own-group-spec =
     tie.close
     (tie.spec
     Inv-loop

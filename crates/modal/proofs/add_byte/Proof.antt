@@ -1,4 +1,4 @@
--- Turn j puts in the targets of slot i * 8 + j where it is in the set.
+-- Pass j adds the targets of slot i * 8 + j if it is in the set.
 use mathlib.Core.Path.{_≡_}
 use mathlib.Core.Bool.{_&&_}
 use Prim.Native.Nat.{_+_, _*_, _-_, _≤_}
@@ -6,9 +6,9 @@ use native.Mathlib.Omega.{arith}
 use lib.ListN.{length}
 use Rattle.bitset.specs.Set.{setBytes, has}
 use Rattle.site.specs.Site.{siteOf}
-use Rattle.modal.specs.Laws.Gather.{Adds, adds-none, adds-more, slot-left, eight-done}
-use Rattle.modal.proofs.add_eight.Statement.{statement}
-use Rattle.modal.proofs.add_eight.Tie as tie
+use Rattle.modal.specs.Laws.Gather.{Adds, adds-none, adds-more, slot-left, byte-done}
+use Rattle.modal.proofs.add_byte.Statement.{statement}
+use Rattle.modal.proofs.add_byte.Tie as tie
 
 abbrev Inv-loop : tie.InvT-loop
 Inv-loop site m i set found₀ byte j₀ found j =
@@ -46,7 +46,9 @@ loop-less : tie.Need-loop-less Inv-loop μ-loop
 loop-less c = omega (arith, slot-left (c .before .before .before .before .before .before .wide .result) (c .before .before .before .before .before .loop .j) (omega arith) (omega arith) (c .before .before .before .before .loop-test .taken))
 
 loop-again : tie.Need-loop-again Inv-loop μ-loop
-loop-again c = let a = c .before .before .before .before .before .before .before .before .before .before .before .args in let l = c .before .before .before .before .before .loop in
+loop-again c =
+    let a = c .before .before .before .before .before .before .before .before .before .before .before .args in
+    let l = c .before .before .before .before .before .loop in
     (omega (arith, slot-left (c .before .before .before .before .before .before .wide .result) (c .before .before .before .before .before .loop .j) (omega arith) (omega arith) (c .before .before .before .before .loop-test .taken)), omega arith, adds-more (λ k s. siteOf (a .site .now) .link (a .m) (a .i * 8 + k) s && has (a .set .now) (a .i * 8 + k)) (a .found .now) (l .found) _ (l .j) (l .inv .2) (c .before .before .add-targets-from .ensures))
 
 same-length : tie.Need-same-length Inv-loop μ-loop
@@ -54,10 +56,10 @@ same-length c = omega arith
 
 returns : tie.Need-returns Inv-loop μ-loop
 returns c = let a = c .before .before .before .before .before .before .before .args in let l = c .before .loop in
-    eight-done (siteOf (a .site .now) .link (a .m)) (a .set .now) (a .found .now) (l .found) (a .i) _ (l .j) (c .before .before .wide .ensures .0) (l .inv .2) (omega arith) (c .loop-test .left)
+    byte-done (siteOf (a .site .now) .link (a .m)) (a .set .now) (a .found .now) (l .found) (a .i) _ (l .j) (c .before .before .wide .ensures .0) (l .inv .2) (omega arith) (c .loop-test .left)
 
-pub add-eight-spec : {M : Type 1} → statement M
-add-eight-spec =
+pub add-byte-spec : {M : Type 1} → statement M
+add-byte-spec =
     tie.close
     (tie.spec
     Inv-loop

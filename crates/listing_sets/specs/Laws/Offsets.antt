@@ -1,4 +1,4 @@
--- A set at its place in a buffer: the part that is lent, and the buffer once the part has come back.
+-- A set in a buffer: the part that is lent, and the buffer once the part has come back.
 use mathlib.Core.Path.{_≡_, refl, _∙_, ap}
 use mathlib.Core.Logic.{_≢_}
 use mathlib.Core.List.{List}
@@ -15,7 +15,7 @@ use Rattle.bitset.specs.Laws.Part.{has-part, back, back-below, back-above, back
 use Rattle.limits.specs.Limits.{slots}
 use Rattle.semantics.specs.Holds.{Set}
 use Rattle.semantics.specs.Laws.Agree.{_≐_}
-use Rattle.listing_sets.specs.Places.{setAt, Written, Cleared}
+use Rattle.listing_sets.specs.Offsets.{setAt, SetWritten, Cleared}
 
 pub slot-in : {s : ℕ} → s < slots → s < setSlots
 unfolding slots
@@ -35,7 +35,7 @@ module _ (b : List ℕ) (j : ℕ) where
     size : length ys ≡ span j
     size = l ∙ length-take-le (span j) (drop (setBytes * j) b) (omega (arith, length-drop (setBytes * j) b))
 
-    -- a byte of another place
+    -- a byte of another set
     other : (i : ℕ) → i ≢ j → (n : ℕ) → setBytes * i ≤ n → n < setBytes * i + setBytes → getD (back b ys (setBytes * j) (span j)) n 0 ≡ getD b n 0
     other i ne n h g =
         either
@@ -43,9 +43,9 @@ module _ (b : List ℕ) (j : ℕ) where
         (λ q. let w = below-out i j q in back-below b ys (setBytes * j) (span j) (omega arith) size n (omega arith))
         (λ q. let w = not-below i j q in back-above b ys (setBytes * j) (span j) (omega arith) size n (omega arith))
 
-    pub written : (S : Set) → has ys ≐ S → Written b (back b ys (setBytes * j) (span j)) j S
+    pub set-written : (S : Set) → has ys ≐ S → SetWritten b (back b ys (setBytes * j) (span j)) j S
     unfolding slots setAt has
-    written S h =
+    set-written S h =
         record {
           here = λ s l.
               ap (has (back b ys (setBytes * j) (span j))) (let q : setSlots * j + s ≡ setBytes * j * 8 + s = omega arith in q)
@@ -55,7 +55,7 @@ module _ (b : List ℕ) (j : ℕ) where
               ap (λ (x : ℕ). bit x ((setSlots * i + s) % 8)) (other i ne ((setSlots * i + s) / 8) (omega arith) (omega arith));
         }
 
--- the flags of the first j nodes are done: at the start, and after a node in which the variable is free, and one in which it is not
+-- the flags of the first j nodes are done: at the start, after a node in which the variable is free, and after one in which it is not
 module _ (free fresh₀ : List ℕ) (x : ℕ) where
   pub cleared-none : Cleared free fresh₀ fresh₀ 0 x
   cleared-none = record { node = λ i h. absurd (omega arith); rest = λ i h. refl }

@@ -1,4 +1,4 @@
--- The eight slots of a byte of a row: what they put into the signatures, slot by slot, and all at once where their classes allow it.
+-- What the slots of a row, its bytes and its groups of eight bytes put into the signatures: slot by slot, and at once where the classes allow it.
 use mathlib.Core.Path.{_≡_, sym, _∙_, ap, ap₂, subst}
 use mathlib.Core.Logic.{_⊎_, inl, inr, _≢_}
 use mathlib.Core.Bool.{Bool, true, false, not, _&&_, _||_, or-false, Bool·not-not}
@@ -19,7 +19,7 @@ use Rattle.bitset.specs.Set.{setBytes, setSlots, has, Is, inserted}
 use Rattle.bitset.specs.Laws.Bytes.{has-byte}
 use Rattle.bitset.specs.Laws.Test.{zero-bits}
 use Rattle.partition.specs.Gains.{Gains}
-use Rattle.partition.specs.Rows.{inRow, turn, eight, part, owns, othersIn, ownEight, noOther, partOthersIn, ownPart, noOthers, OthersIn}
+use Rattle.partition.specs.Rows.{inRow, slotPuts, bytePuts, groupPuts, owns, othersInClass, ownBytePuts, noOtherInByte, groupOthersInClass, ownGroupPuts, noOtherInGroup, ClassOfOthers}
 use Rattle.partition.specs.Laws.Gains.{gains-none, gains-put, gains-map, gains-join, gains-skip-if, gains-put-if, gains-zeros}
 
 pub or-zero : (a b : ℕ) → bitOr a b ≡ 0 → (a ≡ 0) × (b ≡ 0)
@@ -38,33 +38,33 @@ some-bit v h n =
 
 module _ (R p : List ℕ) (s : ℕ) where
   -- slot t puts in its class, or nothing
-  pub turn-skips : (t : ℕ) (b : List ℕ) → inRow R s t ≡ false → Gains (turn R p s t) b b
-  unfolding turn
-  turn-skips t b e = gains-skip-if (inRow R s t) b (setSlots * s + getD p t 0) e
+  pub slot-skips : (t : ℕ) {b : List ℕ} → inRow R s t ≡ false → Gains (slotPuts R p s t) b b
+  unfolding slotPuts
+  slot-skips t e = gains-skip-if (setSlots * s + getD p t 0) e
 
-  pub turn-puts : (t : ℕ) (b a : List ℕ) (c : ℕ) → c ≡ getD p t 0 → inRow R s t ≡ true → a ≡ inserted b (setSlots * s + c)
-      → (setSlots * s + c) / 8 < length b → Gains (turn R p s t) b a
-  unfolding turn
-  turn-puts t b a c e h q l = rw e at (gains-put-if (inRow R s t) b a (setSlots * s + c) h q l)
+  pub slot-puts : (t : ℕ) {b a : List ℕ} (c : ℕ) → c ≡ getD p t 0 → inRow R s t ≡ true → a ≡ inserted b (setSlots * s + c)
+      → (setSlots * s + c) / 8 < length b → Gains (slotPuts R p s t) b a
+  unfolding slotPuts
+  slot-puts t c e h q l = rw e at (gains-put-if (setSlots * s + c) h q l)
 
   module _ (i : ℕ) where
-    -- what is put in, by one of the eight
-    eight-out : (y : ℕ) → eight R p s i y ≡ true → (j : ℕ) × (j < 8) × (inRow R s (8 * i + j) ≡ true) × (y ≡ setSlots * s + getD p (8 * i + j) 0)
-    unfolding eight turn
-    eight-out y e =
+    -- what byte i puts in, one of its eight slots does
+    byte-out : (y : ℕ) → bytePuts R p s i y ≡ true → (j : ℕ) × (j < 8) × (inRow R s (8 * i + j) ≡ true) × (y ≡ setSlots * s + getD p (8 * i + j) 0)
+    unfolding bytePuts slotPuts
+    byte-out y e =
         let a = any-out 8 _ e in
         (a .0, a .1, and-l _ _ (a .2), same-eq (and-r (inRow R s (8 * i + a .0)) _ (a .2)))
 
-    eight-in : (y j : ℕ) → j < 8 → inRow R s (8 * i + j) ≡ true → y ≡ setSlots * s + getD p (8 * i + j) 0 → eight R p s i y ≡ true
-    unfolding eight turn
-    eight-in y j h e q = any-in 8 _ j h (and-in e (eq-same q))
+    byte-in : (y j : ℕ) → j < 8 → inRow R s (8 * i + j) ≡ true → y ≡ setSlots * s + getD p (8 * i + j) 0 → bytePuts R p s i y ≡ true
+    unfolding bytePuts slotPuts
+    byte-in y j h e q = any-in 8 _ j h (and-in e (eq-same q))
 
-    -- the byte is 0
-    pub eight-none : (b : List ℕ) → getD R (32 * s + i) 0 ≡ 0 → Gains (eight R p s i) b b
-    unfolding eight turn
-    eight-none b e = gains-none _ b (λ y. none-any 8 _ (λ j h. rw (row-bit R s i j h, e, bit-zero j)))
+    -- a byte that is 0 puts nothing in
+    pub byte-none : {b : List ℕ} → getD R (32 * s + i) 0 ≡ 0 → Gains (bytePuts R p s i) b b
+    unfolding bytePuts slotPuts
+    byte-none e = gains-none (λ y. none-any 8 _ (λ j h. rw (row-bit R s i j h, e, bit-zero j)))
 
-    -- the slots of O, which have their own numbers, put in the part of the byte that they stand in
+    -- the slots of O, which have their own numbers, put in the bits of the byte that they stand for
     module _ (O : List ℕ) (o : Is O (owns p)) (h : i < setBytes) where
       own-bit : (j : ℕ) → j < 8 → has O (8 * i + j) ≡ bit (getD O i 0) j
       own-bit j l = ap (has O) (omega arith) ∙ has-byte O i j l
@@ -73,27 +73,27 @@ module _ (R p : List ℕ) (s : ℕ) where
       unfolding owns
       own-number j l e = same-eq (sym (o (8 * i + j) (omega arith)) ∙ e)
 
-      own-out : (y : ℕ) → ownEight R p O s i y ≡ true → (j : ℕ) × (j < 8) × (has O (8 * i + j) ≡ true) × (inRow R s (8 * i + j) ≡ true) × (y ≡ setSlots * s + (8 * i + j))
-      unfolding ownEight turn
+      own-out : (y : ℕ) → ownBytePuts R p O s i y ≡ true → (j : ℕ) × (j < 8) × (has O (8 * i + j) ≡ true) × (inRow R s (8 * i + j) ≡ true) × (y ≡ setSlots * s + (8 * i + j))
+      unfolding ownBytePuts slotPuts
       own-out y e =
           let a = any-out 8 _ e in
           let b : has O (8 * i + a .0) ≡ true = and-l _ _ (a .2) in
-          let d : turn R p s (8 * i + a .0) y ≡ true = and-r (has O (8 * i + a .0)) _ (a .2) in
+          let d : slotPuts R p s (8 * i + a .0) y ≡ true = and-r (has O (8 * i + a .0)) _ (a .2) in
           (a .0, a .1, b, and-l _ _ d, same-eq (and-r (inRow R s (8 * i + a .0)) _ d) ∙ ap (λ (x : ℕ). setSlots * s + x) (own-number (a .0) (a .1) b))
 
-      own-in : (y j : ℕ) → j < 8 → has O (8 * i + j) ≡ true → inRow R s (8 * i + j) ≡ true → y ≡ setSlots * s + (8 * i + j) → ownEight R p O s i y ≡ true
-      unfolding ownEight turn
+      own-in : (y j : ℕ) → j < 8 → has O (8 * i + j) ≡ true → inRow R s (8 * i + j) ≡ true → y ≡ setSlots * s + (8 * i + j) → ownBytePuts R p O s i y ≡ true
+      unfolding ownBytePuts slotPuts
       own-in y j l b e q = any-in 8 _ j l (and-in b (and-in e (eq-same (q ∙ ap (λ (x : ℕ). setSlots * s + x) (sym (own-number j l b))))))
 
-      own-eight : (y : ℕ) → ownEight R p O s i y ≡ true → eight R p s i y ≡ true
-      own-eight y e =
+      own-byte : (y : ℕ) → ownBytePuts R p O s i y ≡ true → bytePuts R p s i y ≡ true
+      own-byte y e =
           let a = own-out y e in
-          eight-in y (a .0) (a .1) (a .3) (a .4 ∙ ap (λ (x : ℕ). setSlots * s + x) (sym (own-number (a .0) (a .1) (a .2))))
+          byte-in y (a .0) (a .1) (a .3) (a .4 ∙ ap (λ (x : ℕ). setSlots * s + x) (sym (own-number (a .0) (a .1) (a .2))))
 
-      pub own-puts : (b : List ℕ) → 32 * s + i < length b
-          → Gains (ownEight R p O s i) b (set b (32 * s + i) (bitOr (getD b (32 * s + i) 0) (bitAnd (getD R (32 * s + i) 0) (getD O i 0))))
+      pub own-byte-puts : {b : List ℕ} → 32 * s + i < length b
+          → Gains (ownBytePuts R p O s i) b (set b (32 * s + i) (bitOr (getD b (32 * s + i) 0) (bitAnd (getD R (32 * s + i) 0) (getD O i 0))))
       unfolding has
-      own-puts b l = record {
+      own-byte-puts {b} l = record {
         long = length-set b (32 * s + i) _;
         holds = λ y. either
             (equal? (y / 8) (32 * s + i))
@@ -102,7 +102,7 @@ module _ (R p : List ℕ) (s : ℕ) where
             (λ n. rw (getD-set-other b (32 * s + i) (y / 8) _ 0 n, there y n) (sym (or-false (bit (getD b (y / 8) 0) (y % 8)))));
       }
         where
-          here : (y : ℕ) → y / 8 ≡ 32 * s + i → (bit (getD R (32 * s + i) 0) (y % 8) && bit (getD O i 0) (y % 8)) ≡ ownEight R p O s i y
+          here : (y : ℕ) → y / 8 ≡ 32 * s + i → (bit (getD R (32 * s + i) 0) (y % 8) && bit (getD O i 0) (y % 8)) ≡ ownBytePuts R p O s i y
           here y e = both
               (λ q. own-in y (y % 8) (omega arith) (own-bit (y % 8) (omega arith) ∙ and-r (bit (getD R (32 * s + i) 0) (y % 8)) _ q) (row-bit R s i (y % 8) (omega arith) ∙ and-l _ _ q) (omega arith))
               (λ q.
@@ -112,7 +112,7 @@ module _ (R p : List ℕ) (s : ℕ) where
               let z : bit (getD O i 0) (a .0) ≡ true = sym (own-bit (a .0) (a .1)) ∙ a .2 in
               and-in (rw j at x) (rw j at z))
 
-          there : (y : ℕ) → y / 8 ≢ 32 * s + i → ownEight R p O s i y ≡ false
+          there : (y : ℕ) → y / 8 ≢ 32 * s + i → ownBytePuts R p O s i y ≡ false
           there y n = no-true (λ q. let a = own-out y q in n (omega (arith, a .1, a .4)))
 
       module _ (v : getD R (32 * s + i) 0 < 256) (w : getD O i 0 < 256) where
@@ -122,83 +122,83 @@ module _ (R p : List ℕ) (s : ℕ) where
             bit-and (getD R (32 * s + i) 0) (255 - getD O i 0) j
             ∙ ap₂ _&&_ (sym (row-bit R s i j l)) (bit-not 8 (getD O i 0) j w l ∙ ap not (sym (own-bit j l)))
 
-        -- there are some, all in class c: then c is put in, and nothing else
-        other-class : (c : ℕ) → othersIn p O i c ≡ true → (j : ℕ) → j < 8 → has O (8 * i + j) ≡ false → getD p (8 * i + j) 0 ≡ c
-        unfolding othersIn
+        -- where byte i has bits that are not in O, all in class c, these put in c and nothing else
+        other-class : (c : ℕ) → othersInClass p O i c ≡ true → (j : ℕ) → j < 8 → has O (8 * i + j) ≡ false → getD p (8 * i + j) 0 ≡ c
+        unfolding othersInClass
         other-class c f j l x = either (or-out _ _ (all-out 8 _ f j l)) (λ q. clash q x) same-eq
 
-        others-put : (c y : ℕ) → othersIn p O i c ≡ true → noOther R O s i ≡ false → y ≡ setSlots * s + c → eight R p s i y ≡ true
-        unfolding noOther
+        others-put : (c y : ℕ) → othersInClass p O i c ≡ true → noOtherInByte R O s i ≡ false → y ≡ setSlots * s + c → bytePuts R p s i y ≡ true
+        unfolding noOtherInByte
         others-put c y f n q =
             let k = some-bit (bitAnd (getD R (32 * s + i) 0) (255 - getD O i 0)) (and-lt 8 _ _ v (omega arith)) (λ z. clash (eq-same z) n) in
             let m = sym (other-bit (k .0) (k .1)) ∙ k .2 in
             let x : has O (8 * i + k .0) ≡ false = no-true (not-out _ (and-r (inRow R s (8 * i + k .0)) _ m)) in
-            eight-in y (k .0) (k .1) (and-l _ _ m) (q ∙ ap (λ (x : ℕ). setSlots * s + x) (sym (other-class c f (k .0) (k .1) x)))
+            byte-in y (k .0) (k .1) (and-l _ _ m) (q ∙ ap (λ (x : ℕ). setSlots * s + x) (sym (other-class c f (k .0) (k .1) x)))
 
-        own-or-other : (c y : ℕ) → othersIn p O i c ≡ true → eight R p s i y ≡ true → (ownEight R p O s i y ≡ true) ⊎ (y ≡ setSlots * s + c)
+        own-or-other : (c y : ℕ) → othersInClass p O i c ≡ true → bytePuts R p s i y ≡ true → (ownBytePuts R p O s i y ≡ true) ⊎ (y ≡ setSlots * s + c)
         own-or-other c y f q =
-            let k = eight-out y q in
+            let k = byte-out y q in
             either
             (look (has O (8 * i + k .0)))
             (λ x. inl (own-in y (k .0) (k .1) x (k .2) (k .3 ∙ ap (λ (z : ℕ). setSlots * s + z) (own-number (k .0) (k .1) x))))
             (λ x. inr (k .3 ∙ ap (λ (z : ℕ). setSlots * s + z) (other-class c f (k .0) (k .1) x)))
 
-        own-if-none : noOther R O s i ≡ true → (y : ℕ) → eight R p s i y ≡ true → ownEight R p O s i y ≡ true
-        unfolding noOther
+        own-if-none : noOtherInByte R O s i ≡ true → (y : ℕ) → bytePuts R p s i y ≡ true → ownBytePuts R p O s i y ≡ true
+        unfolding noOtherInByte
         own-if-none z y q =
-            let e = eight-out y q in
+            let e = byte-out y q in
             let n : (inRow R s (8 * i + e .0) && not (has O (8 * i + e .0))) ≡ false = sym (other-bit (e .0) (e .1)) ∙ rw (same-eq z) (bit-zero (e .0)) in
             let g : has O (8 * i + e .0) ≡ true = either (look (has O (8 * i + e .0))) (λ x. x) (λ x. clash (and-in (e .2) (ap not x)) n) in
             own-in y (e .0) (e .1) g (e .2) (e .3 ∙ ap (λ (x : ℕ). setSlots * s + x) (own-number (e .0) (e .1) g))
 
-        pub own-only : (b a : List ℕ) → noOther R O s i ≡ true → Gains (ownEight R p O s i) b a → Gains (eight R p s i) b a
-        own-only b a z = gains-map _ _ b a (λ y. both (own-eight y) (own-if-none z y))
+        pub byte-own : {b a : List ℕ} → noOtherInByte R O s i ≡ true → Gains (ownBytePuts R p O s i) b a → Gains (bytePuts R p s i) b a
+        byte-own z = gains-map (λ y. both (own-byte y) (own-if-none z y))
 
-        -- all eight are put in after those of O
-        pub own-all : (b a d : List ℕ) → Gains (ownEight R p O s i) b a → Gains (eight R p s i) a d → Gains (eight R p s i) b d
-        own-all b a d g k = gains-map _ _ b d (λ y. both
-            (λ q. either (or-out _ _ q) (own-eight y) (λ x. x))
-            (λ q. or-r (ownEight R p O s i y) _ q)) (gains-join (ownEight R p O s i) (eight R p s i) b a d g k)
+        -- all eight slots are put in after those of O
+        pub byte-all : {b a d : List ℕ} → Gains (ownBytePuts R p O s i) b a → Gains (bytePuts R p s i) a d → Gains (bytePuts R p s i) b d
+        byte-all g k = gains-map (λ y. both
+            (λ q. either (or-out _ _ q) (own-byte y) (λ x. x))
+            (λ q. or-r (ownBytePuts R p O s i y) _ q)) (gains-join g k)
 
--- the same for eight bytes
+-- a group of eight bytes: its slots of O first, then the others, at once or one by one
 module _ (R p : List ℕ) (s g : ℕ) (O : List ℕ) (o : Is O (owns p)) (h : g < 4) (v : (k : ℕ) → getD R k 0 < 256) (w : (k : ℕ) → getD O k 0 < 256) where
-  own-part : (y : ℕ) → ownPart R p O s g y ≡ true → part R p s g y ≡ true
-  unfolding ownPart part
-  own-part y q =
+  own-group : (y : ℕ) → ownGroupPuts R p O s g y ≡ true → groupPuts R p s g y ≡ true
+  unfolding ownGroupPuts groupPuts
+  own-group y q =
       let k = any-out 8 _ q in
-      any-in 8 _ (k .0) (k .1) (own-eight R p s (8 * g + k .0) O o (omega (arith, k .1)) y (k .2))
+      any-in 8 _ (k .0) (k .1) (own-byte R p s (8 * g + k .0) O o (omega (arith, k .1)) y (k .2))
 
-  pub part-own : (b a : List ℕ) → noOthers R O s g ≡ true → Gains (ownPart R p O s g) b a → Gains (part R p s g) b a
-  unfolding ownPart part noOthers
-  part-own b a z = gains-map _ _ b a (λ y. both (own-part y) (λ q.
+  pub group-own : {b a : List ℕ} {r : Bool} → r ≡ noOtherInGroup R O s g → r ≡ true → Gains (ownGroupPuts R p O s g) b a → Gains (groupPuts R p s g) b a
+  unfolding ownGroupPuts groupPuts noOtherInGroup
+  group-own e z = gains-map (λ y. both (own-group y) (λ q.
       let k = any-out 8 _ q in
-      any-in 8 _ (k .0) (k .1) (own-if-none R p s (8 * g + k .0) O o (omega (arith, k .1)) (v _) (w _) (all-out 8 _ z (k .0) (k .1)) y (k .2))))
+      any-in 8 _ (k .0) (k .1) (own-if-none R p s (8 * g + k .0) O o (omega (arith, k .1)) (v _) (w _) (all-out 8 _ (sym e ∙ z) (k .0) (k .1)) y (k .2))))
 
-  pub part-one : (b a d : List ℕ) (c : ℕ) → noOthers R O s g ≡ false → partOthersIn p O g c ≡ true
-      → Gains (ownPart R p O s g) b a → d ≡ inserted a (setSlots * s + c) → (setSlots * s + c) / 8 < length a → Gains (part R p s g) b d
-  unfolding ownPart part noOthers partOthersIn
-  part-one b a d c n f t e l =
-      gains-map _ _ b d (λ y. both
+  pub group-one : {b a d : List ℕ} {r : Bool} (c : ℕ) → r ≡ noOtherInGroup R O s g → r ≡ false → groupOthersInClass p O g c ≡ true
+      → Gains (ownGroupPuts R p O s g) b a → d ≡ inserted a (setSlots * s + c) → (setSlots * s + c) / 8 < length a → Gains (groupPuts R p s g) b d
+  unfolding ownGroupPuts groupPuts noOtherInGroup groupOthersInClass
+  group-one c j n f t e l =
+      gains-map (λ y. both
       (λ q. either
-      (or-out (ownPart R p O s g y) _ q)
-      (own-part y)
+      (or-out (ownGroupPuts R p O s g y) _ q)
+      (own-group y)
       (λ x.
-      let k = all-fails 8 (λ k. noOther R O s (8 * g + k)) n in
+      let k = all-fails 8 (λ k. noOtherInByte R O s (8 * g + k)) (sym j ∙ n) in
       any-in 8 _ (k .0) (k .1) (others-put R p s (8 * g + k .0) O o (omega (arith, k .1)) (v _) (w _) c y (all-out 8 _ f (k .0) (k .1)) (k .2) (same-eq x))))
       (λ q.
       let k = any-out 8 _ q in
       either
       (own-or-other R p s (8 * g + k .0) O o (omega (arith, k .1)) (v _) (w _) c y (all-out 8 _ f (k .0) (k .1)) (k .2))
       (λ x. or-l _ _ (any-in 8 _ (k .0) (k .1) x))
-      (λ x. or-r (ownPart R p O s g y) _ (eq-same x))))
-      (gains-join (ownPart R p O s g) (λ y. same y (setSlots * s + c)) b a d t (gains-put a d (setSlots * s + c) e l))
+      (λ x. or-r (ownGroupPuts R p O s g y) _ (eq-same x))))
+      (gains-join t (gains-put (setSlots * s + c) e l))
 
-  pub part-all : (b a d : List ℕ) → Gains (ownPart R p O s g) b a → Gains (part R p s g) a d → Gains (part R p s g) b d
-  part-all b a d t k = gains-map _ _ b d (λ y. both
-      (λ q. either (or-out (ownPart R p O s g y) _ q) (own-part y) (λ x. x))
-      (λ q. or-r (ownPart R p O s g y) _ q)) (gains-join (ownPart R p O s g) (part R p s g) b a d t k)
+  pub group-all : {b a d : List ℕ} → Gains (ownGroupPuts R p O s g) b a → Gains (groupPuts R p s g) a d → Gains (groupPuts R p s g) b d
+  group-all t k = gains-map (λ y. both
+      (λ q. either (or-out (ownGroupPuts R p O s g y) _ q) (own-group y) (λ x. x))
+      (λ q. or-r (ownGroupPuts R p O s g y) _ q)) (gains-join t k)
 
--- one more byte is looked at for others
+-- one more byte is searched for slots that are not in O
 pub others-next : (f : ℕ → Bool) (k v w : ℕ) → same v 0 ≡ all k f → f k ≡ same w 0 → same (bitOr v w) 0 ≡ all (k + 1) f
 unfolding all
 others-next f k v w e h =
@@ -207,8 +207,8 @@ others-next f k v w e h =
     (λ q. let z = or-zero v w (same-eq q) in and-in (eq-same (z .1)) (eq-same (z .0)))
     (λ q. eq-same (ap₂ bitOr (same-eq (and-r (same w 0) _ q)) (same-eq (and-l _ _ q)))))
 
--- one more group is looked at
-pub others-more : (p O C : List ℕ) (i v : ℕ) → i < length C → OthersIn p O C i → (v < setSlots → partOthersIn p O i v ≡ true) → OthersIn p O (set C i v) (i + 1)
+-- one more group has the class of its slots that are not in O
+pub others-more : (p O C : List ℕ) (i v : ℕ) → i < length C → ClassOfOthers p O C i → (v < setSlots → groupOthersInClass p O i v ≡ true) → ClassOfOthers p O (set C i v) (i + 1)
 others-more p O C i v l f h j k b =
     either
     (equal? j i)
@@ -216,8 +216,8 @@ others-more p O C i v l f h j k b =
     (λ n. let w : getD (set C i v) j 0 ≡ getD C j 0 = getD-set-other C i j v 0 n in rw w (f j (omega arith) (rw (← w) b)))
 
 -- the set of the slots with their own number
-pub own-set : (p : List ℕ) (n : ℕ) (O : List ℕ) → Gains (λ y. any setSlots (λ t. owns p t && same y t)) (replicate n 0) O → Is O (owns p)
-own-set p n O g s h = gains-zeros (λ y. any setSlots (λ t. owns p t && same y t)) n O g s ∙ both
+pub own-set : (p : List ℕ) (n : ℕ) {O : List ℕ} → Gains (λ y. any setSlots (λ t. owns p t && same y t)) (replicate n 0) O → Is O (owns p)
+own-set p n g s h = gains-zeros n g s ∙ both
     (λ e.
     let a = any-out setSlots _ e in
     let b : owns p (a .0) ≡ true = and-l _ _ (a .2) in

@@ -1,4 +1,4 @@
--- Sets of slots at their places in a buffer: set j is the 32 bytes from byte 32 * j on. The work buffer has a set for each node, the
+-- Sets of slots at their offsets in a buffer: set j is the 32 bytes from offset 32 * j on. The work buffer has a set for each node, the
 -- environment one for each variable.
 use mathlib.Core.Path.{_≡_}
 use mathlib.Core.Logic.{_≢_}
@@ -16,16 +16,16 @@ use Rattle.semantics.specs.Laws.Agree.{_≐_}
 abbrev pub envBytes : ℕ
 envBytes = setBytes * variables
 
--- the set at place j. As a function of j it is a valuation: that of an environment
+-- set j of a buffer. As a function of j it is a valuation: that of an environment
 unfoldable pub setAt : List ℕ → ℕ → Set
 setAt b j s = has b (setSlots * j + s)
 
--- the buffer b has become b′: the set at place j is S, the others are what they were
-pub record Written (b b′ : List ℕ) (j : ℕ) (S : Set) : Type 0 where
+-- the buffer b has become b′: set j is S, the others are what they were
+pub record SetWritten (b b′ : List ℕ) (j : ℕ) (S : Set) : Type 0 where
   pub here : setAt b′ j ≐ S
   pub others : (k : ℕ) → k ≢ j → setAt b′ k ≐ setAt b k
 
--- the flags of the first n nodes, where the variable x is free, are cleared; the others are what they were
+-- of the first n nodes, the flags of those in which the variable x is free are cleared; the others are what they were
 pub record Cleared (free fresh fresh′ : List ℕ) (n x : ℕ) : Type 0 where
   pub node : (j : ℕ) → j < n → getD fresh′ j 0 ≡ cond (bit (getD free j 0) x) 0 (getD fresh j 0)
   pub rest : (j : ℕ) → n ≤ j → getD fresh′ j 0 ≡ getD fresh j 0

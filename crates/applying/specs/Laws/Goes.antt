@@ -10,12 +10,12 @@ use Rattle.verdict.specs.Laws.{refused}
 use Rattle.verdict.specs.declared.Verdict.the-variants.{Accepted, Refused}
 use Rattle.applying.specs.Refusal.{goesVerdict}
 
--- it accepts only where the sheet goes through
+-- item 13 accepts a sheet only where it goes through
 pub goes-out : (es : List Edit) (M : Model) → goesVerdict es M ≡ Accepted → sheetGoes es M ≡ true
 unfolding goesVerdict
 goes-out es M e = either (look (sheetGoes es M)) (λ g. g) (λ g. refused (rw g at e))
 
--- it refuses only where it does not
+-- item 13 refuses a sheet only where it does not go through
 pub goes-not : (es : List Edit) (M : Model) {item w : ℕ} → goesVerdict es M ≡ Refused item w → sheetGoes es M ≡ false
 unfolding goesVerdict
 goes-not es M e = either (look (sheetGoes es M)) (λ g. refused (sym (rw g at e))) (λ g. g)

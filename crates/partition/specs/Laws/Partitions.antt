@@ -12,7 +12,7 @@ use Rattle.finite.specs.Laws.Below.{equal?, same-eq, same-refl, eq-same, any-in
 use Rattle.finite.specs.Laws.First.{first-in, first-low}
 use Rattle.bitset.specs.Set.{setSlots}
 use Rattle.semantics.specs.Laws.Refine.{Rel}
-use Rattle.partition.specs.Partition.{together, Partition, Parts, byRow}
+use Rattle.partition.specs.Partition.{together, Partition, Partitions, byRow}
 
 -- a test is read below the bound alone
 pub first-cong : (n : ℕ) (f g : ℕ → Bool) → ((t : ℕ) → t < n → f t ≡ g t) → first n f ≡ first n g
@@ -43,18 +43,18 @@ module _ (E : Rel) (E-refl : (s : ℕ) → E s s ≡ true) (E-sym : (s t : ℕ) 
       (λ q. E-trans s (getD p t 0) t (subst (λ (c : ℕ). E s c ≡ true) (same-eq q) (there s h)) (E-sym t (getD p t 0) (there t k)))
       (λ q. eq-same (n s h ∙ first-cong setSlots (E s) (E t) (λ u _. both (E-trans t s u (E-sym s t q)) (E-trans s t u q)) ∙ sym (n t k)))
 
-  pub parts-of : Parts E p
+  pub partitions-of : Partitions E p
   unfolding Partition
-  parts-of = record { lowest = λ s h. n s h ∙ first-cong setSlots (E s) (together p s) (λ t k. sym (by s t h k)); by = by }
+  partitions-of = record { lowest = λ s h. n s h ∙ first-cong setSlots (E s) (together p s) (λ t k. sym (by s t h k)); by = by }
 
 -- relations that agree on slots have one partition
-pub parts-map : (E F : Rel) (p : List ℕ) → ((s t : ℕ) → s < setSlots → t < setSlots → E s t ≡ F s t) → Parts E p → Parts F p
-parts-map E F p h q = record { lowest = q .lowest; by = λ s t a b. q .by s t a b ∙ h s t a b }
+pub partitions-map : {E F : Rel} {p : List ℕ} → ((s t : ℕ) → s < setSlots → t < setSlots → E s t ≡ F s t) → Partitions E p → Partitions F p
+partitions-map h q = record { lowest = q .lowest; by = λ s t a b. q .by s t a b ∙ h s t a b }
 
 -- the numbers of a partition by E are the lowest slots that E relates
-pub parts-first : (E : Rel) (p : List ℕ) → Parts E p → (s : ℕ) → s < setSlots → getD p s 0 ≡ first setSlots (E s)
+pub partitions-first : {E : Rel} {p : List ℕ} → Partitions E p → (s : ℕ) → s < setSlots → getD p s 0 ≡ first setSlots (E s)
 unfolding Partition
-parts-first E p q s h = q .lowest s h ∙ first-cong setSlots (together p s) (E s) (λ t k. q .by s t h k)
+partitions-first {E} {p} q s h = q .lowest s h ∙ first-cong setSlots (together p s) (E s) (λ t k. q .by s t h k)
 
 module _ (q : List ℕ) (n : Partition q) (s : ℕ) (h : s < setSlots) where
   -- a class number is no higher than the slot
@@ -62,7 +62,7 @@ module _ (q : List ℕ) (n : Partition q) (s : ℕ) (h : s < setSlots) where
   unfolding Partition
   number-le = rw (n s h) (first-low setSlots (together q s) s h (same-refl (getD q s 0)))
 
-  -- and no slot below it is in the class
+  -- no slot below the class number is in the class
   pub number-low : (R : List ℕ) → any (getD q s 0) (byRow q R s) ≡ false
   unfolding Partition byRow
   number-low R = none-any (getD q s 0) (byRow q R s) (λ t l. rw (any-none (getD q s 0) (together q s) none t l))

@@ -1,9 +1,9 @@
 -- A byte that is 0 joins nothing; else both halves are put in.
 use native.Mathlib.Omega.{arith}
 use Rattle.site.specs.Site.{siteOf}
-use Rattle.neighbours.specs.Laws.Steps.{eight-none, eight-joined}
-use Rattle.neighbours.proofs.join_eight.Statement.{statement}
-use Rattle.neighbours.proofs.join_eight.Tie as tie
+use Rattle.neighbours.specs.Laws.Steps.{byte-none, byte-joined}
+use Rattle.neighbours.proofs.join_byte.Statement.{statement}
+use Rattle.neighbours.proofs.join_byte.Tie as tie
 
 mul-if1 : tie.Need-mul-if1
 mul-if1 c = omega arith
@@ -24,7 +24,7 @@ shared-slice-read-if1 : tie.Need-shared-slice-read-if1
 shared-slice-read-if1 c = omega arith
 
 returns : tie.Need-returns
-returns c = let a = c .before .before .before .before .args in eight-none _ (a .m) (a .s) (omega arith) (a .i) _ (omega arith) (omega arith) (c .if1 .taken)
+returns c = let a = c .before .before .before .before .args in byte-none _ (a .m) (a .s) (omega arith) (a .i) (omega arith) (omega arith) (c .if1 .taken)
 
 join-along-requires : tie.Need-join-along-requires
 join-along-requires c κs = omega arith
@@ -36,10 +36,12 @@ same-length : tie.Need-same-length
 same-length c = omega arith
 
 returns-2 : tie.Need-returns-2
-returns-2 c = let a = c .before .before .before .before .before .before .before .before .before .before .before .before .args in eight-joined (siteOf (a .site .now)) (a .m) (a .s) (a .i) _ _ _ (c .before .before .before .before .before .before .join-along .ensures) (c .before .before .join-back .ensures)
+returns-2 c =
+    let a = c .before .before .before .before .before .before .before .before .before .before .before .before .args in
+    byte-joined (siteOf (a .site .now)) (a .m) (a .s) (a .i) (c .before .before .before .before .before .before .join-along .ensures) (c .before .before .join-back .ensures)
 
-pub join-eight-spec : {M : Type 1} → statement M
-join-eight-spec =
+pub join-byte-spec : {M : Type 1} → statement M
+join-byte-spec =
     tie.close
     (tie.spec
     mul-if1
