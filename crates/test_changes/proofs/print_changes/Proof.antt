@@ -1,10 +1,10 @@
--- `changes::print_changes` stays inside both slices.
+-- `test_changes::print_changes` stays inside both slices.
 use Prim.Native.Nat.{_≤_, _-_}
 use native.Mathlib.Omega.{arith}
 use borrow.Author.Needs.{needs}
 use lib.ListN.{length}
-use Rattle.changes.proofs.print_changes.Statement.{statement}
-use Rattle.changes.proofs.print_changes.Tie as tie
+use Rattle.test_changes.proofs.print_changes.Statement.{statement}
+use Rattle.test_changes.proofs.print_changes.Tie as tie
 
 abbrev Inv-loop : tie.InvT-loop
 Inv-loop before after k₀ k = k ≤ length after

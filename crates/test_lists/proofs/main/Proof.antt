@@ -1,8 +1,8 @@
--- `verdicts::main` ends: its turns fall.
+-- `test_lists::main` ends: its turns fall.
 use native.Mathlib.Omega.{arith}
 use borrow.Author.Needs.{needs}
-use Rattle.verdicts.proofs.main.Statement.{statement}
-use Rattle.verdicts.proofs.main.Tie as tie
+use Rattle.test_lists.proofs.main.Statement.{statement}
+use Rattle.test_lists.proofs.main.Tie as tie
 
 abbrev Inv-loop : tie.InvT-loop
 Inv-loop turns₀ turns = Unit {0}

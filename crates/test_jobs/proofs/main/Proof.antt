@@ -1,8 +1,8 @@
--- `changes::main` ends: its turns fall.
+-- `test_jobs::main` ends: its turns fall.
 use native.Mathlib.Omega.{arith}
 use borrow.Author.Needs.{needs}
-use Rattle.changes.proofs.main.Statement.{statement}
-use Rattle.changes.proofs.main.Tie as tie
+use Rattle.test_jobs.proofs.main.Statement.{statement}
+use Rattle.test_jobs.proofs.main.Tie as tie
 
 abbrev Inv-loop : tie.InvT-loop
 Inv-loop turns₀ turns = Unit {0}

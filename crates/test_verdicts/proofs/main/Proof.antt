@@ -1,8 +1,8 @@
--- `lists::main` ends: its turns fall.
+-- `test_verdicts::main` ends: its turns fall.
 use native.Mathlib.Omega.{arith}
 use borrow.Author.Needs.{needs}
-use Rattle.lists.proofs.main.Statement.{statement}
-use Rattle.lists.proofs.main.Tie as tie
+use Rattle.test_verdicts.proofs.main.Statement.{statement}
+use Rattle.test_verdicts.proofs.main.Tie as tie
 
 abbrev Inv-loop : tie.InvT-loop
 Inv-loop turns₀ turns = Unit {0}
