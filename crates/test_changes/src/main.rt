@@ -12,13 +12,6 @@ use rewriting::Rewriting;
 use site::SITE_BYTES;
 use verdict::Verdict;
 
-fn print_refusal(item: u8, place: u16) {
-    io::write_all(STDOUT_FILENO, b"refused ");
-    io::print_decimal(STDOUT_FILENO, item as u64);
-    io::write_all(STDOUT_FILENO, b" ");
-    io::print_decimal(STDOUT_FILENO, place as u64);
-}
-
 fn print_byte_at(place: usize, x: u8) {
     io::write_all(STDOUT_FILENO, b" ");
     io::print_decimal(STDOUT_FILENO, place as u64);
@@ -34,12 +27,6 @@ fn print_changes(before: &[u8], after: &[u8]) {
             print_byte_at(k, after[k]);
         }
         k += 1;
-    }
-}
-
-fn complain(fault: bool, text: &[u8]) {
-    if fault {
-        io::write_all(STDOUT_FILENO, text);
     }
 }
 
@@ -62,22 +49,26 @@ fn short_table_is_refused(cond: &[u8], sheet: &[u8]) -> bool {
     is_item_1(rewriting::verdict(r)) & (rewriting::nodes(r) == 0) & pieces::all_zero(&result)
 }
 
-// Applies and prints; true where the sheet is applied.
-fn apply(site: &[u8], sheet: &[u8], result: &mut [u8]) -> bool {
-    let v = apply_entry::apply(site, sheet, result);
-    let applied = match v {
+// True where the sheet is applied.
+fn show_applied(v: Verdict, site: &[u8], result: &[u8]) -> bool {
+    match v {
         Verdict::Accepted => {
             io::write_all(STDOUT_FILENO, b"applied");
             print_changes(site, result);
             true
         }
         Verdict::Refused(item, w) => {
-            print_refusal(item, w);
-            complain(!pieces::all_zero(result), b" site left");
+            pieces::print_refusal(item, w);
+            pieces::say_left(result, b" site left");
             false
         }
-    };
-    complain(!short_site_is_refused(site, sheet), b" short buffer taken");
+    }
+}
+
+// Applies and prints; true where the sheet is applied.
+fn apply(site: &[u8], sheet: &[u8], result: &mut [u8]) -> bool {
+    let applied = show_applied(apply_entry::apply(site, sheet, result), site, result);
+    pieces::say(!short_site_is_refused(site, sheet), b" short buffer taken");
     io::write_all(STDOUT_FILENO, b"\n");
     applied
 }
@@ -88,77 +79,101 @@ fn print_table(nodes: u32, result: &[u8]) {
     io::write_all(STDOUT_FILENO, b" nodes ");
     if n <= result.len() {
         pieces::print_bytes(&result[0..n]);
-        complain(!pieces::all_zero(&result[n..result.len()]), b" table left");
+        pieces::say_left(&result[n..result.len()], b" table left");
+    }
+}
+
+fn show_rewritten(r: Rewriting, result: &[u8]) {
+    match r {
+        Rewriting::Rewritten(n) => print_table(n, result),
+        Rewriting::Refused(item, w) => {
+            pieces::print_refusal(item, w);
+            pieces::say_left(result, b" table left");
+        }
     }
 }
 
 // Rewrites and prints; the length of the rewritten table, 0 where it is refused.
 fn rewrite(cond: &[u8], sheet: &[u8], result: &mut [u8]) -> usize {
     let r = rewrite_entry::rewrite(cond, sheet, result);
-    match r {
-        Rewriting::Rewritten(n) => {
-            print_table(n, result);
-        }
-        Rewriting::Refused(item, w) => {
-            print_refusal(item, w);
-            complain(!pieces::all_zero(result), b" table left");
-        }
-    }
-    complain(!short_table_is_refused(cond, sheet), b" short buffer taken");
+    show_rewritten(r, result);
+    pieces::say(!short_table_is_refused(cond, sheet), b" short buffer taken");
     io::write_all(STDOUT_FILENO, b"\n");
     NODE_BYTES * rewriting::nodes(r) as usize
+}
+
+fn show_list(answer: Listing, set: &[u8]) {
+    match answer {
+        Listing::Listed(n) => {
+            io::print_decimal(STDOUT_FILENO, n as u64);
+            io::write_all(STDOUT_FILENO, b" ");
+            pieces::print_bytes(set);
+        }
+        Listing::Refused(item, w) => pieces::print_refusal(item, w),
+    }
+}
+
+fn print_list_in(site: &[u8], cond: &[u8], set: &mut [u8], work: &mut [u8]) {
+    show_list(list_entry::list(site, cond, set, work), set);
+    io::write_all(STDOUT_FILENO, b"\n");
 }
 
 fn print_list(site: &[u8], cond: &[u8]) {
     let mut set = [170u8; SET_BYTES];
     let mut work = [170u8; WORK_BYTES];
-    match list_entry::list(site, cond, &mut set, &mut work) {
-        Listing::Listed(n) => {
-            io::print_decimal(STDOUT_FILENO, n as u64);
-            io::write_all(STDOUT_FILENO, b" ");
-            pieces::print_bytes(&set);
-        }
-        Listing::Refused(item, w) => print_refusal(item, w),
-    }
-    io::write_all(STDOUT_FILENO, b"\n");
+    print_list_in(site, cond, &mut set, &mut work);
 }
 
-// Lists the table of n bytes that a buffer starts with.
-fn print_today(site: &[u8], table: &[u8], n: usize) {
+// The lists of the condition on the site after, and of the rewritten table, the first n bytes of a buffer, today.
+fn print_lists(site: &[u8], cond: &[u8], after: &[u8], table: &[u8], n: usize) {
+    io::write_all(STDOUT_FILENO, b"after ");
+    print_list(after, cond);
+    io::write_all(STDOUT_FILENO, b"today ");
     if n <= table.len() {
         print_list(site, &table[0..n]);
+    }
+}
+
+fn answer_in(site: &[u8], cond: &[u8], sheet: &[u8], after: &mut [u8], table: &mut [u8]) {
+    let applied = apply(site, sheet, after);
+    let n = rewrite(cond, sheet, table);
+    if applied & (n > 0) {
+        print_lists(site, cond, after, table, n);
     }
 }
 
 fn answer(site: &[u8], cond: &[u8], sheet: &[u8]) {
     let mut after = [170u8; SITE_BYTES];
     let mut table = [170u8; TABLE_BYTES];
-    let applied = apply(site, sheet, &mut after);
-    let n = rewrite(cond, sheet, &mut table);
-    if applied && n > 0 {
-        io::write_all(STDOUT_FILENO, b"after ");
-        print_list(&after, cond);
-        io::write_all(STDOUT_FILENO, b"today ");
-        print_today(site, &table, n);
-    }
+    answer_in(site, cond, sheet, &mut after, &mut table);
+}
+
+// Reads the sheet that stands behind a site and a condition, and prints the lines of the three.
+fn read_sheet(site: &[u8], cond: &[u8]) {
+    let mut sheet = [0u8; ROOM];
+    let piece = pieces::read(&mut sheet);
+    let n = piece.len;
+    answer(site, cond, &sheet[0..n]);
+}
+
+// Reads the condition that stands behind a site.
+fn read_condition(site: &[u8]) {
+    let mut cond = [0u8; ROOM];
+    let piece = pieces::read(&mut cond);
+    let n = piece.len;
+    read_sheet(site, &cond[0..n]);
 }
 
 // Reads one three and prints its lines; false at the end of the input.
 fn next() -> bool {
     let mut site = [0u8; ROOM];
-    let first = pieces::read(&mut site);
-    let kind = first.kind;
+    let piece = pieces::read(&mut site);
+    let kind = piece.kind;
     if kind == 0 {
         return false;
     }
-    let mut cond = [0u8; ROOM];
-    let second = pieces::read(&mut cond);
-    let mut sheet = [0u8; ROOM];
-    let third = pieces::read(&mut sheet);
-    let m = first.len;
-    let n = second.len;
-    let k = third.len;
-    answer(&site[0..m], &cond[0..n], &sheet[0..k]);
+    let n = piece.len;
+    read_condition(&site[0..n]);
     true
 }
 

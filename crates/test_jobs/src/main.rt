@@ -8,7 +8,6 @@ use job_run::Job;
 use libc::STDOUT_FILENO;
 use limits::TABLE_BYTES;
 use listing::WORK_BYTES;
-use pieces::Piece;
 use pieces::ROOM;
 use site::SITE_BYTES;
 ghost use mathlib.Core.Path.{_≡_};
@@ -47,12 +46,6 @@ fn print_left(changed: &[u8], table: &[u8], classes: &[u8]) {
     io::write_all(STDOUT_FILENO, b"\n");
 }
 
-fn complain(fault: bool, text: &[u8]) {
-    if fault {
-        io::write_all(STDOUT_FILENO, text);
-    }
-}
-
 fn is_refused(answer: Job) -> bool {
     match answer {
         Job::Done(_, _, _, _) => false,
@@ -67,31 +60,57 @@ fn is_item_1(answer: Job) -> bool {
     }
 }
 
-// Buffers that are a byte too short.
-fn short_is_refused(file: &[u8]) -> bool {
-    let mut changed = [170u8; SITE_BYTES - 1];
-    let mut table = [170u8; TABLE_BYTES - 1];
-    let mut after = [170u8; SET_BYTES - 1];
-    let mut today = [170u8; SET_BYTES - 1];
-    let mut classes = [170u8; SET_SLOTS - 1];
-    let mut work = [170u8; WORK_BYTES - 1];
-    let r = job_entry::run(
-        file,
-        &mut changed,
-        &mut table,
-        &mut after,
-        &mut today,
-        &mut classes,
-        &mut work,
-    );
-    let results = pieces::all_zero(&changed)
-        & pieces::all_zero(&table)
-        & pieces::all_zero(&classes);
-    is_item_1(r)
-        & results
-        & pieces::all_zero(&after)
-        & pieces::all_zero(&today)
-        & pieces::all_zero(&work)
+// In buffers of other lengths a job has to be refused with 1.
+fn say_taken(answer: Job) {
+    if !is_item_1(answer) {
+        io::write_all(STDOUT_FILENO, b"short buffers taken\n");
+    }
+}
+
+fn print_answer(answer: Job, after: &[u8], today: &[u8]) {
+    if after.len() != SET_BYTES {
+        say_taken(answer);
+        return;
+    }
+    if today.len() != SET_BYTES {
+        say_taken(answer);
+        return;
+    }
+    job_text::print(answer, after, today);
+}
+
+// Says which result buffer a refused job has not left as zeros.
+fn say_results_left(changed: &[u8], table: &[u8], after: &[u8], today: &[u8], classes: &[u8]) {
+    pieces::say_left(changed, b"site left\n");
+    pieces::say_left(table, b"table left\n");
+    pieces::say_left(after, b"list after left\n");
+    pieces::say_left(today, b"list today left\n");
+    pieces::say_left(classes, b"classes left\n");
+}
+
+// Prints an answer and what the job has left.
+fn show(answer: Job, changed: &[u8], table: &[u8], after: &[u8], today: &[u8], classes: &[u8]) {
+    print_answer(answer, after, today);
+    if is_refused(answer) {
+        say_results_left(changed, table, after, today, classes);
+    } else {
+        print_left(changed, table, classes);
+    }
+}
+
+// Does the job in the buffers that it is lent.
+fn run(
+    file: &[u8],
+    changed: &mut [u8],
+    table: &mut [u8],
+    after: &mut [u8],
+    today: &mut [u8],
+    classes: &mut [u8],
+    work: &mut [u8],
+) {
+    let r = job_entry::run(file, changed, table, after, today, classes, work);
+    show(r, changed, table, after, today, classes);
+    pieces::say_left(work, b"work left\n");
 }
 
 fn answer(file: &[u8]) {
@@ -101,7 +120,7 @@ fn answer(file: &[u8]) {
     let mut today = [170u8; SET_BYTES];
     let mut classes = [170u8; SET_SLOTS];
     let mut work = [170u8; WORK_BYTES];
-    let r = job_entry::run(
+    run(
         file,
         &mut changed,
         &mut table,
@@ -110,40 +129,51 @@ fn answer(file: &[u8]) {
         &mut classes,
         &mut work,
     );
-    job_text::print(r, &after, &today);
-    if is_refused(r) {
-        complain(!pieces::all_zero(&changed), b"site left\n");
-        complain(!pieces::all_zero(&table), b"table left\n");
-        complain(!pieces::all_zero(&after), b"list after left\n");
-        complain(!pieces::all_zero(&today), b"list today left\n");
-        complain(!pieces::all_zero(&classes), b"classes left\n");
-    } else {
-        print_left(&changed, &table, &classes);
-    }
-    complain(!pieces::all_zero(&work), b"work left\n");
-    complain(!short_is_refused(file), b"short buffers taken\n");
 }
 
-// A job is read as a piece into the front of a longer buffer of zeros.
-fn read(file: &mut [u8]) -> Piece
+// Buffers that are a byte too short.
+fn try_short(file: &[u8]) {
+    let mut changed = [170u8; SITE_BYTES - 1];
+    let mut table = [170u8; TABLE_BYTES - 1];
+    let mut after = [170u8; SET_BYTES - 1];
+    let mut today = [170u8; SET_BYTES - 1];
+    let mut classes = [170u8; SET_SLOTS - 1];
+    let mut work = [170u8; WORK_BYTES - 1];
+    run(
+        file,
+        &mut changed,
+        &mut table,
+        &mut after,
+        &mut today,
+        &mut classes,
+        &mut work,
+    );
+}
+
+// Does the job of the file that a buffer starts with.
+fn try_both(file: &[u8]) {
+    answer(file);
+    try_short(file);
+}
+
+// Reads one job into a buffer of zeros and prints its answer; false at the end of the input. A piece alone is no longer than 65,535 bytes,
+// so a job has as many zeros behind its piece as the piece's kind less 1.
+fn next_in(file: &mut [u8]) -> bool
     requires { ⌜ length (now file) ≡ room + 255 ⌝ }
-    ensures { λ r. ⌜ r .len < room ⌝ }
 {
-    pieces::read(&mut file[0..ROOM])
-}
-
-// Reads one job and prints its answer; false at the end of the input. A piece alone is no longer than 65,535 bytes, so a job has as many
-// zeros behind its piece as the piece's kind less 1.
-fn next() -> bool {
-    let mut file = [0u8; ROOM + 255];
-    let piece = read(&mut file);
+    let piece = pieces::read(&mut file[0..ROOM]);
     let kind = piece.kind;
     if kind == 0 {
         return false;
     }
     let n = piece.len + (kind as usize - 1);
-    answer(&file[0..n]);
+    try_both(&file[0..n]);
     true
+}
+
+fn next() -> bool {
+    let mut file = [0u8; ROOM + 255];
+    next_in(&mut file)
 }
 
 // A proved loop has to end, so the turns are counted down from a number that no input uses up.

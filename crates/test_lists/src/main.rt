@@ -7,12 +7,6 @@ use list_entry::Listing;
 use listing::WORK_BYTES;
 use pieces::ROOM;
 
-fn print_two(n: u64, w: u64) {
-    io::print_decimal(STDOUT_FILENO, n);
-    io::write_all(STDOUT_FILENO, b" ");
-    io::print_decimal(STDOUT_FILENO, w);
-}
-
 fn print_answer(answer: Listing, set: &[u8]) {
     match answer {
         Listing::Listed(n) => {
@@ -20,10 +14,7 @@ fn print_answer(answer: Listing, set: &[u8]) {
             io::write_all(STDOUT_FILENO, b" ");
             pieces::print_bytes(set);
         }
-        Listing::Refused(item, w) => {
-            io::write_all(STDOUT_FILENO, b"refused ");
-            print_two(item as u64, w as u64);
-        }
+        Listing::Refused(item, w) => pieces::print_refusal(item, w),
     }
 }
 
@@ -49,36 +40,46 @@ fn short_is_refused(site: &[u8], cond: &[u8]) -> bool {
     is_item_1(r) & pieces::all_zero(&set) & pieces::all_zero(&work)
 }
 
-fn complain(fault: bool, text: &[u8]) {
-    if fault {
-        io::write_all(STDOUT_FILENO, text);
+fn answer_in(site: &[u8], cond: &[u8], set: &mut [u8], work: &mut [u8]) {
+    let r = list_entry::list(site, cond, set, work);
+    print_answer(r, set);
+    pieces::say_left(work, b" work left");
+    if is_refused(r) {
+        pieces::say_left(set, b" set left");
     }
 }
 
 fn answer(site: &[u8], cond: &[u8]) {
     let mut set = [170u8; SET_BYTES];
     let mut work = [170u8; WORK_BYTES];
-    let r = list_entry::list(site, cond, &mut set, &mut work);
-    print_answer(r, &set);
-    complain(!pieces::all_zero(&work), b" work left");
-    complain(is_refused(r) & !pieces::all_zero(&set), b" set left");
-    complain(!short_is_refused(site, cond), b" short buffers taken");
+    answer_in(site, cond, &mut set, &mut work);
+}
+
+// Prints the line of a pair.
+fn print_line(site: &[u8], cond: &[u8]) {
+    answer(site, cond);
+    pieces::say(!short_is_refused(site, cond), b" short buffers taken");
     io::write_all(STDOUT_FILENO, b"\n");
+}
+
+// Reads the condition that stands behind a site, and prints the line of the pair.
+fn read_condition(site: &[u8]) {
+    let mut cond = [0u8; ROOM];
+    let piece = pieces::read(&mut cond);
+    let n = piece.len;
+    print_line(site, &cond[0..n]);
 }
 
 // Reads one pair and prints its line; false at the end of the input.
 fn next() -> bool {
     let mut site = [0u8; ROOM];
-    let first = pieces::read(&mut site);
-    let kind = first.kind;
+    let piece = pieces::read(&mut site);
+    let kind = piece.kind;
     if kind == 0 {
         return false;
     }
-    let mut cond = [0u8; ROOM];
-    let second = pieces::read(&mut cond);
-    let m = first.len;
-    let n = second.len;
-    answer(&site[0..m], &cond[0..n]);
+    let n = piece.len;
+    read_condition(&site[0..n]);
     true
 }
 

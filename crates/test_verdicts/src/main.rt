@@ -29,11 +29,8 @@ fn print_verdict(v: Verdict) {
         Verdict::Accepted => {
             io::write_all(STDOUT_FILENO, b"accepted\n");
         }
-        Verdict::Refused(item, place) => {
-            io::write_all(STDOUT_FILENO, b"refused ");
-            io::print_decimal(STDOUT_FILENO, item as u64);
-            io::write_all(STDOUT_FILENO, b" ");
-            io::print_decimal(STDOUT_FILENO, place as u64);
+        Verdict::Refused(item, w) => {
+            pieces::print_refusal(item, w);
             io::write_all(STDOUT_FILENO, b"\n");
         }
     }
