@@ -4,8 +4,8 @@ use borrow.Author.Needs.{needs}
 use Rattle.limits.specs.Limits.{slots}
 use Rattle.site.specs.Site.{siteOf}
 use Rattle.going.specs.Laws.Ranges.{legal-DS}
-use Rattle.edits.specs.Laws.Rows.{row-DS}
-use Rattle.edits.specs.Laws.Bytes.{slot-taken}
+use Rattle.site_changes.specs.Laws.Rows.{row-DS}
+use Rattle.site_changes.specs.Laws.Bytes.{slot-taken}
 use Rattle.edits.proofs.delete_slot.Statement.{statement}
 use Rattle.edits.proofs.delete_slot.Tie as tie
 
