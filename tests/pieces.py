@@ -5,7 +5,7 @@ The items are written here once more, from docs/SPEC.md alone and in another way
 (sites as Python sets, a condition's free variables as sets of pairs), so a difference shows.
 
 A piece is a kind (1 site, 2 condition, 3 sheet), its length and how many of its bytes are not 0
-(2 bytes each, low byte first), then each such byte as its place (2 bytes) and its value.
+(2 bytes each, low byte first), then each such byte as its offset (2 bytes) and its value.
 """
 import os
 import random
@@ -303,9 +303,9 @@ def sheets(rng):
 
 
 def encode(kind, d):
-    places = [i for i, b in enumerate(d) if b]
-    out = bytearray([kind]) + len(d).to_bytes(2, "little") + len(places).to_bytes(2, "little")
-    for i in places:
+    offsets = [i for i, b in enumerate(d) if b]
+    out = bytearray([kind]) + len(d).to_bytes(2, "little") + len(offsets).to_bytes(2, "little")
+    for i in offsets:
         out += i.to_bytes(2, "little") + bytes([d[i]])
     return out
 

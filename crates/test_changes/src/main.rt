@@ -1,5 +1,5 @@
 // Reads sites, conditions and sheets on standard input and prints for each three what the desk answers: the bytes that applying changes,
-// behind their places; the rewritten table; and the lists of the condition on the site after and of the rewritten table today.
+// behind their offsets; the rewritten table; and the lists of the condition on the site after and of the rewritten table today.
 // A refusal is printed as `refused N W`. What a buffer should not hold, and a buffer of another length that is not refused, is said.
 use bitset::SET_BYTES;
 use libc::STDOUT_FILENO;
@@ -12,9 +12,9 @@ use rewriting::Rewriting;
 use site::SITE_BYTES;
 use verdict::Verdict;
 
-fn print_byte_at(place: usize, x: u8) {
+fn print_byte_at(offset: usize, x: u8) {
     io::write_all(STDOUT_FILENO, b" ");
-    io::print_decimal(STDOUT_FILENO, place as u64);
+    io::print_decimal(STDOUT_FILENO, offset as u64);
     io::write_all(STDOUT_FILENO, b":");
     io::print_decimal(STDOUT_FILENO, x as u64);
 }

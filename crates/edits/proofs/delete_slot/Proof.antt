@@ -29,10 +29,12 @@ same-length c = search needs
 
 returns : tie.Need-returns
 unfolding slots
-returns c = let s = c .before .before .before .before .before .before .before .before .before .before .before .before .before .before .before .before .before .before .before in
+returns c = let the-remove = c .before .before .before .before .before .before .before .before .before .before .before .before .before .before .remove in
+    let the-take-labels = c .before .before .before .before .before .before .before .before .before .before .take-labels in
+    let s = c .before .before .before .before .before .before .before .before .before .before .before .before .before .before .before .before .before .before .before in
     let x = c .before .before .before .before .before .before .before .before .before .before .before .before .before .before .before .before .place in
-    row-DS (siteOf (s .args .site .now)) (s .args .n) (x .ensures .0) (slot-taken (s .args .site .now) (s .pre .0) (x .result) (x .ensures .1) (c .before .before .before .before .before .before .before .before .before .before .before .before .before .before .remove .ensures))
-    (c .before .before .before .before .before .before .before .before .before .before .take-labels .ensures) (c .before .before .before .before .before .before .take-names .ensures) (c .before .before .take-links .ensures)
+    row-DS (siteOf (s .args .site .now)) (s .args .n) (x .ensures .0) (slot-taken (s .args .site .now) (s .pre .0) (x .result) (x .ensures .1) (the-remove .ensures))
+    (the-take-labels .ensures) (c .before .before .before .before .before .before .take-names .ensures) (c .before .before .take-links .ensures)
 
 pub delete-slot-spec : {M : Type 1} → statement M
 delete-slot-spec =

@@ -58,7 +58,7 @@ put-slot S a h = record { slots-are = λ t. has-inserted S a t h; others = byte-
 taken-slot : (S : List ℕ) (a : ℕ) → a / 8 < length S → Slotwise takes S (removed S a) a
 taken-slot S a h = record { slots-are = λ t. has-removed S a t h; others = byte-removed S a }
 
--- equal addresses, equal places
+-- bits have equal addresses where label and slot, or link and slots, are equal
 label-same : (q s p x : ℕ) → s < slots → x < slots → same (labelAt q * 8 + s) (labelAt p * 8 + x) ≡ (same q p && same s x)
 unfolding slots
 label-same q s p x hs hx =

@@ -7,9 +7,9 @@ use native.Mathlib.Omega.{arith}
 use lib.ListN.{getD}
 use lib.Seq.{ext-getD}
 use borrow.Author.Count.{below-more, below-none}
 use Rattle.bitset.specs.Set.{setBytes}
-use Rattle.bitset.proofs.equal.Statement.{statement}
-use Rattle.bitset.proofs.equal.Tie as tie
+use Rattle.set_algebra.proofs.equal.Statement.{statement}
+use Rattle.set_algebra.proofs.equal.Tie as tie
 
 abbrev Inv-loop : tie.InvT-loop
 Inv-loop a b i₀ i = (i ≤ setBytes) × ((k : ℕ) → k < i → getD a k 0 ≡ getD b k 0)

@@ -3,10 +3,10 @@ use mathlib.Core.Bool.{not}
 use Prim.Native.Nat.{_-_}
 use native.Mathlib.Omega.{arith}
 use Rattle.finite.specs.Laws.Bits.{bit-not}
 use Rattle.bitset.specs.Set.{setBytes}
 use Rattle.bitset.specs.Laws.Update.{Updated, update-none, update-more, update-done}
-use Rattle.bitset.proofs.complement.Statement.{statement}
-use Rattle.bitset.proofs.complement.Tie as tie
+use Rattle.set_algebra.proofs.complement.Statement.{statement}
+use Rattle.set_algebra.proofs.complement.Tie as tie
 
 abbrev Inv-loop : tie.InvT-loop
 Inv-loop set₀ i₀ set i = Updated (λ x y. not x) set₀ set₀ set i

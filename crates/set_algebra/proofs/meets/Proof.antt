@@ -3,10 +3,10 @@ use mathlib.Core.Path.{sym}
 use mathlib.Core.Bool.{not, _&&_}
 use Prim.Native.Nat.{_-_}
 use native.Mathlib.Omega.{arith}
 use Rattle.bitset.specs.Set.{setBytes, has}
 use Rattle.bitset.specs.Laws.Test.{Tested, test-none, meets-more, meets-done}
-use Rattle.bitset.proofs.meets.Statement.{statement}
-use Rattle.bitset.proofs.meets.Tie as tie
+use Rattle.set_algebra.proofs.meets.Statement.{statement}
+use Rattle.set_algebra.proofs.meets.Tie as tie
 
 abbrev Inv-loop : tie.InvT-loop
 Inv-loop a b both₀ i₀ both i = Tested (λ s. not (has a s && has b s)) i both

@@ -3,10 +3,10 @@ use mathlib.Core.Path.{sym}
 use mathlib.Core.Bool.{not, _||_}
 use Prim.Native.Nat.{_-_}
 use native.Mathlib.Omega.{arith}
 use Rattle.bitset.specs.Set.{setBytes, has}
 use Rattle.bitset.specs.Laws.Test.{Tested, test-none, test-done, subset-more}
-use Rattle.bitset.proofs.subset.Statement.{statement}
-use Rattle.bitset.proofs.subset.Tie as tie
+use Rattle.set_algebra.proofs.subset.Statement.{statement}
+use Rattle.set_algebra.proofs.subset.Tie as tie
 
 abbrev Inv-loop : tie.InvT-loop
 Inv-loop a b outside₀ i₀ outside i = Tested (λ s. not (has a s) || has b s) i outside
