@@ -32,17 +32,19 @@ fn is_item_1(answer: Listing) -> bool {
     }
 }
 
-// Buffers that are a byte too short.
-fn short_is_refused(site: &[u8], cond: &[u8]) -> bool {
-    let mut set = [170u8; SET_BYTES - 1];
-    let mut work = [170u8; WORK_BYTES - 1];
-    let r = list_entry::list(site, cond, &mut set, &mut work);
-    is_item_1(r) & pieces::all_zero(&set) & pieces::all_zero(&work)
+// In buffers of other lengths listing has to be refused with 1.
+fn show(answer: Listing, set: &[u8]) {
+    if set.len() == SET_BYTES {
+        print_answer(answer, set);
+    } else {
+        pieces::say(!is_item_1(answer), b" short buffers taken");
+    }
 }
 
-fn answer_in(site: &[u8], cond: &[u8], set: &mut [u8], work: &mut [u8]) {
+// Lists in the buffers that it is lent, and prints the answer.
+fn list(site: &[u8], cond: &[u8], set: &mut [u8], work: &mut [u8]) {
     let r = list_entry::list(site, cond, set, work);
-    print_answer(r, set);
+    show(r, set);
     pieces::say_left(work, b" work left");
     if is_refused(r) {
         pieces::say_left(set, b" set left");
@@ -52,13 +54,20 @@ fn answer_in(site: &[u8], cond: &[u8], set: &mut [u8], work: &mut [u8]) {
 fn answer(site: &[u8], cond: &[u8]) {
     let mut set = [170u8; SET_BYTES];
     let mut work = [170u8; WORK_BYTES];
-    answer_in(site, cond, &mut set, &mut work);
+    list(site, cond, &mut set, &mut work);
+}
+
+// Buffers that are a byte too short.
+fn try_short(site: &[u8], cond: &[u8]) {
+    let mut set = [170u8; SET_BYTES - 1];
+    let mut work = [170u8; WORK_BYTES - 1];
+    list(site, cond, &mut set, &mut work);
 }
 
 // Prints the line of a pair.
 fn print_line(site: &[u8], cond: &[u8]) {
     answer(site, cond);
-    pieces::say(!short_is_refused(site, cond), b" short buffers taken");
+    try_short(site, cond);
     io::write_all(STDOUT_FILENO, b"\n");
 }
 
