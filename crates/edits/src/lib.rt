@@ -71,7 +71,7 @@ fn take_names(site: &mut [u8], s: usize)
     }
 }
 
-// CN1
+// CN1: name n1 moves to where name n2 is.
 fn move_to_name(site: &mut [u8], n1: u8, n2: u8)
     requires { ⌜ (length (now site) ≡ siteBytes) × (legal (CN1 n1 n2) ≡ true) ⌝ }
     ensures { λ _. ⌜ siteOf (now (site .exit)) ≡ edit (CN1 n1 n2) (siteOf (now (site .entry))) ⌝ }
@@ -80,7 +80,7 @@ fn move_to_name(site: &mut [u8], n1: u8, n2: u8)
     put_name(site, n1 as usize, s);
 }
 
-// CN2
+// CN2: name n1 moves to where the functional link f leads from name n2.
 fn move_to_target(site: &mut [u8], n1: u8, n2: u8, f: u8)
     requires { ⌜ (length (now site) ≡ siteBytes) × (legal (CN2 n1 n2 f) ≡ true) ⌝ }
     ensures { λ _. ⌜ siteOf (now (site .exit)) ≡ edit (CN2 n1 n2 f) (siteOf (now (site .entry))) ⌝ }
@@ -90,7 +90,7 @@ fn move_to_target(site: &mut [u8], n1: u8, n2: u8, f: u8)
     put_name(site, n1 as usize, t);
 }
 
-// AP
+// AP: label p is put where name n is.
 fn add_label(site: &mut [u8], n: u8, p: u8)
     requires { ⌜ (length (now site) ≡ siteBytes) × (legal (AP n p) ≡ true) ⌝ }
     ensures { λ _. ⌜ siteOf (now (site .exit)) ≡ edit (AP n p) (siteOf (now (site .entry))) ⌝ }
@@ -99,7 +99,7 @@ fn add_label(site: &mut [u8], n: u8, p: u8)
     put_label(site, p as usize, s);
 }
 
-// DP
+// DP: label p is taken from where name n is.
 fn delete_label(site: &mut [u8], n: u8, p: u8)
     requires { ⌜ (length (now site) ≡ siteBytes) × (legal (DP n p) ≡ true) ⌝ }
     ensures { λ _. ⌜ siteOf (now (site .exit)) ≡ edit (DP n p) (siteOf (now (site .entry))) ⌝ }
@@ -108,7 +108,7 @@ fn delete_label(site: &mut [u8], n: u8, p: u8)
     take_label(site, p as usize, s);
 }
 
-// AS
+// AS: slot k is added, and name n moves there.
 fn add_slot(site: &mut [u8], n: u8, k: u8)
     requires { ⌜ (length (now site) ≡ siteBytes) × (legal (AS n k) ≡ true) ⌝ }
     ensures { λ _. ⌜ siteOf (now (site .exit)) ≡ edit (AS n k) (siteOf (now (site .entry))) ⌝ }

@@ -111,7 +111,7 @@ pub fn take_links(site: &mut [u8], s: usize)
     }
 }
 
-// AT, where it goes through
+// AT, where it goes through: link m is added from name n1 to name n2.
 pub fn add_link(site: &mut [u8], m: u8, n1: u8, n2: u8)
     requires { ⌜ (length (now site) ≡ siteBytes) × ((legal (AT m n1 n2) ≡ true) × (goes (AT m n1 n2) (siteOf (now site)) ≡ true)) ⌝ }
     ensures { λ _. ⌜ siteOf (now (site .exit)) ≡ edit (AT m n1 n2) (siteOf (now (site .entry))) ⌝ }
@@ -121,7 +121,7 @@ pub fn add_link(site: &mut [u8], m: u8, n1: u8, n2: u8)
     put_link(site, m as usize, s, t);
 }
 
-// DT1
+// DT1: link m is deleted from name n1 to name n2.
 pub fn delete_link(site: &mut [u8], m: u8, n1: u8, n2: u8)
     requires { ⌜ (length (now site) ≡ siteBytes) × (legal (DT1 m n1 n2) ≡ true) ⌝ }
     ensures { λ _. ⌜ siteOf (now (site .exit)) ≡ edit (DT1 m n1 n2) (siteOf (now (site .entry))) ⌝ }
@@ -131,7 +131,7 @@ pub fn delete_link(site: &mut [u8], m: u8, n1: u8, n2: u8)
     take_link(site, m as usize, s, t);
 }
 
-// DT2
+// DT2: the functional link f is deleted from name n.
 pub fn delete_target(site: &mut [u8], f: u8, n: u8)
     requires { ⌜ (length (now site) ≡ siteBytes) × (legal (DT2 f n) ≡ true) ⌝ }
     ensures { λ _. ⌜ siteOf (now (site .exit)) ≡ edit (DT2 f n) (siteOf (now (site .entry))) ⌝ }
