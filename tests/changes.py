@@ -1,8 +1,8 @@
 #!/usr/bin/env python3
-"""Writes crates/changes/stdin and stdout: sites, conditions and sheets, and for each what applying, rewriting and listing answer.
+"""Writes crates/test_changes/stdin and stdout: sites, conditions and sheets, and for each what applying, rewriting and listing answer.
 
-Written from document 01 alone and in another way than the crates: a site is a Python object with sets
-and dictionaries, and the blocks of rewriting are the paper's own postfix texts, read word by word.
+Written from docs/SPEC.md alone and in another way than the crates: a site is a Python object with sets
+and dictionaries, and the blocks of rewriting are the specification's own postfix texts, read word by word.
 """
 import copy
 import random
@@ -100,7 +100,7 @@ def apply(d, sheet):
     return site.bytes(), None
 
 
-# ---- rewriting: the paper's texts
+# ---- rewriting: the texts of docs/SPEC.md, "Rewriting"
 
 def leaf_text(edit, kind, param):
     op, x, y, z = edit
@@ -147,7 +147,7 @@ def way_text(edit, kind, way):
 
 
 def text(edit, kind, param):
-    """The block of a node of this kind and parameter, in the words of document 01; None where it is copied."""
+    """The block of a node of this kind and parameter, in the words of docs/SPEC.md, "Rewriting"; None where it is copied."""
     if kind not in (8, 9):
         return leaf_text(edit, kind, param)
     return way_text(edit, kind, param) if param != EVERYWHERE else None
@@ -289,7 +289,7 @@ DT2, DOUBLE = (6, 4, 1), (5, 4, 1, 2)
 
 
 def by_hand():
-    """Document 01's small sites, and R through k edits: 5 + 8(2^k - 1) nodes."""
+    """The specification's small sites, and R through k edits: 5 + 8(2^k - 1) nodes."""
     yield A, R, sheet(DT2)
     yield A, R, sheet()
     yield A, R, sheet((8, 1))
@@ -384,7 +384,7 @@ def main():
             words = line.split()
             key = " ".join(words[:2]) if words[0] == "refused" else "nodes" if "nodes" in words else words[0]
             count[key] = count.get(key, 0) + 1
-    pieces.write("changes", stdin, stdout)
+    pieces.write("test_changes", stdin, stdout)
     print(count, file=sys.stderr)
 
 

@@ -1,7 +1,7 @@
 #!/usr/bin/env python3
-"""Writes crates/job/stdin and stdout, and those of crates/jobs: jobs, and for each what is printed of it.
+"""Writes crates/job/stdin and stdout, and those of crates/test_jobs: jobs, and for each what is printed of it.
 
-The trailer, the order of the items and the class numbers are written here from document 01 alone, the
+The trailer, the order of the items and the class numbers are written here from docs/SPEC.md alone, the
 classes in another way than the crates': blocks of slots are split by what reaches a block until none is
 left that splits. The single items, applying, rewriting and listing are those of pieces.py, changes.py and lists.py.
 
@@ -74,7 +74,7 @@ def checksum(d):
 
 
 def answer(file):
-    """The lines of `job`, and one more of `jobs` where nothing is refused."""
+    """The lines of `job`, and one more of `test_jobs` where nothing is refused."""
     verdict, three = (2, 0), parts(file)
     if three:
         site, condition, sheet = three
@@ -117,7 +117,7 @@ FULL = pieces.full_table(2)
 
 
 def by_hand():
-    """Document 01's small sites."""
+    """The specification's small sites."""
     yield A, R, sheet()
     yield A, R, sheet((8, 1))
     yield A, R, sheet((0, 1, 2), (6, 4, 1))
@@ -305,7 +305,7 @@ def main():
         stdout += lines
         key = " ".join(lines[0].split()[:2]) if len(lines) == 1 else "done"
         count[key] = count.get(key, 0) + 1
-    pieces.write("jobs", stdin, stdout)
+    pieces.write("test_jobs", stdin, stdout)
     print(count, file=sys.stderr)
 
 

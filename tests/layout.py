@@ -1,4 +1,4 @@
-"""The numbers of document 01: how many of each thing there are, and where the parts of a site stand."""
+"""The numbers of docs/SPEC.md: how many of each thing there are, and where the parts of a site stand."""
 SLOTS = 256
 LABELS = 16
 NAMES = 16

@@ -1,7 +1,7 @@
 #!/usr/bin/env python3
-"""Writes crates/lists/stdin and stdout: sites with conditions, and for each pair what listing answers.
+"""Writes crates/test_lists/stdin and stdout: sites with conditions, and for each pair what listing answers.
 
-The evaluator here is written from document 01 alone and in another way than the crates': sets of
+The evaluator here is written from docs/SPEC.md alone and in another way than the crates': sets of
 slots are Python sets, loops go by Kleene iteration over a memo that is keyed by the values of a node's
 free variables, and neighbours are looked up in dictionaries of pairs.
 """
@@ -205,7 +205,7 @@ def main():
     for site, condition in cases(rng):
         stdin += pieces.encode(pieces.SITE, site) + pieces.encode(pieces.CONDITION, condition)
         stdout.append(answer(site, condition))
-    pieces.write("lists", stdin, stdout)
+    pieces.write("test_lists", stdin, stdout)
     sizes = [int(line.split()[0]) for line in stdout if not line.startswith("refused")]
     print(len(stdout), "cases;", len(sizes), "listed,", sum(0 < n < SLOTS for n in sizes), "of them neither empty nor full", file=sys.stderr)
 

@@ -412,7 +412,7 @@ bool model_edit(struct model *model, const uint8_t *edit)
     }
 }
 
-/* ---- rewriting: the paper's blocks, read word by word */
+/* ---- rewriting: the specification's blocks, read word by word */
 
 struct words {
     const char *text; /* NULL: the node is copied */

@@ -1,11 +1,11 @@
 #!/usr/bin/env python3
-"""Writes crates/verdicts/stdin and stdout: pieces of jobs, and for each the refusal that document 01 gives it.
+"""Writes crates/test_verdicts/stdin and stdout: pieces of jobs, and for each the refusal that docs/SPEC.md gives it.
 
-The items are written here once more, from the paper alone and in another way than in the crates
+The items are written here once more, from docs/SPEC.md alone and in another way than in the crates
 (sites as Python sets, a condition's free variables as sets of pairs), so a difference shows.
 
 A piece is a kind (1 site, 2 condition, 3 sheet), its length and how many of its bytes are not 0
-(2 bytes each, low byte first), then each such byte as its place (2 bytes) and its value.
+(2 bytes each, low byte first), then each such byte as its offset (2 bytes) and its value.
 """
 import os
 import random
@@ -18,7 +18,7 @@ WORDS = {SITE: "site", CONDITION: "condition", SHEET: "sheet"}
 SEED = 2048
 
 
-# ---- the items, as document 01 words them
+# ---- the items, as docs/SPEC.md, "Reasons" words them
 
 def members(data, at):
     return {8 * i + k for i in range(SET_BYTES) for k in range(8) if data[at + i] >> k & 1}
@@ -303,9 +303,9 @@ def sheets(rng):
 
 
 def encode(kind, d):
-    places = [i for i, b in enumerate(d) if b]
-    out = bytearray([kind]) + len(d).to_bytes(2, "little") + len(places).to_bytes(2, "little")
-    for i in places:
+    offsets = [i for i, b in enumerate(d) if b]
+    out = bytearray([kind]) + len(d).to_bytes(2, "little") + len(offsets).to_bytes(2, "little")
+    for i in offsets:
         out += i.to_bytes(2, "little") + bytes([d[i]])
     return out
 
@@ -328,7 +328,7 @@ def main():
         stdin += encode(kind, d)
         verdict = JUDGES[kind](d)
         stdout.append(f"{WORDS[kind]} " + ("accepted" if verdict is None else "refused %d %d" % verdict))
-    write("verdicts", stdin, stdout)
+    write("test_verdicts", stdin, stdout)
     counts = {}
     for line in stdout:
         key = " ".join(line.split()[:3]) if "refused" in line else line

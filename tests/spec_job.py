@@ -1,9 +1,9 @@
 #!/usr/bin/env python3
 """Holds docs/SPEC.md to what is stored and to include/desk.h.
 
-- The worked job: its blocks of bytes against crates/job/stdin and stdout, and against the answers to the same job in crates/changes and
-  crates/jobs.
-- The blocks of rewriting: the table of SPEC, "Rewriting" is read and carried out on every condition and sheet of crates/changes.
+- The worked job: its blocks of bytes against crates/job/stdin and stdout, and against the answers to the same job in crates/test_changes and
+  crates/test_jobs.
+- The blocks of rewriting: the table of SPEC, "Rewriting" is read and carried out on every condition and sheet of crates/test_changes.
 - The offsets of a site's parts and the numbers of kinds, operations and reasons against the header's constants.
 
 Prints what differs, and exits with 1 then. Run at the repository's top: tests/spec_job.py
@@ -62,7 +62,7 @@ def worked_job(spec, cases):
     pieces = [bytes(file[end - far:end - middle]), bytes(file[end - middle:end - near]), bytes(file[end - near:end])]
     answers = [answer for case, answer in cases if case == pieces]
     if not answers:
-        faults.append("the worked job is no case of crates/changes")
+        faults.append("the worked job is no case of crates/test_changes")
         return
     applied, table, after = answers[0][:3]
     site = put_bytes(block(spec, "site-after"), bytearray(pieces[0]))
@@ -73,14 +73,14 @@ def worked_job(spec, cases):
     compare("the rewritten table", f"{count} nodes {put_bytes(text, bytearray(NODE_BYTES * count)).hex()}", table)
     compare("the list after", "after " + listed(block(spec, "after")), after)
     numbers = put_bytes(block(spec, "classes"), bytearray(256)).hex()
-    compare("the class numbers", numbers, read("crates/jobs/stdout").splitlines()[4].split()[-1])
+    compare("the class numbers", numbers, read("crates/test_jobs/stdout").splitlines()[4].split()[-1])
 
 
-# ---- the stored cases of crates/changes
+# ---- the stored cases of crates/test_changes
 
 def stored_pieces():
     """Each piece is a kind, its length and how many bytes are not 0 (2 bytes each), then each such byte as its place and its value."""
-    with open("crates/changes/stdin", "rb") as f:
+    with open("crates/test_changes/stdin", "rb") as f:
         data = f.read()
     at = 0
     while at < len(data):
@@ -94,7 +94,7 @@ def stored_pieces():
 
 def stored_cases():
     """Site, condition and sheet, with the lines of their answer: applying, rewriting, and both lists where neither was refused."""
-    pieces, lines, at = list(stored_pieces()), read("crates/changes/stdout").splitlines(), 0
+    pieces, lines, at = list(stored_pieces()), read("crates/test_changes/stdout").splitlines(), 0
     for k in range(0, len(pieces), 3):
         size = 4 if lines[at + 2:at + 3] and lines[at + 2].startswith("after ") else 2
         yield pieces[k:k + 3], lines[at:at + size]
@@ -203,7 +203,7 @@ def rewriting(spec, cases):
             continue
         table = rewritten(blocks, operations, kinds, condition, sheet)
         line = "refused 14 0" if table is None else f"{len(table) // NODE_BYTES} nodes {table.hex()}"
-        compare(f"case {number} of crates/changes, rewritten", line, answer[1])
+        compare(f"case {number} of crates/test_changes, rewritten", line, answer[1])
 
 
 # ---- the header

@@ -3,7 +3,8 @@
 
     .ci/run | tee OUTPUT; tools/slowest.py OUTPUT [HOW_MANY]
 
-Crates and edits run side by side, so the sums are longer than the run.
+Crates and edits run side by side, more of them than there are processors (RT_JOBS in .ci/run), so each takes longer than it would alone, and
+the sums are longer than the run: compare the times of one run with each other.
 """
 import re
 import sys

@@ -1,4 +1,4 @@
--- A set of 256 slots is 32 bytes: slot s is byte s / 8, weight 2 ^ (s % 8). Document 01, "The site".
+-- A set of 256 slots is 32 bytes: slot s is byte s / 8, weight 2 ^ (s % 8). docs/SPEC.md, "Sets".
 use mathlib.Core.Path.{_≡_}
 use mathlib.Core.Bool.{Bool}
 use mathlib.Core.List.{List}

@@ -1,28 +1,21 @@
-// The nine edits on a site's bytes, in place.
+// The nine edits on a site's bytes, in place: those of names, labels and slots, and the choice among all nine.
 ghost use mathlib.Core.Path.{_≡_};
 ghost use mathlib.Core.Bool.{true};
-ghost use Prim.Native.Nat.{_≤_, _<_};
-ghost use lib.ListN.{length, set};
+ghost use Prim.Native.Nat.{_<_};
+ghost use lib.ListN.{length};
 ghost use Rattle.bitset.specs.Set.{setSlots};
-ghost use Rattle.limits.specs.Limits.{labels, names, links, generalLinks};
-ghost use Rattle.semantics.specs.Edit.{CN1, CN2, AP, DP, AT, DT1, DT2, AS, DS, edit, legal, goes};
-ghost use Rattle.site.specs.Layout.{siteBytes, targetAt};
+ghost use Rattle.limits.specs.Limits.{labels, names};
+ghost use Rattle.semantics.specs.Edit.{CN1, CN2, AP, DP, AS, DS, edit, legal, goes};
+ghost use Rattle.site.specs.Layout.{siteBytes};
 ghost use Rattle.site.specs.Site.{siteOf};
 ghost use Rattle.sheet.specs.Bytes.{editOf};
-ghost use Rattle.going.specs.Joins.{joins};
-ghost use Rattle.edits.specs.Change.{withName, withLabel, withoutLabel, withLink, withoutLink, withoutTarget, withoutName, columnTo, withoutLinksOf, withoutLabels, withoutNames, withoutLinks};
+ghost use Rattle.site_changes.specs.Change.{withName, withLabel, withoutLabel, withoutName, withoutLabels, withoutNames};
 use bitset::SET_BYTES;
-use bitset::SET_SLOTS;
 use sheet::Op;
-use site::GENERAL_LINKS;
 use site::LABELS;
 use site::LABELS_AT;
-use site::LINKS;
 use site::NAMES;
 use site::NAMES_AT;
-use site::ROWS_AT;
-use site::ROWS_BYTES;
-use site::TARGETS_AT;
 
 // Name n is at slot s.
 fn put_name(site: &mut [u8], n: usize, s: usize)
@@ -40,54 +33,12 @@ fn put_label(site: &mut [u8], p: usize, s: usize)
     bitset::insert(site, (LABELS_AT + SET_BYTES * p) * 8 + s);
 }
 
-// It is not.
+// Label p is not on slot s.
 fn take_label(site: &mut [u8], p: usize, s: usize)
     requires { ⌜ (length (now site) ≡ siteBytes) × ((p < labels) × (s < setSlots)) ⌝ }
     ensures { λ _. ⌜ siteOf (now (site .exit)) ≡ withoutLabel (siteOf (now (site .entry))) p s ⌝ }
 {
     bitset::remove(site, (LABELS_AT + SET_BYTES * p) * 8 + s);
-}
-
-// The target of slot s by the functional link f is t, 0 for none.
-fn put_target(site: &mut [u8], f: usize, s: usize, t: usize)
-    requires { ⌜ (length (now site) ≡ siteBytes) × ((generalLinks ≤ f) × ((f < links) × ((s < setSlots) × (t < setSlots)))) ⌝ }
-    ensures { λ _. ⌜ now (site .exit) ≡ set (now (site .entry)) (targetAt f s) t ⌝ }
-{
-    site[TARGETS_AT + SET_SLOTS * (f - GENERAL_LINKS) + s] = t as u8;
-}
-
-// Link m, which can be added, leads from slot s to slot t.
-fn put_link(site: &mut [u8], m: usize, s: usize, t: usize)
-    requires { ⌜ (length (now site) ≡ siteBytes) × ((m < links) × ((s < setSlots) × ((t < setSlots) × (joins (siteOf (now site)) m s t ≡ true)))) ⌝ }
-    ensures { λ _. ⌜ siteOf (now (site .exit)) ≡ withLink (siteOf (now (site .entry))) m s t ⌝ }
-{
-    if m < GENERAL_LINKS {
-        bitset::insert(site, (ROWS_AT + ROWS_BYTES * m + SET_BYTES * s) * 8 + t);
-    } else {
-        put_target(site, m, s, t);
-    }
-}
-
-// The functional link f does not lead from slot s to slot t.
-fn take_target(site: &mut [u8], f: usize, s: usize, t: usize)
-    requires { ⌜ (length (now site) ≡ siteBytes) × ((generalLinks ≤ f) × ((f < links) × ((s < setSlots) × (t < setSlots)))) ⌝ }
-    ensures { λ _. ⌜ siteOf (now (site .exit)) ≡ withoutLink (siteOf (now (site .entry))) f s t ⌝ }
-{
-    if site::target(site, f, s) == t {
-        put_target(site, f, s, 0);
-    }
-}
-
-// Link m does not lead from slot s to slot t.
-fn take_link(site: &mut [u8], m: usize, s: usize, t: usize)
-    requires { ⌜ (length (now site) ≡ siteBytes) × ((m < links) × ((s < setSlots) × (t < setSlots))) ⌝ }
-    ensures { λ _. ⌜ siteOf (now (site .exit)) ≡ withoutLink (siteOf (now (site .entry))) m s t ⌝ }
-{
-    if m < GENERAL_LINKS {
-        bitset::remove(site, (ROWS_AT + ROWS_BYTES * m + SET_BYTES * s) * 8 + t);
-    } else {
-        take_target(site, m, s, t);
-    }
 }
 
 // No label is on slot s.
@@ -120,58 +71,7 @@ fn take_names(site: &mut [u8], s: usize)
     }
 }
 
-// Link m leads to slot s from nowhere.
-fn take_column(site: &mut [u8], m: usize, s: usize)
-    requires { ⌜ (length (now site) ≡ siteBytes) × ((m < links) × (s < setSlots)) ⌝ }
-    ensures { λ _. ⌜ siteOf (now (site .exit)) ≡ columnTo (siteOf (now (site .entry))) m s setSlots ⌝ }
-{
-    for t in 0..SET_SLOTS {
-        take_link(site, m, t, s);
-    }
-}
-
-// The general link m leads from slot s nowhere.
-fn clear_row(site: &mut [u8], m: usize, s: usize)
-    requires { ⌜ (length (now site) ≡ siteBytes) × ((m < generalLinks) × (s < setSlots)) ⌝ }
-    ensures { λ _. ⌜ siteOf (now (site .exit)) ≡ withoutTarget (siteOf (now (site .entry))) m s ⌝ }
-{
-    let b = ROWS_AT + ROWS_BYTES * m + SET_BYTES * s;
-    let e = b + SET_BYTES;
-    bitset::clear(&mut site[b..e]);
-}
-
-// Link m leads from slot s nowhere.
-fn take_row(site: &mut [u8], m: usize, s: usize)
-    requires { ⌜ (length (now site) ≡ siteBytes) × ((m < links) × (s < setSlots)) ⌝ }
-    ensures { λ _. ⌜ siteOf (now (site .exit)) ≡ withoutTarget (siteOf (now (site .entry))) m s ⌝ }
-{
-    if m < GENERAL_LINKS {
-        clear_row(site, m, s);
-    } else {
-        put_target(site, m, s, 0);
-    }
-}
-
-// Link m leads neither from slot s nor to it.
-fn take_row_and_column(site: &mut [u8], m: usize, s: usize)
-    requires { ⌜ (length (now site) ≡ siteBytes) × ((m < links) × (s < setSlots)) ⌝ }
-    ensures { λ _. ⌜ siteOf (now (site .exit)) ≡ withoutLinksOf (siteOf (now (site .entry))) m s ⌝ }
-{
-    take_column(site, m, s);
-    take_row(site, m, s);
-}
-
-// No link leads from slot s or to it.
-fn take_links(site: &mut [u8], s: usize)
-    requires { ⌜ (length (now site) ≡ siteBytes) × (s < setSlots) ⌝ }
-    ensures { λ _. ⌜ siteOf (now (site .exit)) ≡ withoutLinks (siteOf (now (site .entry))) s ⌝ }
-{
-    for m in 0..LINKS {
-        take_row_and_column(site, m, s);
-    }
-}
-
-// CN1
+// CN1: name n1 moves to where name n2 is.
 fn move_to_name(site: &mut [u8], n1: u8, n2: u8)
     requires { ⌜ (length (now site) ≡ siteBytes) × (legal (CN1 n1 n2) ≡ true) ⌝ }
     ensures { λ _. ⌜ siteOf (now (site .exit)) ≡ edit (CN1 n1 n2) (siteOf (now (site .entry))) ⌝ }
@@ -180,7 +80,7 @@ fn move_to_name(site: &mut [u8], n1: u8, n2: u8)
     put_name(site, n1 as usize, s);
 }
 
-// CN2
+// CN2: name n1 moves to where the functional link f leads from name n2.
 fn move_to_target(site: &mut [u8], n1: u8, n2: u8, f: u8)
     requires { ⌜ (length (now site) ≡ siteBytes) × (legal (CN2 n1 n2 f) ≡ true) ⌝ }
     ensures { λ _. ⌜ siteOf (now (site .exit)) ≡ edit (CN2 n1 n2 f) (siteOf (now (site .entry))) ⌝ }
@@ -190,7 +90,7 @@ fn move_to_target(site: &mut [u8], n1: u8, n2: u8, f: u8)
     put_name(site, n1 as usize, t);
 }
 
-// AP
+// AP: label p is put where name n is.
 fn add_label(site: &mut [u8], n: u8, p: u8)
     requires { ⌜ (length (now site) ≡ siteBytes) × (legal (AP n p) ≡ true) ⌝ }
     ensures { λ _. ⌜ siteOf (now (site .exit)) ≡ edit (AP n p) (siteOf (now (site .entry))) ⌝ }
@@ -199,7 +99,7 @@ fn add_label(site: &mut [u8], n: u8, p: u8)
     put_label(site, p as usize, s);
 }
 
-// DP
+// DP: label p is taken from where name n is.
 fn delete_label(site: &mut [u8], n: u8, p: u8)
     requires { ⌜ (length (now site) ≡ siteBytes) × (legal (DP n p) ≡ true) ⌝ }
     ensures { λ _. ⌜ siteOf (now (site .exit)) ≡ edit (DP n p) (siteOf (now (site .entry))) ⌝ }
@@ -208,36 +108,7 @@ fn delete_label(site: &mut [u8], n: u8, p: u8)
     take_label(site, p as usize, s);
 }
 
-// AT, where it goes through
-fn add_link(site: &mut [u8], m: u8, n1: u8, n2: u8)
-    requires { ⌜ (length (now site) ≡ siteBytes) × ((legal (AT m n1 n2) ≡ true) × (goes (AT m n1 n2) (siteOf (now site)) ≡ true)) ⌝ }
-    ensures { λ _. ⌜ siteOf (now (site .exit)) ≡ edit (AT m n1 n2) (siteOf (now (site .entry))) ⌝ }
-{
-    let s = site::place(site, n1 as usize);
-    let t = site::place(site, n2 as usize);
-    put_link(site, m as usize, s, t);
-}
-
-// DT1
-fn delete_link(site: &mut [u8], m: u8, n1: u8, n2: u8)
-    requires { ⌜ (length (now site) ≡ siteBytes) × (legal (DT1 m n1 n2) ≡ true) ⌝ }
-    ensures { λ _. ⌜ siteOf (now (site .exit)) ≡ edit (DT1 m n1 n2) (siteOf (now (site .entry))) ⌝ }
-{
-    let s = site::place(site, n1 as usize);
-    let t = site::place(site, n2 as usize);
-    take_link(site, m as usize, s, t);
-}
-
-// DT2
-fn delete_target(site: &mut [u8], f: u8, n: u8)
-    requires { ⌜ (length (now site) ≡ siteBytes) × (legal (DT2 f n) ≡ true) ⌝ }
-    ensures { λ _. ⌜ siteOf (now (site .exit)) ≡ edit (DT2 f n) (siteOf (now (site .entry))) ⌝ }
-{
-    let s = site::place(site, n as usize);
-    put_target(site, f as usize, s, 0);
-}
-
-// AS
+// AS: slot k is added, and name n moves there.
 fn add_slot(site: &mut [u8], n: u8, k: u8)
     requires { ⌜ (length (now site) ≡ siteBytes) × (legal (AS n k) ≡ true) ⌝ }
     ensures { λ _. ⌜ siteOf (now (site .exit)) ≡ edit (AS n k) (siteOf (now (site .entry))) ⌝ }
@@ -255,7 +126,7 @@ fn delete_slot(site: &mut [u8], n: u8)
     bitset::remove(site, s);
     take_labels(site, s);
     take_names(site, s);
-    take_links(site, s);
+    link_edits::take_links(site, s);
 }
 
 // The edit, where it goes through.
@@ -268,9 +139,9 @@ pub fn apply_edit(site: &mut [u8], e: Op)
         Op::Cn2(n1, n2, f) => move_to_target(site, n1, n2, f),
         Op::Ap(n, p) => add_label(site, n, p),
         Op::Dp(n, p) => delete_label(site, n, p),
-        Op::At(m, n1, n2) => add_link(site, m, n1, n2),
-        Op::Dt1(m, n1, n2) => delete_link(site, m, n1, n2),
-        Op::Dt2(f, n) => delete_target(site, f, n),
+        Op::At(m, n1, n2) => link_edits::add_link(site, m, n1, n2),
+        Op::Dt1(m, n1, n2) => link_edits::delete_link(site, m, n1, n2),
+        Op::Dt2(f, n) => link_edits::delete_target(site, f, n),
         Op::As(n, k) => add_slot(site, n, k),
         Op::Ds(n) => delete_slot(site, n),
     }

@@ -1,4 +1,4 @@
--- The print of a job. Document 01, "The job file and its print": text as its bytes in ASCII, 10 for the end of a line.
+-- The print of a job. docs/SPEC.md, "The print": text as its bytes in ASCII, 10 for the end of a line.
 use mathlib.Core.List.{List, [], _∷_, _++_}
 use Prim.Native.Nat.{ℕ, suc, _/_, _%_, _^_}
 use Rattle.finite.specs.Tests.{below, first}
@@ -7,11 +7,11 @@ use Rattle.job_run.specs.declared.Job.{Job}
 use Rattle.job_run.specs.declared.Job.the-variants.{Done, Refused}
 
 -- the fewest decimal digits that hold a number below 10 ^ 20, one at least; and the number in decimal
-unfoldable pub places : ℕ → ℕ
-places n = suc (first 19 (λ k. below n (10 ^ suc k)))
+unfoldable pub digitCount : ℕ → ℕ
+digitCount n = suc (first 19 (λ k. below n (10 ^ suc k)))
 
 unfoldable pub decimal : ℕ → List ℕ
-decimal n = digits 10 (places n) n
+decimal n = digits 10 (digitCount n) n
 
 -- two lower-case hexadecimal digits a byte
 unfoldable pub hexadecimal : List ℕ → List ℕ

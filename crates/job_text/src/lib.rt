@@ -1,4 +1,4 @@
-// The print of a job as text, as document 01 lays it out: four lines, or `refused N W`.
+// The print of a job as text, docs/SPEC.md, "The print": four lines, or `refused N W`.
 use job_run::Job;
 use libc::STDOUT_FILENO;
 ghost use mathlib.Core.Path.{_≡_};
@@ -119,7 +119,7 @@ pub fn write(answer: Job, after: &[u8], today: &[u8], text: &mut [u8]) -> usize
     }
 }
 
-// Writes it to standard output.
+// Writes the print of a job's answer to standard output.
 pub fn print(answer: Job, after: &[u8], today: &[u8])
     requires { ⌜ (length (now after) ≡ setBytes) × (length (now today) ≡ setBytes) ⌝ }
 {

@@ -127,7 +127,7 @@ fn binary(
 fn same_set(a: [u8; SET_BYTES], b: [u8; SET_BYTES]) -> bool
     ensures { λ r. ⌜ (r ≡ true → a ≡ b) × (r ≡ false → a ≡ b → ⊥) ⌝ }
 {
-    bitset::equal(&a, &b)
+    set_algebra::equal(&a, &b)
 }
 
 // Writes the set of node i, a mu or nu: rounds from the empty or the full set until one gives back its set, 256 at most. The variable then

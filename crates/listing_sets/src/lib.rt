@@ -73,7 +73,7 @@ fn invert(buf: &mut [u8], j: usize)
 {
     let a = SET_BYTES * j;
     let e = a + SET_BYTES;
-    bitset::complement(&mut buf[a..e]);
+    set_algebra::complement(&mut buf[a..e]);
 }
 
 // Set j of the buffer becomes its union with `set`.
@@ -83,7 +83,7 @@ fn unite(buf: &mut [u8], j: usize, set: [u8; SET_BYTES])
 {
     let a = SET_BYTES * j;
     let e = a + SET_BYTES;
-    bitset::union_with(&mut buf[a..e], &set);
+    set_algebra::union_with(&mut buf[a..e], &set);
 }
 
 // Set j of the buffer becomes its intersection with `set`.
@@ -93,7 +93,7 @@ fn meet(buf: &mut [u8], j: usize, set: [u8; SET_BYTES])
 {
     let a = SET_BYTES * j;
     let e = a + SET_BYTES;
-    bitset::meet_with(&mut buf[a..e], &set);
+    set_algebra::meet_with(&mut buf[a..e], &set);
 }
 
 // The set of slot s alone.

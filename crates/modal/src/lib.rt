@@ -34,7 +34,7 @@ fn leads_into(site: &[u8], m: usize, s: usize, set: &[u8]) -> bool
     if m < GENERAL_LINKS {
         let b = row_at(m, s);
         let e = b + SET_BYTES;
-        return bitset::meets(&site[b..e], set);
+        return set_algebra::meets(&site[b..e], set);
     }
     let t = site::target(site, m, s);
     if t == 0 {
@@ -75,7 +75,7 @@ fn add_targets(site: &[u8], m: usize, t: usize, found: &mut [u8])
     if m < GENERAL_LINKS {
         let b = row_at(m, t);
         let e = b + SET_BYTES;
-        bitset::union_with(found, &site[b..e]);
+        set_algebra::union_with(found, &site[b..e]);
         return;
     }
     let s = site::target(site, m, t);
@@ -127,7 +127,7 @@ fn everywhere(set: [u8; SET_BYTES]) -> [u8; SET_BYTES]
     ensures { λ r. ⌜ Is r (λ s. any slots (λ t. has set t)) ⌝ }
 {
     let full = [255u8; SET_BYTES];
-    if bitset::meets(&set, &full) {
+    if set_algebra::meets(&set, &full) {
         return full;
     }
     [0u8; SET_BYTES]
@@ -154,8 +154,8 @@ pub fn boxed(site: &[u8], way: u8, set: [u8; SET_BYTES]) -> [u8; SET_BYTES]
     ensures { λ r. ⌜ Is r (λ s. all slots (λ t. not (step (siteOf (now (site .entry))) (wayOf way) s t) || has set t)) ⌝ }
 {
     let mut outside = set;
-    bitset::complement(&mut outside);
+    set_algebra::complement(&mut outside);
     let mut found = diamond(site, way, outside);
-    bitset::complement(&mut found);
+    set_algebra::complement(&mut found);
     found
 }

@@ -1,5 +1,5 @@
-// Pieces of jobs, read on standard input for the test programs, and bytes shown. A piece is written as its kind, its length, how many of its bytes
-// are not 0, and each of these behind its place (tests/pieces.py).
+// For the test programs: pieces of jobs, read on standard input; bytes and refusals, shown. A piece is written as its kind, its length, how
+// many of its bytes are not 0, and each of these behind its offset (tests/pieces.py).
 use buffer::wide;
 use libc::STDIN_FILENO;
 use libc::STDOUT_FILENO;
@@ -8,7 +8,7 @@ ghost use Prim.Native.Nat.{_<_};
 ghost use lib.ListN.{length};
 ghost use Rattle.pieces.specs.Room.{room};
 
-// Room for a piece of any length: a length and a place are two bytes.
+// Room for a piece of any length: a length and an offset are two bytes.
 pub const ROOM: usize = 65536;
 
 pub const SITE: u8 = 1;
@@ -28,7 +28,7 @@ fn number(low: u8, high: u8) -> usize
     wide(low) + 256 * wide(high)
 }
 
-// Puts the next byte of the input, which stands behind its place, into the piece.
+// Puts the next byte of the input, which stands behind its offset, into the piece.
 fn put_next(piece: &mut [u8])
     requires { ⌜ length (now piece) ≡ room ⌝ }
 {
@@ -84,4 +84,24 @@ pub fn all_zero(bytes: &[u8]) -> bool {
         k += 1;
     }
     true
+}
+
+// Says the text where there is a fault.
+pub fn say(fault: bool, text: &[u8]) {
+    if fault {
+        io::write_all(STDOUT_FILENO, text);
+    }
+}
+
+// Says the text unless the bytes are zeros.
+pub fn say_left(bytes: &[u8], text: &[u8]) {
+    say(!all_zero(bytes), text);
+}
+
+// The item that is met and its W, as `refused N W`.
+pub fn print_refusal(item: u8, w: u16) {
+    io::write_all(STDOUT_FILENO, b"refused ");
+    io::print_decimal(STDOUT_FILENO, item as u64);
+    io::write_all(STDOUT_FILENO, b" ");
+    io::print_decimal(STDOUT_FILENO, w as u64);
 }

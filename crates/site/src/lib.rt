@@ -105,7 +105,7 @@ fn part_inside(site: &[u8], b: usize, set: &[u8]) -> bool
     ensures { λ r. ⌜ r ≡ inside (now (site .entry)) b (now (set .entry)) ⌝ }
 {
     let e = b + SET_BYTES;
-    bitset::subset(&site[b..e], set)
+    set_algebra::subset(&site[b..e], set)
 }
 
 // Item 5 is not met: each label's set lies inside the present slots.
@@ -128,7 +128,7 @@ fn link_ends(site: &[u8]) -> [u8; SET_BYTES]
     ensures { λ r. ⌜ Is r (λ s. not (barred (siteOf (now (site .entry))) s)) ⌝ }
 {
     let mut ends = [0u8; SET_BYTES];
-    bitset::union_with(&mut ends, &site[0..SET_BYTES]);
+    set_algebra::union_with(&mut ends, &site[0..SET_BYTES]);
     bitset::remove(&mut ends, 0);
     ends
 }

@@ -36,7 +36,7 @@ fn alike(q: &[u8], rows: &[u8], s: usize, t: usize) -> bool
     let b = SET_BYTES * t;
     let a_end = a + SET_BYTES;
     let b_end = b + SET_BYTES;
-    bitset::equal(&rows[a..a_end], &rows[b..b_end])
+    set_algebra::equal(&rows[a..a_end], &rows[b..b_end])
 }
 
 // The lowest slot that is in the class of s and has its row. The search starts at the lowest slot of the class.

@@ -2,7 +2,7 @@
 use native.Mathlib.Omega.{arith}
 use Rattle.site.specs.Site.{siteOf}
 use Rattle.going.specs.Laws.Ranges.{legal-AP}
-use Rattle.edits.specs.Laws.Rows.{row-AP}
+use Rattle.site_changes.specs.Laws.Rows.{row-AP}
 use Rattle.edits.proofs.add_label.Statement.{statement}
 use Rattle.edits.proofs.add_label.Tie as tie
 

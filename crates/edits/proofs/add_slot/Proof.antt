@@ -3,8 +3,8 @@ use native.Mathlib.Omega.{arith}
 use Rattle.limits.specs.Limits.{slots}
 use Rattle.site.specs.Site.{siteOf}
 use Rattle.going.specs.Laws.Ranges.{legal-AS}
-use Rattle.edits.specs.Laws.Rows.{row-AS}
-use Rattle.edits.specs.Laws.Bytes.{slot-put}
+use Rattle.site_changes.specs.Laws.Rows.{row-AS}
+use Rattle.site_changes.specs.Laws.Bytes.{slot-put}
 use Rattle.edits.proofs.add_slot.Statement.{statement}
 use Rattle.edits.proofs.add_slot.Tie as tie
 

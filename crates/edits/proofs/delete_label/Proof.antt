@@ -2,7 +2,7 @@
 use native.Mathlib.Omega.{arith}
 use Rattle.site.specs.Site.{siteOf}
 use Rattle.going.specs.Laws.Ranges.{legal-DP}
-use Rattle.edits.specs.Laws.Rows.{row-DP}
+use Rattle.site_changes.specs.Laws.Rows.{row-DP}
 use Rattle.edits.proofs.delete_label.Statement.{statement}
 use Rattle.edits.proofs.delete_label.Tie as tie
 

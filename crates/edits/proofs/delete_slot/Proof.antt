@@ -4,8 +4,8 @@ use borrow.Author.Needs.{needs}
 use Rattle.limits.specs.Limits.{slots}
 use Rattle.site.specs.Site.{siteOf}
 use Rattle.going.specs.Laws.Ranges.{legal-DS}
-use Rattle.edits.specs.Laws.Rows.{row-DS}
-use Rattle.edits.specs.Laws.Bytes.{slot-taken}
+use Rattle.site_changes.specs.Laws.Rows.{row-DS}
+use Rattle.site_changes.specs.Laws.Bytes.{slot-taken}
 use Rattle.edits.proofs.delete_slot.Statement.{statement}
 use Rattle.edits.proofs.delete_slot.Tie as tie
 
@@ -29,10 +29,12 @@ same-length c = search needs
 
 returns : tie.Need-returns
 unfolding slots
-returns c = let s = c .before .before .before .before .before .before .before .before .before .before .before .before .before .before .before .before .before .before .before in
+returns c = let the-remove = c .before .before .before .before .before .before .before .before .before .before .before .before .before .before .remove in
+    let the-take-labels = c .before .before .before .before .before .before .before .before .before .before .take-labels in
+    let s = c .before .before .before .before .before .before .before .before .before .before .before .before .before .before .before .before .before .before .before in
     let x = c .before .before .before .before .before .before .before .before .before .before .before .before .before .before .before .before .place in
-    row-DS (siteOf (s .args .site .now)) (s .args .n) (x .ensures .0) (slot-taken (s .args .site .now) (s .pre .0) (x .result) (x .ensures .1) (c .before .before .before .before .before .before .before .before .before .before .before .before .before .before .remove .ensures))
-    (c .before .before .before .before .before .before .before .before .before .before .take-labels .ensures) (c .before .before .before .before .before .before .take-names .ensures) (c .before .before .take-links .ensures)
+    row-DS (siteOf (s .args .site .now)) (s .args .n) (x .ensures .0) (slot-taken (s .args .site .now) (s .pre .0) (x .result) (x .ensures .1) (the-remove .ensures))
+    (the-take-labels .ensures) (c .before .before .before .before .before .before .take-names .ensures) (c .before .before .take-links .ensures)
 
 pub delete-slot-spec : {M : Type 1} → statement M
 delete-slot-spec =

@@ -2,7 +2,7 @@
 use native.Mathlib.Omega.{arith}
 use Rattle.site.specs.Site.{siteOf}
 use Rattle.going.specs.Laws.Ranges.{legal-CN1}
-use Rattle.edits.specs.Laws.Rows.{row-CN1}
+use Rattle.site_changes.specs.Laws.Rows.{row-CN1}
 use Rattle.edits.proofs.move_to_name.Statement.{statement}
 use Rattle.edits.proofs.move_to_name.Tie as tie
 

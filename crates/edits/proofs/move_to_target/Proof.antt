@@ -3,7 +3,7 @@ use native.Mathlib.Omega.{arith}
 use Rattle.semantics.specs.Edit.{target}
 use Rattle.site.specs.Site.{siteOf}
 use Rattle.going.specs.Laws.Ranges.{legal-CN2}
-use Rattle.edits.specs.Laws.Rows.{row-CN2}
+use Rattle.site_changes.specs.Laws.Rows.{row-CN2}
 use Rattle.edits.proofs.move_to_target.Statement.{statement}
 use Rattle.edits.proofs.move_to_target.Tie as tie
 

@@ -1,7 +1,7 @@
 -- A name's byte.
 use native.Mathlib.Omega.{arith}
 use borrow.Author.Needs.{needs}
-use Rattle.edits.specs.Laws.Bytes.{name-put}
+use Rattle.site_changes.specs.Laws.Bytes.{name-put}
 use Rattle.edits.proofs.put_name.Statement.{statement}
 use Rattle.edits.proofs.put_name.Tie as tie
 

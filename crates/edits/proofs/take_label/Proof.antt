@@ -1,7 +1,7 @@
 -- A slot of a label's set.
 use native.Mathlib.Omega.{arith}
 use Rattle.limits.specs.Limits.{slots}
-use Rattle.edits.specs.Laws.Bytes.{label-taken}
+use Rattle.site_changes.specs.Laws.Bytes.{label-taken}
 use Rattle.edits.proofs.take_label.Statement.{statement}
 use Rattle.edits.proofs.take_label.Tie as tie
 

@@ -6,8 +6,8 @@ use lib.ListN.{length}
 use Rattle.limits.specs.Limits.{labels}
 use Rattle.site.specs.Layout.{siteBytes}
 use Rattle.site.specs.Site.{siteOf}
-use Rattle.edits.specs.Laws.Loops.{labels-start, labels-more, labels-end}
-use Rattle.edits.specs.Change.{labelsTo}
+use Rattle.site_changes.specs.Laws.Loops.{labels-start, labels-more, labels-end}
+use Rattle.site_changes.specs.Change.{labelsTo}
 use Rattle.edits.proofs.take_labels.Statement.{statement}
 use Rattle.edits.proofs.take_labels.Tie as tie
 

@@ -2,7 +2,7 @@
 use mathlib.Core.Path.{sym, _∙_}
 use native.Mathlib.Omega.{arith}
 use Rattle.site.specs.Site.{siteOf}
-use Rattle.edits.specs.Laws.Loops.{name-taken, name-other}
+use Rattle.site_changes.specs.Laws.Loops.{name-taken, name-other}
 use Rattle.edits.proofs.take_name.Statement.{statement}
 use Rattle.edits.proofs.take_name.Tie as tie
 

@@ -6,8 +6,8 @@ use lib.ListN.{length}
 use Rattle.limits.specs.Limits.{names}
 use Rattle.site.specs.Layout.{siteBytes}
 use Rattle.site.specs.Site.{siteOf}
-use Rattle.edits.specs.Laws.Loops.{names-start, names-more, names-end}
-use Rattle.edits.specs.Change.{namesTo}
+use Rattle.site_changes.specs.Laws.Loops.{names-start, names-more, names-end}
+use Rattle.site_changes.specs.Change.{namesTo}
 use Rattle.edits.proofs.take_names.Statement.{statement}
 use Rattle.edits.proofs.take_names.Tie as tie
 

@@ -6,27 +6,21 @@ use borrow.Author.Needs.{needs}
 use Rattle.job_text.proofs.put_number.Statement.{statement}
 use Rattle.job_text.proofs.put_number.Tie as tie
 
--- src/lib.rt:35:9
 decimal-requires : tie.Need-decimal-requires
 decimal-requires c κs = search needs
 
--- src/lib.rt:36:19
 array-share-prefix-digits : tie.Need-array-share-prefix-digits
 array-share-prefix-digits c = search needs
 
--- src/lib.rt:36:19
 slice-aggregate-put : tie.Need-slice-aggregate-put
 slice-aggregate-put c = search needs
 
--- src/lib.rt:36:5
 put-requires : tie.Need-put-requires
 put-requires c κs = omega (arith, c .before .before .decimal .ensures .0 .1, few (c .before .before .before .before .before .args .n) (c .before .before .decimal .result) (c .before .before .decimal .ensures .1 .0) (omega arith))
 
--- src/lib.rt:29:1
 same-length : tie.Need-same-length
 same-length c = search needs
 
--- src/lib.rt:29:1
 returns : tie.Need-returns
 returns c = number-put (c .before .before .before .before .before .before .before .before .args .n) (c .before .before .before .before .before .decimal .result) (c .before .before .before .before .before .decimal .last .1 .0) (c .before .before .before .before .before .decimal .ensures .1 .0) (few (c .before .before .before .before .before .before .before .before .args .n) (c .before .before .before .before .before .decimal .result) (c .before .before .before .before .before .decimal .ensures .1 .0) (omega arith)) (c .before .before .before .before .before .decimal .ensures .1 .1) (c .before .before .put .ensures)
 

@@ -11,7 +11,7 @@ use Rattle.finite.specs.Laws.Bools.{either, look}
 use Rattle.finite.specs.Laws.Below.{below-in, below-out, below-not, not-below, none-any}
 use Rattle.finite.specs.Laws.First.{first-is, first-none, first-in, first-stop}
 use Rattle.io.specs.Digits.{glyph, digits, Fewest}
-use Rattle.job_text.specs.Text.{places, decimal}
+use Rattle.job_text.specs.Text.{digitCount, decimal}
 
 pub length-digits : (b k n : ℕ) → length (digits b k n) ≡ k
 length-digits b zero n = refl
@@ -31,24 +31,24 @@ none-fewer n j f =
     below-not n (10 ^ suc i) (le-trans (pow-le-pow-right (omega arith) h) (rw e at (f .2 g))))
 
 -- a number that takes at most 20 digits takes so many
-pub places-is : (n k : ℕ) → Fewest 10 1 n k → k ≤ 20 → k ≡ places n
-unfolding places
-places-is n zero f h = absurd (omega (arith, f .0))
-places-is n (suc j) f h =
+pub digit-count-is : (n k : ℕ) → Fewest 10 1 n k → k ≤ 20 → k ≡ digitCount n
+unfolding digitCount
+digit-count-is n zero f h = absurd (omega (arith, f .0))
+digit-count-is n (suc j) f h =
     either (look (below j 19))
     (λ e. ap suc (sym (first-is 19 (holds n) j (below-out j 19 e) (none-fewer n j f) (below-in n (10 ^ suc j) (f .1)))))
     (λ e. ap suc (sym (first-stop 19 (holds n) j (none-fewer n j f) (omega arith) (not-below j 19 e))))
 
-pub places-few : (n : ℕ) → places n ≤ 20
-unfolding places
-places-few n =
+pub digit-count-few : (n : ℕ) → digitCount n ≤ 20
+unfolding digitCount
+digit-count-few n =
     either (look (any 19 (holds n)))
     (λ e. omega (arith, first-in 19 (holds n) e .0))
     (λ e. omega (arith, first-none 19 (holds n) e))
 
 pub decimal-short : (n : ℕ) → length (decimal n) ≤ 20
 unfolding decimal
-decimal-short n = omega (arith, length-digits 10 (places n) n, places-few n)
+decimal-short n = omega (arith, length-digits 10 (digitCount n) n, digit-count-few n)
 
 -- a word of the machine takes at most 20
 pub few : (n k : ℕ) → Fewest 10 1 n k → n < 18446744073709551616 → k ≤ 20

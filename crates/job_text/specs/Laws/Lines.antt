@@ -10,7 +10,7 @@ use Rattle.io.specs.Counts.{Counts}
 use Rattle.io.specs.Digits.{digits, Fewest}
 use Rattle.job_text.specs.Text.{decimal, hexadecimal, countLine, listLine, doneText, refusedText}
 use Rattle.job_text.specs.Put.{textBytes, Puts}
-use Rattle.job_text.specs.Laws.Decimal.{places-is, decimal-short}
+use Rattle.job_text.specs.Laws.Decimal.{digit-count-is, decimal-short}
 use Rattle.job_text.specs.Laws.Put.{puts-as, puts-then}
 use Rattle.job_text.specs.Laws.Hex.{length-hexadecimal}
 
@@ -19,7 +19,7 @@ pub number-put : {text text′ : List ℕ} {a b : ℕ} (n k : ℕ) (ds : List �
     → Puts text a (take k ds) text′ b → Puts text a (decimal n) text′ b × (b ≤ a + 20)
 unfolding decimal
 number-put {text} {text′} {a} {b} n k ds f h e p =
-    let q : Puts text a (decimal n) text′ b = puts-as (e ∙ ap (λ (j : ℕ). digits 10 j n) (places-is n k f h)) refl p in
+    let q : Puts text a (decimal n) text′ b = puts-as (e ∙ ap (λ (j : ℕ). digits 10 j n) (digit-count-is n k f h)) refl p in
     (q, omega (arith, q .ends, decimal-short n))
 
 -- a word, a number and the end of the line

@@ -1,4 +1,4 @@
--- `pieces::fill` keeps the piece's length, so each place is inside it.
+-- `pieces::fill` keeps the piece's length, so each offset is inside it.
 use mathlib.Core.Path.{_≡_}
 use Prim.Native.Nat.{_≤_, _-_}
 use native.Mathlib.Omega.{arith}

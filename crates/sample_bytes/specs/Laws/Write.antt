@@ -19,7 +19,7 @@ use Rattle.semantics.specs.Laws.Edits.{find-ends, target-one}
 use Rattle.site.specs.Layout.{labelsAt, namesAt, targetsAt, rowsAt, siteBytes, labelAt, nameAt, targetAt, rowAt}
 use Rattle.site.specs.Site.{siteOf}
 use Rattle.site.specs.Laws.Read.{functional-in, place-is, place-out}
-use Rattle.edits.specs.Laws.Areas.{same-fields, presents-are, marks-are, links-are}
+use Rattle.site_changes.specs.Laws.Areas.{same-fields, presents-are, marks-are, links-are}
 use Rattle.sample_bytes.specs.Write.{upTo, number, setByte, byteAt, bytesOf}
 
 -- ---- lists and numbers

@@ -1,0 +1,48 @@
+-- The edits, row by row: each as changes at slots.
+use mathlib.Core.Path.{_≡_, _∙_, ap, ap₂}
+use Prim.Native.Nat.{ℕ}
+use Rattle.semantics.specs.Holds.{Model}
+use Rattle.semantics.specs.Edit.{CN1, CN2, AP, DP, AT, DT1, DT2, AS, DS, target, edit}
+use Rattle.site_changes.specs.Change.{withName, withSlot, withoutSlot, withLabel, withoutLabel, withLink, withoutLink, withoutTarget, withoutLabels, withoutNames, withoutLinks}
+
+-- an edit is its changes, at the places that its names have before it
+module _ (M : Model) {M′ : Model} where
+  pub row-CN1 : (n1 n2 : ℕ) {x : ℕ} → x ≡ M .place n2 → M′ ≡ withName M n1 x → M′ ≡ edit (CN1 n1 n2) M
+  unfolding edit withName
+  row-CN1 n1 n2 e h = h ∙ ap (λ (z : ℕ). withName M n1 z) e
+
+  pub row-CN2 : (n1 n2 f : ℕ) {x y : ℕ} → x ≡ M .place n2 → y ≡ target M f x → M′ ≡ withName M n1 y → M′ ≡ edit (CN2 n1 n2 f) M
+  unfolding edit withName
+  row-CN2 n1 n2 f e g h = h ∙ ap (λ (z : ℕ). withName M n1 z) (g ∙ ap (target M f) e)
+
+  pub row-AP : (n p : ℕ) {x : ℕ} → x ≡ M .place n → M′ ≡ withLabel M p x → M′ ≡ edit (AP n p) M
+  unfolding edit withLabel
+  row-AP n p e h = h ∙ ap (λ (z : ℕ). withLabel M p z) e
+
+  pub row-DP : (n p : ℕ) {x : ℕ} → x ≡ M .place n → M′ ≡ withoutLabel M p x → M′ ≡ edit (DP n p) M
+  unfolding edit withoutLabel
+  row-DP n p e h = h ∙ ap (λ (z : ℕ). withoutLabel M p z) e
+
+  pub row-AT : (m n1 n2 : ℕ) {x y : ℕ} → x ≡ M .place n1 → y ≡ M .place n2 → M′ ≡ withLink M m x y → M′ ≡ edit (AT m n1 n2) M
+  unfolding edit withLink
+  row-AT m n1 n2 e f h = h ∙ ap₂ (λ (z w : ℕ). withLink M m z w) e f
+
+  pub row-DT1 : (m n1 n2 : ℕ) {x y : ℕ} → x ≡ M .place n1 → y ≡ M .place n2 → M′ ≡ withoutLink M m x y → M′ ≡ edit (DT1 m n1 n2) M
+  unfolding edit withoutLink
+  row-DT1 m n1 n2 e f h = h ∙ ap₂ (λ (z w : ℕ). withoutLink M m z w) e f
+
+  pub row-DT2 : (f n : ℕ) {x : ℕ} → x ≡ M .place n → M′ ≡ withoutTarget M f x → M′ ≡ edit (DT2 f n) M
+  unfolding edit withoutTarget
+  row-DT2 f n e h = h ∙ ap (λ (z : ℕ). withoutTarget M f z) e
+
+  pub row-AS : (n k : ℕ) {N : Model} → N ≡ withSlot M k → M′ ≡ withName N n k → M′ ≡ edit (AS n k) M
+  unfolding edit withName withSlot
+  row-AS n k e h = h ∙ ap (λ (K : Model). withName K n k) e
+
+  pub row-DS : (n : ℕ) {x : ℕ} {N₁ N₂ N₃ : Model} → x ≡ M .place n → N₁ ≡ withoutSlot M x → N₂ ≡ withoutLabels N₁ x → N₃ ≡ withoutNames N₂ x
+      → M′ ≡ withoutLinks N₃ x → M′ ≡ edit (DS n) M
+  unfolding edit withoutSlot withoutLabels withoutNames withoutLinks
+  row-DS n {x} e f g h k =
+      k
+      ∙ ap (λ (N : Model). withoutLinks N x) (h ∙ ap (λ (N : Model). withoutNames N x) (g ∙ ap (λ (N : Model). withoutLabels N x) f))
+      ∙ ap (λ (z : ℕ). withoutLinks (withoutNames (withoutLabels (withoutSlot M z) z) z) z) e
