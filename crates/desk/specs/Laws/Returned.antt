@@ -33,7 +33,7 @@ returned After a l h e f = record { reason-is = e ∙ ap reasonOf (h ∙ a); fau
 module _ {site table set set′ work work′ : List ℕ} where
   pub returned-list : (r : Listing) → ListAnswered site table set set′ work work′ (verdictOf r) (countOf r) → {v : Verdict} → v ≡ verdictOf r
       → {reason fault n : ℕ} → reason ≡ reasonOf v → fault ≡ faultOf v → n ≡ countOf r → ReturnedList site table set set′ work work′ reason fault n
-  returned-list r a h e f {n} g = returned (λ v. ListAfter v site table set set′ work work′ n) (a .verdict) (rw g (a .left)) h e f
+  returned-list r a h {n = n} e f g = returned (λ v. ListAfter v site table set set′ work work′ n) (a .verdict) (rw g (a .left)) h e f
 
 -- ---- applying
 
@@ -48,7 +48,7 @@ module _ {table sheet result result′ : List ℕ} where
   pub returned-rewrite : (r : Rewriting) → RewriteAnswered table sheet result result′ (rewriting.verdictOf r) (rewriting.nodesOf r)
       → {v : Verdict} → v ≡ rewriting.verdictOf r → {reason fault n : ℕ} → reason ≡ reasonOf v → fault ≡ faultOf v → n ≡ rewriting.nodesOf r
       → ReturnedRewrite table sheet result result′ reason fault n
-  returned-rewrite r a h e f {n} g = returned (λ v. TableAfter v table sheet result result′ n) (a .verdict) (rw g (a .left)) h e f
+  returned-rewrite r a h {n = n} e f g = returned (λ v. TableAfter v table sheet result result′ n) (a .verdict) (rw g (a .left)) h e f
 
 -- ---- class numbers
 
@@ -56,7 +56,7 @@ module _ {site classes classes′ : List ℕ} where
   pub returned-classes : (r : Classing) → ClassesAnswered site classes classes′ (classing.verdictOf r) (classing.countOf r)
       → {v : Verdict} → v ≡ classing.verdictOf r → {reason fault n : ℕ} → reason ≡ reasonOf v → fault ≡ faultOf v → n ≡ classing.countOf r
       → ReturnedClasses site classes classes′ reason fault n
-  returned-classes r a h e f {n} g = returned (λ v. ClassesAfter v site classes classes′ n) (a .verdict) (rw g (a .left)) h e f
+  returned-classes r a h {n = n} e f g = returned (λ v. ClassesAfter v site classes classes′ n) (a .verdict) (rw g (a .left)) h e f
 
 -- ---- a job
 
