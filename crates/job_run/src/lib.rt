@@ -139,6 +139,6 @@ pub fn run(
             classes,
             work,
         ),
-        Rewriting::Refused(item, fault) => refuse(item, fault, changed, table, after, today, classes, work),
+        Rewriting::Refused(item, w) => refuse(item, w, changed, table, after, today, classes, work),
     }
 }
