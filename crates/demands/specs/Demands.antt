@@ -91,7 +91,7 @@ pub record ListsAgree (site table sheet changed rewrote today after : List ℕ) 
   -- the two lists are the same 32 bytes, with the same count
   pub same-set : today ≡ after
   pub same-count : t ≡ a
-  -- and each slot of them is that of the semantics, today and on the site after
+  -- each slot of the lists is that of the semantics, today and on the site after
   pub today-listed : Listed (siteOf site) (formOf (tableOf rewrote)) today t
   pub after-listed : Listed (siteOf changed) (formOf (tableOf table)) after a
   -- the rewritten table is the one of the blocks, and the site after has the effects of the whole sheet
@@ -102,7 +102,7 @@ pub record ListsAgree (site table sheet changed rewrote today after : List ℕ) 
 -- site today, and the condition listed on the site after
 pub record SameLists {site table sheet : List ℕ} (applied : ApplyCall site sheet) (rewrote : RewriteCall table sheet)
     (today : ListCall site (rewrittenTable rewrote)) (after : ListCall (applied .result′) table) : Type 0 where
-  -- none refuses: listing accepts the rewritten table, and the site after
+  -- no call refuses: listing accepts the rewritten table, and the site after
   pub applies : applied .reason ≡ 0
   pub rewrites : rewrote .reason ≡ 0
   pub lists-today : today .reason ≡ 0
@@ -133,7 +133,7 @@ SameNumbers site sheet classes =
 
 -- what is to hold of the two calls: the sheet applied to the site, and the slots of the site that it leaves numbered
 pub record SameClasses {site sheet : List ℕ} (applied : ApplyCall site sheet) (numbered : ClassCall (applied .result′)) : Type 0 where
-  -- neither refuses
+  -- no call refuses
   pub applies : applied .reason ≡ 0
   pub numbers : numbered .reason ≡ 0
   pub same-numbers : SameNumbers site sheet (numbered .classes′)

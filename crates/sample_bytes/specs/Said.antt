@@ -25,7 +25,7 @@ tableIn r = condition.bytesOf (r .table)
 abbrev pub sheetIn : Row → List ℕ
 sheetIn r = sheet.bytesOf (r .edits)
 
--- they are bytes, and the site's are read as the row's site
+-- the pieces are bytes, and the site's are read as the row's site
 pub record SampleWritten (r : Row) : Type 0 where
   pub site-bytes : Bytes (siteIn r)
   pub table-bytes : Bytes (tableIn r)

@@ -103,7 +103,7 @@ module _ (file : List ℕ) (c : JobCall file) where
           returned = record { reason-is = sym (ap reasonOf v); fault-is = sym (ap faultOf v); left = rw v (left .table-after) };
         }
 
-    -- either list
+    -- the call of listing for the list today, or for the list after
     abbrev lists : (site table set set′ : List ℕ) (n : ℕ) → siteVerdict site ≡ Accepted → conditionVerdict table ≡ Accepted → length set ≡ setBytes
         → SetAfter Accepted site table set set′ n → ListCall site table
     lists site table set set′ n a b size after =

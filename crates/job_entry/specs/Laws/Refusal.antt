@@ -27,7 +27,7 @@ use Rattle.job_entry.specs.Steps.{sizesFit, sizesVerdict}
 
 -- ---- item 1
 
--- by one test of the six lengths
+-- item 1 of the six buffers by one test of their lengths
 pub sizes-verdict : (b : Buffers) → buffersVerdict b ≡ sizesVerdict (sizesFit b)
 unfolding buffersVerdict bufferVerdict sizesFit
 sizes-verdict b =

@@ -30,7 +30,7 @@ module _ {cond masks : List ℕ} where
   pub judged-refused : {u : Verdict} (w : Verdict) {item fault : ℕ} → u ≡ Refused item fault → PiecesJudged (u then w) cond masks (Refused item fault)
   judged-refused w e = record { verdict = rw e; rows = λ f. refused f }
 
-  -- it accepts, and the second judges
+  -- the first of two checks accepts, and the second judges
   pub judged-next : {u w v : Verdict} → u ≡ Accepted → PiecesJudged w cond masks v → PiecesJudged (u then w) cond masks v
   judged-next e j = record { verdict = rw e (j .verdict); rows = j .rows }
 

@@ -75,12 +75,12 @@ input-then len table sheet =
 -- ---- rewriting answers
 
 module _ {table sheet result result′ : List ℕ} {v : Verdict} (j : v ≡ inputVerdict (length result) table sheet) where
-  -- none of the first items is met
+  -- no item before 14 is met
   pub answered-rewritten : v ≡ Accepted → {u : Verdict} {n : ℕ} → Rewrote table sheet result result′ u n → RewriteAnswered table sheet result result′ u n
   answered-rewritten e w =
       record { verdict = rw (input-then (length result) table sheet, ← j, e) (w .verdict); left = w .table-after }
 
-  -- one of them is met
+  -- an item before 14 is met
   pub answered-refused : {item w : ℕ} → v ≡ Refused item w → {r : Rewriting} → r ≡ entry.Refused item w
       → result′ ≡ replicate (length result) 0 → RewriteAnswered table sheet result result′ (verdictOf r) (nodesOf r)
   unfolding TableAfter
