@@ -3,6 +3,7 @@ use mathlib.Core.Path.{_≡_}
 use mathlib.Core.List.{List}
 use Prim.Native.Nat.{ℕ}
 use lib.ListN.{length, replicate}
+use Rattle.finite.specs.Bytes.{Bytes}
 use Rattle.verdict.specs.declared.Verdict.{Verdict}
 use Rattle.verdict.specs.declared.Verdict.the-variants.{Accepted, Refused}
 use Rattle.semantics.specs.Edit as edits
@@ -11,12 +12,18 @@ use Rattle.site.specs.Site.{siteOf}
 use Rattle.sheet.specs.Bytes.{editsOf}
 use Rattle.apply_entry.specs.Refusal.{applyVerdict}
 
+-- the result has the bytes of the site that the whole sheet leaves
+pub record SiteWritten (site sheet result′ : List ℕ) : Type 0 where
+  pub size : length result′ ≡ siteBytes
+  pub bytes : Bytes result′
+  pub effects : siteOf result′ ≡ edits.sheet (editsOf sheet) (siteOf site)
+
 -- the result after a verdict: the site that the whole sheet leaves; zeros where an input is refused
 unfoldable pub SiteAfter : Verdict → (site sheet result result′ : List ℕ) → Type 0
-SiteAfter Accepted site sheet result result′ = (length result′ ≡ siteBytes) × (siteOf result′ ≡ edits.sheet (editsOf sheet) (siteOf site))
+SiteAfter Accepted site sheet result result′ = SiteWritten site sheet result′
 SiteAfter (Refused item w) site sheet result result′ = result′ ≡ replicate (length result) 0
 
 -- applying answers the verdict v
-pub record Answered (site sheet result result′ : List ℕ) (v : Verdict) : Type 0 where
+pub record ApplyAnswered (site sheet result result′ : List ℕ) (v : Verdict) : Type 0 where
   pub verdict : v ≡ applyVerdict (length result) site sheet
-  pub site-after : SiteAfter v site sheet result result′
+  pub left : SiteAfter v site sheet result result′

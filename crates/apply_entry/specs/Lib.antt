@@ -1,8 +1,8 @@
--- Which inputs are refused, in document 01's order.
+-- Which inputs are refused, in their order.
 pub mod Refusal
 -- what applying answers and leaves in its buffer
 pub mod Applying
 -- what an inner function tests
-pub mod Judged
+pub mod Inputs
 -- what is proved of them
 pub mod Laws

@@ -3,12 +3,12 @@ use site::SITE_BYTES;
 use verdict::Verdict;
 ghost use mathlib.Core.Path.{_≡_};
 ghost use lib.ListN.{length, replicate};
-ghost use Rattle.apply_entry.specs.Applying.{Answered};
-ghost use Rattle.apply_entry.specs.Judged.{judged};
+ghost use Rattle.apply_entry.specs.Applying.{ApplyAnswered};
+ghost use Rattle.apply_entry.specs.Inputs.{inputVerdict};
 
 // The first of items 1, 3 to 6, 11 and 12 that the inputs meet, from the result's length, the site and the sheet.
 fn judge(result: usize, site: &[u8], sheet: &[u8]) -> Verdict
-    ensures { λ r. ⌜ r ≡ judged result (now (site .entry)) (now (sheet .entry)) ⌝ }
+    ensures { λ r. ⌜ r ≡ inputVerdict result (now (site .entry)) (now (sheet .entry)) ⌝ }
 {
     if result != SITE_BYTES {
         return Verdict::Refused(1, 0);
@@ -16,26 +16,26 @@ fn judge(result: usize, site: &[u8], sheet: &[u8]) -> Verdict
     let v = site::check(site);
     match v {
         Verdict::Accepted => sheet::check(sheet),
-        Verdict::Refused(item, place) => Verdict::Refused(item, place),
+        Verdict::Refused(item, fault) => Verdict::Refused(item, fault),
     }
 }
 
 // The answer to inputs that meet an item: the result becomes zeros.
-fn refused(result: &mut [u8], item: u8, place: u16) -> Verdict
-    ensures { λ r. ⌜ r ≡ Verdict.Refused item place ⌝ }
+fn refused(result: &mut [u8], item: u8, fault: u16) -> Verdict
+    ensures { λ r. ⌜ r ≡ Verdict.Refused item fault ⌝ }
     ensures { λ _. ⌜ now (result .exit) ≡ replicate (length (now (result .entry))) 0 ⌝ }
 {
     buffer::zero(result);
-    Verdict::Refused(item, place)
+    Verdict::Refused(item, fault)
 }
 
 // Writes the site that the whole sheet leaves, and zeros where an item is met.
 pub fn apply(site: &[u8], sheet: &[u8], result: &mut [u8]) -> Verdict
-    ensures { λ r. ⌜ Answered (now (site .entry)) (now (sheet .entry)) (now (result .entry)) (now (result .exit)) r ⌝ }
+    ensures { λ r. ⌜ ApplyAnswered (now (site .entry)) (now (sheet .entry)) (now (result .entry)) (now (result .exit)) r ⌝ }
 {
     let v = judge(result.len(), site, sheet);
     match v {
         Verdict::Accepted => applying::apply(site, sheet, result),
-        Verdict::Refused(item, place) => refused(result, item, place),
+        Verdict::Refused(item, fault) => refused(result, item, fault),
     }
 }

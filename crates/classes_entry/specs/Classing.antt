@@ -1,4 +1,4 @@
--- What is answered, and left in the buffer, for all inputs. The buffer is named twice: as it was, and as it is at return (′).
+-- What numbering the classes answers and leaves in its buffer, for all inputs. The buffer is named twice: as it was, and as it is at return (′).
 use mathlib.Core.Path.{_≡_}
 use mathlib.Core.List.{List}
 use Prim.Native.Nat.{ℕ}
@@ -15,6 +15,6 @@ ClassesAfter Accepted site classes classes′ n = Classes (siteOf site) classes�
 ClassesAfter (Refused item w) site classes classes′ n = (classes′ ≡ replicate (length classes) 0) × (n ≡ 0)
 
 -- the verdict v and the count n are answered
-pub record Answered (site classes classes′ : List ℕ) (v : Verdict) (n : ℕ) : Type 0 where
+pub record ClassesAnswered (site classes classes′ : List ℕ) (v : Verdict) (n : ℕ) : Type 0 where
   pub verdict : v ≡ classesVerdict (length classes) site
-  pub classes-after : ClassesAfter v site classes classes′ n
+  pub left : ClassesAfter v site classes classes′ n

@@ -7,7 +7,7 @@ ghost use Rattle.site.specs.Site.{siteOf};
 ghost use Rattle.classes.specs.Classes.{Classes, different};
 ghost use Rattle.classes_entry.specs.Refusal.{classesBytes, classesVerdict};
 ghost use Rattle.classes_entry.specs.Answer.{verdictOf, countOf};
-ghost use Rattle.classes_entry.specs.Classing.{Answered};
+ghost use Rattle.classes_entry.specs.Classing.{ClassesAnswered};
 
 const CLASSES_BYTES: usize = 256;
 
@@ -39,34 +39,36 @@ pub fn number(site: &[u8], classes: &mut [u8]) -> u32
 }
 
 // The answer to inputs that meet an item: the buffer becomes zeros.
-fn refused(classes: &mut [u8], item: u8, place: u16) -> Classing
-    ensures { λ r. ⌜ r ≡ Classing.Refused item place ⌝ }
+fn refused(classes: &mut [u8], item: u8, fault: u16) -> Classing
+    ensures { λ r. ⌜ r ≡ Classing.Refused item fault ⌝ }
     ensures { λ _. ⌜ now (classes .exit) ≡ replicate (length (now (classes .entry))) 0 ⌝ }
 {
     buffer::zero(classes);
-    Classing::Refused(item, place)
+    Classing::Refused(item, fault)
 }
 
 // Writes the class number of each of the site's slots, and answers how many different ones there are.
 pub fn classes(site: &[u8], classes: &mut [u8]) -> Classing
-    ensures { λ r. ⌜ Answered (now (site .entry)) (now (classes .entry)) (now (classes .exit)) (verdictOf r) (countOf r) ⌝ }
+    ensures { λ r. ⌜ ClassesAnswered (now (site .entry)) (now (classes .entry)) (now (classes .exit)) (verdictOf r) (countOf r) ⌝ }
 {
     let v = judge(classes.len(), site);
     match v {
         Verdict::Accepted => Classing::Numbered(number(site, classes)),
-        Verdict::Refused(item, place) => refused(classes, item, place),
+        Verdict::Refused(item, fault) => refused(classes, item, fault),
     }
 }
 
+// The outcome in the answer: accepted, or the item and its W.
 pub fn verdict(r: Classing) -> Verdict
     ensures { λ v. ⌜ v ≡ verdictOf r ⌝ }
 {
     match r {
         Classing::Numbered(_) => Verdict::Accepted,
-        Classing::Refused(item, w) => Verdict::Refused(item, w),
+        Classing::Refused(item, fault) => Verdict::Refused(item, fault),
     }
 }
 
+// How many different class numbers there are, 0 for a refusal.
 pub fn count(r: Classing) -> u32
     ensures { λ n. ⌜ n ≡ countOf r ⌝ }
 {

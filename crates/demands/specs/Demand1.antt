@@ -1,5 +1,5 @@
--- Demand 1: a planner who hands in a job, of whatever bytes, gets the full answer or one numbered refusal of document 01, and a refusal
--- leaves zeros in all result and work buffers. Said of the job first, then of each entry point; for all inputs: nothing is asked of bytes
+-- Demand 1: a planner who hands in a job, of whatever bytes, gets the full answer or one numbered refusal, and a refusal leaves
+-- zeros in all result and work buffers. Said of the job first, then of each entry point; for all inputs: nothing is asked of bytes
 -- or lengths. That a call returns as `Returned..` says is the contract of its export. A buffer is named twice: as it was, and as it is at
 -- return (′).
 use mathlib.Core.Path.{_≡_}
@@ -8,19 +8,20 @@ use mathlib.Core.List.{List}
 use Prim.Native.Nat.{ℕ, _≤_}
 use lib.ListN.{length, replicate}
 use Rattle.verdict.specs.declared.Verdict.the-variants.{Accepted}
-use Rattle.list_entry.specs.Listing.{SetAfter}
+use Rattle.refusals.specs.Refusal.{lastItem}
+use Rattle.list_entry.specs.Listing.{ListAfter}
 use Rattle.apply_entry.specs.Applying.{SiteAfter}
 use Rattle.rewriting.specs.Rewriting.{TableAfter}
 use Rattle.classes_entry.specs.Classing.{ClassesAfter}
 use Rattle.trailer.specs.Pieces.{siteIn, conditionIn, sheetIn}
 use Rattle.job_run.specs.Buffers.{Buffers}
-use Rattle.job_run.specs.Job.{Left}
+use Rattle.job_run.specs.Job.{JobAfter}
 use Rattle.desk.specs.Returned.{ReturnedList, ReturnedApply, ReturnedRewrite, ReturnedClasses, ReturnedJob}
 
--- the full answer where the reason is 0, and W is then 0; else one of the items 1 to 14, and zeros
-pub record Answers (reason w : ℕ) (Full Zeros : Type 0) : Type 0 where
-  pub numbered : reason ≤ 14
-  pub full : reason ≡ 0 → (w ≡ 0) × Full
+-- the full answer where the reason is 0, and W is then 0; else the number of an item, and zeros
+pub record Answers (reason fault : ℕ) (Full Zeros : Type 0) : Type 0 where
+  pub numbered : reason ≤ lastItem
+  pub full : reason ≡ 0 → (fault ≡ 0) × Full
   pub sent-back : reason ≢ 0 → Zeros
 
 -- a buffer is zeros, at the length it had
@@ -31,7 +32,7 @@ Zeroed b b′ = b′ ≡ replicate (length b) 0
 
 -- the site after, the rewritten table, both lists and the classes after, with their counts, from the three pieces of the file
 abbrev pub FullJob : (file : List ℕ) (b b′ : Buffers) (after today nodes classes : ℕ) → Type 0
-FullJob file b b′ after today nodes classes = Left Accepted (siteIn file) (conditionIn file) (sheetIn file) b b′ after today nodes classes
+FullJob file b b′ after today nodes classes = JobAfter Accepted (siteIn file) (conditionIn file) (sheetIn file) b b′ after today nodes classes
 
 -- the five result buffers and the work buffer are zeros, and the four counts are 0
 pub record ZeroJob (b b′ : Buffers) (after today nodes classes : ℕ) : Type 0 where
@@ -48,30 +49,30 @@ pub record ZeroJob (b b′ : Buffers) (after today nodes classes : ℕ) : Type 0
 
 unfoldable pub Demand1Job : Type 0
 Demand1Job =
-    (file : List ℕ) (b b′ : Buffers) (reason w after today nodes classes : ℕ) → ReturnedJob file b b′ reason w after today nodes classes
-    → Answers reason w (FullJob file b b′ after today nodes classes) (ZeroJob b b′ after today nodes classes)
+    (file : List ℕ) (b b′ : Buffers) (reason fault after today nodes classes : ℕ) → ReturnedJob file b b′ reason fault after today nodes classes
+    → Answers reason fault (FullJob file b b′ after today nodes classes) (ZeroJob b b′ after today nodes classes)
 
 -- ---- the four functions, one by one: what each leaves after the verdict Accepted, or zeros
 
 unfoldable pub Demand1List : Type 0
 Demand1List =
-    (site table set set′ work work′ : List ℕ) (reason w n : ℕ) → ReturnedList site table set set′ work work′ reason w n
-    → Answers reason w (SetAfter Accepted site table set set′ n × Zeroed work work′) (Zeroed set set′ × (Zeroed work work′ × (n ≡ 0)))
+    (site table set set′ work work′ : List ℕ) (reason fault n : ℕ) → ReturnedList site table set set′ work work′ reason fault n
+    → Answers reason fault (ListAfter Accepted site table set set′ work work′ n) (Zeroed set set′ × (Zeroed work work′ × (n ≡ 0)))
 
 unfoldable pub Demand1Apply : Type 0
 Demand1Apply =
-    (site sheet result result′ : List ℕ) (reason w : ℕ) → ReturnedApply site sheet result result′ reason w
-    → Answers reason w (SiteAfter Accepted site sheet result result′) (Zeroed result result′)
+    (site sheet result result′ : List ℕ) (reason fault : ℕ) → ReturnedApply site sheet result result′ reason fault
+    → Answers reason fault (SiteAfter Accepted site sheet result result′) (Zeroed result result′)
 
 unfoldable pub Demand1Rewrite : Type 0
 Demand1Rewrite =
-    (table sheet result result′ : List ℕ) (reason w n : ℕ) → ReturnedRewrite table sheet result result′ reason w n
-    → Answers reason w (TableAfter Accepted table sheet result result′ n) (Zeroed result result′ × (n ≡ 0))
+    (table sheet result result′ : List ℕ) (reason fault n : ℕ) → ReturnedRewrite table sheet result result′ reason fault n
+    → Answers reason fault (TableAfter Accepted table sheet result result′ n) (Zeroed result result′ × (n ≡ 0))
 
 unfoldable pub Demand1Classes : Type 0
 Demand1Classes =
-    (site classes classes′ : List ℕ) (reason w n : ℕ) → ReturnedClasses site classes classes′ reason w n
-    → Answers reason w (ClassesAfter Accepted site classes classes′ n) (Zeroed classes classes′ × (n ≡ 0))
+    (site classes classes′ : List ℕ) (reason fault n : ℕ) → ReturnedClasses site classes classes′ reason fault n
+    → Answers reason fault (ClassesAfter Accepted site classes classes′ n) (Zeroed classes classes′ × (n ≡ 0))
 
 -- ---- all five
 

@@ -3,13 +3,13 @@
 -- length, rewritten through the sheet, tells them apart today.
 use mathlib.Core.Path.{_≡_}
 use mathlib.Core.Logic.{_↔_}
-use mathlib.Core.Bool.{true, false}
+use mathlib.Core.Bool.{true}
 use mathlib.Core.List.{List}
-use Prim.Native.Nat.{ℕ, _*_, _<_}
+use Prim.Native.Nat.{ℕ, _*_, _≤_, _<_}
 use lib.ListN.{length, getD, take}
 use Rattle.bitset.specs.Set.{setBytes}
 use Rattle.verdict.specs.declared.Verdict.the-variants.{Accepted}
-use Rattle.limits.specs.Limits.{slots, tableBytes}
+use Rattle.limits.specs.Limits.{slots, tableNodes, tableBytes}
 use Rattle.semantics.specs.Holds.{Env, Distinguishes}
 use Rattle.semantics.specs.Table.{Node, formOf, ClosedTable}
 use Rattle.semantics.specs.Edit as edits
@@ -21,7 +21,7 @@ use Rattle.condition.specs.Bytes.{tableOf}
 use Rattle.condition.specs.Refusal.{conditionVerdict}
 use Rattle.sheet.specs.Bytes.{editsOf}
 use Rattle.sheet.specs.Refusal.{sheetVerdict}
-use Rattle.rewriting.specs.Refusal.{tooLong}
+use Rattle.rewriting.specs.Rewriting.{rewritten}
 use Rattle.listing.specs.Listed.{workBytes, Listed}
 use Rattle.classes_entry.specs.Refusal.{classesBytes}
 use Rattle.desk.specs.Returned.{ReturnedList, ReturnedApply, ReturnedRewrite, ReturnedClasses}
@@ -33,41 +33,39 @@ pub record ApplyCall (site sheet : List ℕ) : Type 0 where
   pub result : List ℕ
   pub result′ : List ℕ
   pub reason : ℕ
-  pub place : ℕ
+  pub fault : ℕ
   pub result-size : length result ≡ siteBytes
-  pub returned : ReturnedApply site sheet result result′ reason place
+  pub returned : ReturnedApply site sheet result result′ reason fault
 
 pub record RewriteCall (table sheet : List ℕ) : Type 0 where
   pub result : List ℕ
   pub result′ : List ℕ
   pub reason : ℕ
-  pub place : ℕ
+  pub fault : ℕ
   pub nodes : ℕ
   pub result-size : length result ≡ tableBytes
-  pub returned : ReturnedRewrite table sheet result result′ reason place nodes
+  pub returned : ReturnedRewrite table sheet result result′ reason fault nodes
 
--- the set is a slice of bytes, each below 256
 pub record ListCall (site table : List ℕ) : Type 0 where
   pub set : List ℕ
   pub set′ : List ℕ
   pub work : List ℕ
   pub work′ : List ℕ
   pub reason : ℕ
-  pub place : ℕ
+  pub fault : ℕ
   pub count : ℕ
   pub set-size : length set ≡ setBytes
-  pub set-bytes : (k : ℕ) → getD set′ k 0 < 256
   pub work-size : length work ≡ workBytes
-  pub returned : ReturnedList site table set set′ work work′ reason place count
+  pub returned : ReturnedList site table set set′ work work′ reason fault count
 
 pub record ClassCall (site : List ℕ) : Type 0 where
   pub classes : List ℕ
   pub classes′ : List ℕ
   pub reason : ℕ
-  pub place : ℕ
+  pub fault : ℕ
   pub count : ℕ
   pub classes-size : length classes ≡ classesBytes
-  pub returned : ReturnedClasses site classes classes′ reason place count
+  pub returned : ReturnedClasses site classes classes′ reason fault count
 
 -- the table that rewriting gives: as many nodes as it counts, from the start of the result
 abbrev pub rewrittenTable : {table sheet : List ℕ} → RewriteCall table sheet → List ℕ
@@ -81,37 +79,42 @@ pub record Going (site sheet : List ℕ) : Type 0 where
   pub sheet-accepted : sheetVerdict sheet ≡ Accepted
   pub goes-through : edits.sheetGoes (editsOf sheet) (siteOf site) ≡ true
 
--- and an accepted condition whose rewritten table fits
+-- a site and a sheet that goes through on it, and an accepted condition whose rewritten table has at most 2,048 nodes
 pub record Runnable (site table sheet : List ℕ) : Type 0 where
   pub going : Going site sheet
   pub table-accepted : conditionVerdict table ≡ Accepted
-  pub table-fits : tooLong (editsOf sheet) (tableOf table) ≡ false
+  pub table-fits : length (rewritten table sheet) ≤ tableNodes
+
+-- what is to hold of the bytes: the site `changed` that the sheet leaves, the table `rewrote` through the sheet, and the two lists, of that
+-- table on the site today, with t slots, and of the condition on the site after, with a slots
+pub record ListsAgree (site table sheet changed rewrote today after : List ℕ) (t a : ℕ) : Type 0 where
+  -- the two lists are the same 32 bytes, with the same count
+  pub same-set : today ≡ after
+  pub same-count : t ≡ a
+  -- each slot of the lists is that of the semantics, today and on the site after
+  pub today-listed : Listed (siteOf site) (formOf (tableOf rewrote)) today t
+  pub after-listed : Listed (siteOf changed) (formOf (tableOf table)) after a
+  -- the rewritten table is the one of the blocks, and the site after has the effects of the whole sheet
+  pub blocks : tableOf rewrote ≡ rewritten table sheet
+  pub effects : siteOf changed ≡ edits.sheet (editsOf sheet) (siteOf site)
 
 -- what is to hold of the four calls: the sheet applied to the site, the condition rewritten through it, the rewritten table listed on the
 -- site today, and the condition listed on the site after
-pub record SameLists {site table sheet : List ℕ} (applied : ApplyCall site sheet) (rewritten : RewriteCall table sheet)
-    (today : ListCall site (rewrittenTable rewritten)) (after : ListCall (applied .result′) table) : Type 0 where
-  -- none refuses: listing accepts the rewritten table, and the site after
+pub record SameLists {site table sheet : List ℕ} (applied : ApplyCall site sheet) (rewrote : RewriteCall table sheet)
+    (today : ListCall site (rewrittenTable rewrote)) (after : ListCall (applied .result′) table) : Type 0 where
+  -- no call refuses: listing accepts the rewritten table, and the site after
   pub applies : applied .reason ≡ 0
-  pub rewrites : rewritten .reason ≡ 0
+  pub rewrites : rewrote .reason ≡ 0
   pub lists-today : today .reason ≡ 0
   pub lists-after : after .reason ≡ 0
-  -- the two lists are the same 32 bytes, with the same count
-  pub same-set : today .set′ ≡ after .set′
-  pub same-count : today .count ≡ after .count
-  -- and each slot of them is that of the semantics, today and on the site after
-  pub today-listed : Listed (siteOf site) (formOf (tableOf (rewrittenTable rewritten))) (today .set′) (today .count)
-  pub after-listed : Listed (siteOf (applied .result′)) (formOf (tableOf table)) (after .set′) (after .count)
-  -- the rewritten table is the one of the blocks, and the site after has the effects of the whole sheet
-  pub blocks : tableOf (rewrittenTable rewritten) ≡ rewriteSheet (editsOf sheet) (tableOf table)
-  pub effects : siteOf (applied .result′) ≡ edits.sheet (editsOf sheet) (siteOf site)
+  pub agree : ListsAgree site table sheet (applied .result′) (rewrittenTable rewrote) (today .set′) (after .set′) (today .count) (after .count)
 
 unfoldable pub Demand2 : Type 0
 Demand2 =
     (site table sheet : List ℕ) → Runnable site table sheet
-    → (applied : ApplyCall site sheet) (rewritten : RewriteCall table sheet)
-    → (today : ListCall site (rewrittenTable rewritten)) (after : ListCall (applied .result′) table)
-    → SameLists applied rewritten today after
+    → (applied : ApplyCall site sheet) (rewrote : RewriteCall table sheet)
+    → (today : ListCall site (rewrittenTable rewrote)) (after : ListCall (applied .result′) table)
+    → SameLists applied rewrote today after
 
 -- ---- demand 3
 
@@ -123,14 +126,17 @@ pub record Distinguished (site sheet : List ℕ) (ρ : Env) (s t : ℕ) : Type 0
   pub is-closed : ClosedTable table
   pub tells : Distinguishes (siteOf site) ρ (formOf (rewriteSheet (editsOf sheet) table)) s t
 
+-- what is to hold of the class numbers after the sheet: two slots have one number exactly if no such table tells them apart
+abbrev pub SameNumbers : (site sheet classes : List ℕ) → Type 0
+SameNumbers site sheet classes =
+    (ρ : Env) (s t : ℕ) → s < slots → t < slots → (getD classes s 0 ≡ getD classes t 0) ↔ ¬ Distinguished site sheet ρ s t
+
 -- what is to hold of the two calls: the sheet applied to the site, and the slots of the site that it leaves numbered
 pub record SameClasses {site sheet : List ℕ} (applied : ApplyCall site sheet) (numbered : ClassCall (applied .result′)) : Type 0 where
-  -- neither refuses
+  -- no call refuses
   pub applies : applied .reason ≡ 0
   pub numbers : numbered .reason ≡ 0
-  -- two slots have one class number exactly if no such table tells them apart
-  pub same-number : (ρ : Env) (s t : ℕ) → s < slots → t < slots
-      → (getD (numbered .classes′) s 0 ≡ getD (numbered .classes′) t 0) ↔ ¬ Distinguished site sheet ρ s t
+  pub same-numbers : SameNumbers site sheet (numbered .classes′)
 
 unfoldable pub Demand3 : Type 0
 Demand3 =

@@ -1,12 +1,13 @@
--- What each entry point returns and leaves in its buffers, for all inputs, in the numbers of document 01. A buffer is named twice: as it
--- was, and as it is at return (′).
+-- What each entry point returns and leaves in its buffers, for all inputs, in numbers. A buffer is named twice: as it was, and as it is at
+-- return (′).
 use mathlib.Core.Path.{_≡_}
 use mathlib.Core.List.{List}
 use Prim.Native.Nat.{ℕ}
-use lib.ListN.{length, replicate}
-use Rattle.verdict.specs.Verdict.{reasonOf, whereOf}
+use lib.ListN.{length}
+use Rattle.verdict.specs.Verdict.{reasonOf, faultOf}
+use Rattle.verdict.specs.declared.Verdict.{Verdict}
 use Rattle.list_entry.specs.Refusal.{listVerdict}
-use Rattle.list_entry.specs.Listing.{SetAfter}
+use Rattle.list_entry.specs.Listing.{ListAfter}
 use Rattle.apply_entry.specs.Refusal.{applyVerdict}
 use Rattle.apply_entry.specs.Applying.{SiteAfter}
 use Rattle.rewrite_entry.specs.Refusal.{rewriteVerdict}
@@ -15,36 +16,37 @@ use Rattle.classes_entry.specs.Refusal.{classesVerdict}
 use Rattle.classes_entry.specs.Classing.{ClassesAfter}
 use Rattle.trailer.specs.Pieces.{siteIn, conditionIn, sheetIn}
 use Rattle.job_run.specs.Buffers.{Buffers}
-use Rattle.job_run.specs.Job.{Left}
+use Rattle.job_run.specs.Job.{JobAfter}
 use Rattle.job_entry.specs.Refusal.{jobVerdict}
 
--- listing: the reason, W and the count
-pub record ReturnedList (site table set set′ work work′ : List ℕ) (reason w n : ℕ) : Type 0 where
-  pub reason-is : reason ≡ reasonOf (listVerdict (length set) (length work) site table)
-  pub where-is : w ≡ whereOf (listVerdict (length set) (length work) site table)
-  pub set-after : SetAfter (listVerdict (length set) (length work) site table) site table set set′ n
-  pub work-zero : work′ ≡ replicate (length work) 0
+-- the verdict `due` is returned in numbers: the reason, 0 where no item is met, and W, the fault; and what is left is what `After` says of
+-- that verdict
+pub record Returned (due : Verdict) (After : Verdict → Type 0) (reason fault : ℕ) : Type 0 where
+  pub reason-is : reason ≡ reasonOf due
+  pub fault-is : fault ≡ faultOf due
+  pub left : After due
 
--- applying: the reason and W
-pub record ReturnedApply (site sheet result result′ : List ℕ) (reason w : ℕ) : Type 0 where
-  pub reason-is : reason ≡ reasonOf (applyVerdict (length result) site sheet)
-  pub where-is : w ≡ whereOf (applyVerdict (length result) site sheet)
-  pub site-after : SiteAfter (applyVerdict (length result) site sheet) site sheet result result′
+-- listing, with the count of the slots
+abbrev pub ReturnedList : (site table set set′ work work′ : List ℕ) (reason fault n : ℕ) → Type 0
+ReturnedList site table set set′ work work′ reason fault n =
+    Returned (listVerdict (length set) (length work) site table) (λ v. ListAfter v site table set set′ work work′ n) reason fault
 
--- rewriting: the reason, W and the node count
-pub record ReturnedRewrite (table sheet result result′ : List ℕ) (reason w n : ℕ) : Type 0 where
-  pub reason-is : reason ≡ reasonOf (rewriteVerdict (length result) table sheet)
-  pub where-is : w ≡ whereOf (rewriteVerdict (length result) table sheet)
-  pub table-after : TableAfter (rewriteVerdict (length result) table sheet) table sheet result result′ n
+-- applying, with no count
+abbrev pub ReturnedApply : (site sheet result result′ : List ℕ) (reason fault : ℕ) → Type 0
+ReturnedApply site sheet result result′ reason fault =
+    Returned (applyVerdict (length result) site sheet) (λ v. SiteAfter v site sheet result result′) reason fault
 
--- class numbers: the reason, W and how many different ones there are
-pub record ReturnedClasses (site classes classes′ : List ℕ) (reason w n : ℕ) : Type 0 where
-  pub reason-is : reason ≡ reasonOf (classesVerdict (length classes) site)
-  pub where-is : w ≡ whereOf (classesVerdict (length classes) site)
-  pub classes-after : ClassesAfter (classesVerdict (length classes) site) site classes classes′ n
+-- rewriting, with the node count
+abbrev pub ReturnedRewrite : (table sheet result result′ : List ℕ) (reason fault n : ℕ) → Type 0
+ReturnedRewrite table sheet result result′ reason fault n =
+    Returned (rewriteVerdict (length result) table sheet) (λ v. TableAfter v table sheet result result′ n) reason fault
 
--- a job: the reason, W, how many slots are listed after and today, the rewritten nodes and the different class numbers
-pub record ReturnedJob (file : List ℕ) (b b′ : Buffers) (reason w after today nodes classes : ℕ) : Type 0 where
-  pub reason-is : reason ≡ reasonOf (jobVerdict b file)
-  pub where-is : w ≡ whereOf (jobVerdict b file)
-  pub left : Left (jobVerdict b file) (siteIn file) (conditionIn file) (sheetIn file) b b′ after today nodes classes
+-- class numbers, with how many different ones there are
+abbrev pub ReturnedClasses : (site classes classes′ : List ℕ) (reason fault n : ℕ) → Type 0
+ReturnedClasses site classes classes′ reason fault n =
+    Returned (classesVerdict (length classes) site) (λ v. ClassesAfter v site classes classes′ n) reason fault
+
+-- a job, with how many slots are listed after and today, the rewritten nodes and the different class numbers
+abbrev pub ReturnedJob : (file : List ℕ) (b b′ : Buffers) (reason fault after today nodes classes : ℕ) → Type 0
+ReturnedJob file b b′ reason fault after today nodes classes =
+    Returned (jobVerdict b file) (λ v. JobAfter v (siteIn file) (conditionIn file) (sheetIn file) b b′ after today nodes classes) reason fault

@@ -2,35 +2,35 @@
 use job_run::Job;
 ghost use Rattle.desk.specs.Returned.{ReturnedList, ReturnedApply, ReturnedRewrite, ReturnedClasses, ReturnedJob};
 ghost use mathlib.Core.Path.{_≡_};
-ghost use Rattle.verdict.specs.Verdict.{reasonOf, whereOf};
-ghost use Rattle.job_run.specs.Buffers.{six};
+ghost use Rattle.verdict.specs.Verdict.{reasonOf, faultOf};
+ghost use Rattle.job_run.specs.Buffers.{buffersOf};
 ghost use Rattle.job_run.specs.Answer.{verdictOf, afterOf, todayOf, nodesOf, classesOf};
 
-// In each answer the reason is 0 where no item is met, and the place is W.
+// In each answer the reason is the number of the item that is met, 0 where none is, and the fault is W.
 #[repr(C)]
 pub struct ListAnswer {
     pub reason: u32,
-    pub place: u32,
+    pub fault: u32,
     pub count: u32,
 }
 
 #[repr(C)]
 pub struct ApplyAnswer {
     pub reason: u32,
-    pub place: u32,
+    pub fault: u32,
 }
 
 #[repr(C)]
 pub struct RewriteAnswer {
     pub reason: u32,
-    pub place: u32,
+    pub fault: u32,
     pub nodes: u32,
 }
 
 #[repr(C)]
 pub struct ClassesAnswer {
     pub reason: u32,
-    pub place: u32,
+    pub fault: u32,
     pub count: u32,
 }
 
@@ -38,7 +38,7 @@ pub struct ClassesAnswer {
 #[repr(C)]
 pub struct JobAnswer {
     pub reason: u32,
-    pub place: u32,
+    pub fault: u32,
     pub after: u32,
     pub today: u32,
     pub nodes: u32,
@@ -47,82 +47,82 @@ pub struct JobAnswer {
 
 #[no_mangle]
 pub extern "C" fn desk_list(site: &[u8], cond: &[u8], set: &mut [u8], work: &mut [u8]) -> ListAnswer
-    ensures { λ r. ⌜ ReturnedList (now (site .entry)) (now (cond .entry)) (now (set .entry)) (now (set .exit)) (now (work .entry)) (now (work .exit)) (r .reason) (r .place) (r .count) ⌝ }
+    ensures { λ r. ⌜ ReturnedList (now (site .entry)) (now (cond .entry)) (now (set .entry)) (now (set .exit)) (now (work .entry)) (now (work .exit)) (r .reason) (r .fault) (r .count) ⌝ }
 {
-    let r = list_entry::list(site, cond, set, work);
-    let v = list_entry::verdict(r);
-    let n = verdict::reason(v);
-    let w = verdict::place(v);
-    let k = list_entry::count(r);
+    let answer = list_entry::list(site, cond, set, work);
+    let v = list_entry::verdict(answer);
+    let reason = verdict::reason(v);
+    let fault = verdict::fault(v);
+    let count = list_entry::count(answer);
     ListAnswer {
-        reason: n,
-        place: w,
-        count: k,
+        reason: reason,
+        fault: fault,
+        count: count,
     }
 }
 
 #[no_mangle]
 pub extern "C" fn desk_apply(site: &[u8], sheet: &[u8], result: &mut [u8]) -> ApplyAnswer
-    ensures { λ r. ⌜ ReturnedApply (now (site .entry)) (now (sheet .entry)) (now (result .entry)) (now (result .exit)) (r .reason) (r .place) ⌝ }
+    ensures { λ r. ⌜ ReturnedApply (now (site .entry)) (now (sheet .entry)) (now (result .entry)) (now (result .exit)) (r .reason) (r .fault) ⌝ }
 {
     let v = apply_entry::apply(site, sheet, result);
-    let item = verdict::reason(v);
-    let edit = verdict::place(v);
+    let reason = verdict::reason(v);
+    let fault = verdict::fault(v);
     ApplyAnswer {
-        reason: item,
-        place: edit,
+        reason: reason,
+        fault: fault,
     }
 }
 
 #[no_mangle]
 pub extern "C" fn desk_rewrite(table: &[u8], sheet: &[u8], result: &mut [u8]) -> RewriteAnswer
-    ensures { λ r. ⌜ ReturnedRewrite (now (table .entry)) (now (sheet .entry)) (now (result .entry)) (now (result .exit)) (r .reason) (r .place) (r .nodes) ⌝ }
+    ensures { λ r. ⌜ ReturnedRewrite (now (table .entry)) (now (sheet .entry)) (now (result .entry)) (now (result .exit)) (r .reason) (r .fault) (r .nodes) ⌝ }
 {
-    let r = rewrite_entry::rewrite(table, sheet, result);
-    let v = rewriting::verdict(r);
-    let number = verdict::reason(v);
-    let fault = verdict::place(v);
-    let size = rewriting::nodes(r);
+    let answer = rewrite_entry::rewrite(table, sheet, result);
+    let v = rewriting::verdict(answer);
+    let reason = verdict::reason(v);
+    let fault = verdict::fault(v);
+    let nodes = rewriting::nodes(answer);
     RewriteAnswer {
-        reason: number,
-        place: fault,
-        nodes: size,
+        reason: reason,
+        fault: fault,
+        nodes: nodes,
     }
 }
 
 #[no_mangle]
 pub extern "C" fn desk_classes(site: &[u8], classes: &mut [u8]) -> ClassesAnswer
-    ensures { λ r. ⌜ ReturnedClasses (now (site .entry)) (now (classes .entry)) (now (classes .exit)) (r .reason) (r .place) (r .count) ⌝ }
+    ensures { λ r. ⌜ ReturnedClasses (now (site .entry)) (now (classes .entry)) (now (classes .exit)) (r .reason) (r .fault) (r .count) ⌝ }
 {
-    let r = classes_entry::classes(site, classes);
-    let v = classes_entry::verdict(r);
-    let why = verdict::reason(v);
-    let spot = verdict::place(v);
-    let different = classes_entry::count(r);
+    let answer = classes_entry::classes(site, classes);
+    let v = classes_entry::verdict(answer);
+    let reason = verdict::reason(v);
+    let fault = verdict::fault(v);
+    let count = classes_entry::count(answer);
     ClassesAnswer {
-        reason: why,
-        place: spot,
-        count: different,
+        reason: reason,
+        fault: fault,
+        count: count,
     }
 }
 
 // The answer of a job in numbers: no item, and its counts; or the item and W, and counts of 0.
 fn in_numbers(r: Job) -> JobAnswer
-    ensures { λ a. ⌜ (a .reason ≡ reasonOf (verdictOf r)) × (a .place ≡ whereOf (verdictOf r)) ⌝ }
+    ensures { λ a. ⌜ (a .reason ≡ reasonOf (verdictOf r)) × (a .fault ≡ faultOf (verdictOf r)) ⌝ }
     ensures { λ a. ⌜ (a .after ≡ afterOf r) × ((a .today ≡ todayOf r) × ((a .nodes ≡ nodesOf r) × (a .classes ≡ classesOf r))) ⌝ }
 {
     match r {
-        Job::Done(later, now, length, numbers) => JobAnswer {
+        Job::Done(after, today, nodes, classes) => JobAnswer {
             reason: 0,
-            place: 0,
-            after: later,
-            today: now,
-            nodes: length,
-            classes: numbers,
+            fault: 0,
+            after: after,
+            today: today,
+            nodes: nodes,
+            classes: classes,
         },
-        Job::Refused(item, w) => JobAnswer {
+        Job::Refused(item, fault) => JobAnswer {
             reason: item as u32,
-            place: w as u32,
+            fault: fault as u32,
             after: 0,
             today: 0,
             nodes: 0,
@@ -141,7 +141,7 @@ pub extern "C" fn desk_job(
     classes: &mut [u8],
     work: &mut [u8],
 ) -> JobAnswer
-    ensures { λ r. ⌜ ReturnedJob (now (file .entry)) (six (now (changed .entry)) (now (table .entry)) (now (after .entry)) (now (today .entry)) (now (classes .entry)) (now (work .entry))) (six (now (changed .exit)) (now (table .exit)) (now (after .exit)) (now (today .exit)) (now (classes .exit)) (now (work .exit))) (r .reason) (r .place) (r .after) (r .today) (r .nodes) (r .classes) ⌝ }
+    ensures { λ r. ⌜ ReturnedJob (now (file .entry)) (buffersOf (now (changed .entry)) (now (table .entry)) (now (after .entry)) (now (today .entry)) (now (classes .entry)) (now (work .entry))) (buffersOf (now (changed .exit)) (now (table .exit)) (now (after .exit)) (now (today .exit)) (now (classes .exit)) (now (work .exit))) (r .reason) (r .fault) (r .after) (r .today) (r .nodes) (r .classes) ⌝ }
 {
     in_numbers(job_entry::run(file, changed, table, after, today, classes, work))
 }

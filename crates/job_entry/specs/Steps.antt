@@ -17,6 +17,6 @@ sizesFit b =
     ((((same (length (b .changed)) siteBytes && same (length (b .table)) tableBytes) && same (length (b .after)) setBytes)
     && same (length (b .today)) setBytes) && same (length (b .classes)) classesBytes) && same (length (b .work)) workBytes
 
--- item 1 from that test
+-- item 1, from the test of the six lengths
 abbrev pub sizesVerdict : Bool → Verdict
 sizesVerdict fits = cond fits Accepted (Refused 1 0)

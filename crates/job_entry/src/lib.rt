@@ -10,10 +10,10 @@ use verdict::Verdict;
 ghost use mathlib.Core.Path.{_≡_};
 ghost use Rattle.verdict.specs.Verdict.{_then_};
 ghost use Rattle.trailer.specs.Refusal.{metVerdict};
-ghost use Rattle.job_run.specs.Buffers.{six};
+ghost use Rattle.job_run.specs.Buffers.{buffersOf};
 ghost use Rattle.job_run.specs.Answer.{verdictOf, afterOf, todayOf, nodesOf, classesOf};
 ghost use Rattle.job_entry.specs.Steps.{sizesFit, sizesVerdict};
-ghost use Rattle.job_entry.specs.Job.{Answered};
+ghost use Rattle.job_entry.specs.Job.{JobAnswered};
 
 // Item 1 is not met by these buffers.
 fn sizes_fit(
@@ -24,7 +24,7 @@ fn sizes_fit(
     classes: &[u8],
     work: &[u8],
 ) -> bool
-    ensures { λ r. ⌜ r ≡ sizesFit (six (now (changed .entry)) (now (table .entry)) (now (after .entry)) (now (today .entry)) (now (classes .entry)) (now (work .entry))) ⌝ }
+    ensures { λ r. ⌜ r ≡ sizesFit (buffersOf (now (changed .entry)) (now (table .entry)) (now (after .entry)) (now (today .entry)) (now (classes .entry)) (now (work .entry))) ⌝ }
 {
     (changed.len() == SITE_BYTES)
         & (table.len() == TABLE_BYTES)
@@ -54,7 +54,7 @@ pub fn run(
     classes: &mut [u8],
     work: &mut [u8],
 ) -> Job
-    ensures { λ r. ⌜ Answered (now (file .entry)) (six (now (changed .entry)) (now (table .entry)) (now (after .entry)) (now (today .entry)) (now (classes .entry)) (now (work .entry))) (six (now (changed .exit)) (now (table .exit)) (now (after .exit)) (now (today .exit)) (now (classes .exit)) (now (work .exit))) (verdictOf r) (afterOf r) (todayOf r) (nodesOf r) (classesOf r) ⌝ }
+    ensures { λ r. ⌜ JobAnswered (now (file .entry)) (buffersOf (now (changed .entry)) (now (table .entry)) (now (after .entry)) (now (today .entry)) (now (classes .entry)) (now (work .entry))) (buffersOf (now (changed .exit)) (now (table .exit)) (now (after .exit)) (now (today .exit)) (now (classes .exit)) (now (work .exit))) (verdictOf r) (afterOf r) (todayOf r) (nodesOf r) (classesOf r) ⌝ }
 {
     let fits = sizes_fit(changed, table, after, today, classes, work);
     let cuts = trailer::read(file);

@@ -1,11 +1,11 @@
--- Document 01's number, W and counts for each case of the answer of a job.
+-- The number, W and counts for each case of the answer of a job.
 use Prim.Native.Nat.{ℕ}
 use Rattle.verdict.specs.declared.Verdict.{Verdict}
 use Rattle.verdict.specs.declared.Verdict.the-variants as verdict
 use Rattle.job_run.specs.declared.Job.{Job}
 use Rattle.job_run.specs.declared.Job.the-variants.{Done, Refused}
 
--- the verdict, of which `reasonOf` gives the number (0 where no item is met) and `whereOf` gives W
+-- the verdict, of which `reasonOf` gives the number (0 where no item is met) and `faultOf` gives W
 abbrev pub verdictOf : Job → Verdict
 verdictOf (Done a t n c) = verdict.Accepted
 verdictOf (Refused item w) = verdict.Refused item w

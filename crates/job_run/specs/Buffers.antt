@@ -19,17 +19,14 @@ pub record Buffers : Type 0 where
   pub classes : List ℕ
   pub work : List ℕ
 
-abbrev pub six : (changed table after today classes work : List ℕ) → Buffers
-six s t a d c w = record { changed = s; table = t; after = a; today = d; classes = c; work = w }
+abbrev pub buffersOf : (changed table after today classes work : List ℕ) → Buffers
+buffersOf s t a d c w = record { changed = s; table = t; after = a; today = d; classes = c; work = w }
 
--- the four buffers that listing and numbering write have the stated lengths; all six have
-pub record Sets (after today classes work : List ℕ) : Type 0 where
-  pub after-size : length after ≡ setBytes
-  pub today-size : length today ≡ setBytes
-  pub classes-size : length classes ≡ classesBytes
-  pub work-size : length work ≡ workBytes
-
+-- each of the six buffers has its stated length
 pub record Sized (b : Buffers) : Type 0 where
   pub changed-size : length (b .changed) ≡ siteBytes
   pub table-size : length (b .table) ≡ tableBytes
-  pub sets : Sets (b .after) (b .today) (b .classes) (b .work)
+  pub after-size : length (b .after) ≡ setBytes
+  pub today-size : length (b .today) ≡ setBytes
+  pub classes-size : length (b .classes) ≡ classesBytes
+  pub work-size : length (b .work) ≡ workBytes

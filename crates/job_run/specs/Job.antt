@@ -1,31 +1,22 @@
--- What a job on three pieces answers and leaves in its buffers. The buffers are named twice: as they were, and as they are at return (′).
+-- What a job on three pieces leaves in its buffers. The buffers are named twice: as they were, and as they are at return (′).
 use mathlib.Core.Path.{_≡_}
 use mathlib.Core.List.{List}
 use Prim.Native.Nat.{ℕ, _*_}
 use lib.ListN.{length, take, replicate}
-use Rattle.verdict.specs.Verdict.{_then_}
 use Rattle.verdict.specs.declared.Verdict.{Verdict}
 use Rattle.rewriting.specs.Rewriting.{TableAfter}
 use Rattle.list_entry.specs.Listing.{SetAfter}
 use Rattle.apply_entry.specs.Applying.{SiteAfter}
 use Rattle.classes_entry.specs.Classing.{ClassesAfter}
-use Rattle.job_run.specs.declared.Job.{Job}
 use Rattle.job_run.specs.Buffers.{Buffers}
-use Rattle.job_run.specs.Answer.{verdictOf, afterOf, todayOf, nodesOf, classesOf}
-use Rattle.job_run.specs.Refusal.{piecesVerdict}
 
 -- what is left after a verdict, from the pieces: the site after the sheet, the rewritten table with its n nodes, the a slots that the
 -- condition lists on the site after, the t slots that the rewritten table lists on the site today, the classes of the site after with
 -- their c numbers; each is zeros where the job is refused
-pub record Left (v : Verdict) (site cond sheet : List ℕ) (b b′ : Buffers) (a t n c : ℕ) : Type 0 where
+pub record JobAfter (v : Verdict) (site cond sheet : List ℕ) (b b′ : Buffers) (a t n c : ℕ) : Type 0 where
   pub site-after : SiteAfter v site sheet (b .changed) (b′ .changed)
   pub table-after : TableAfter v cond sheet (b .table) (b′ .table) n
   pub list-after : SetAfter v (b′ .changed) cond (b .after) (b′ .after) a
   pub list-today : SetAfter v site (take (6 * n) (b′ .table)) (b .today) (b′ .today) t
   pub classes-after : ClassesAfter v (b′ .changed) (b .classes) (b′ .classes) c
   pub work-zero : b′ .work ≡ replicate (length (b .work)) 0
-
--- a job on these pieces, after the verdict `first` on all that is tested before them, answers r
-pub record Ran (first : Verdict) (site cond sheet : List ℕ) (b b′ : Buffers) (r : Job) : Type 0 where
-  pub verdict : verdictOf r ≡ first then piecesVerdict site cond sheet
-  pub left : Left (verdictOf r) site cond sheet b b′ (afterOf r) (todayOf r) (nodesOf r) (classesOf r)

@@ -1,11 +1,11 @@
--- The six buffers that a caller lends, and which pieces are refused, in document 01's order.
+-- The six buffers that a caller lends, and which pieces are refused, in their order.
 pub mod Buffers
 pub mod Refusal
 -- the numbers and values of the answer
 pub mod Answer
--- what a job on three pieces answers and leaves in its buffers
+-- what a job on three pieces leaves in its buffers
 pub mod Job
--- what its parts answer
+-- what it and its parts answer
 pub mod Steps
 -- what is proved of them
 pub mod Laws

@@ -1,4 +1,4 @@
--- What the parts of a job require and answer. The buffers are named twice: as they were, and as they are at return (′).
+-- What a job on three pieces and its parts require and answer, for the functions inside. The buffers are named twice: as they were, and as they are at return (′).
 use mathlib.Core.Path.{_≡_}
 use mathlib.Core.List.{List}
 use Prim.Native.Nat.{ℕ, _*_, _≤_}
@@ -14,16 +14,26 @@ use Rattle.condition.specs.Refusal.{conditionVerdict}
 use Rattle.even_rule.specs.Free.{FreeRows}
 use Rattle.limits.specs.Limits.{tableNodes}
 use Rattle.listing.specs.Listed.{workBytes, Listed}
+use Rattle.bitset.specs.Set.{setBytes}
 use Rattle.classes.specs.Classes.{Classes, different}
 use Rattle.rewriting.specs.declared.Rewriting.{Rewriting}
 use Rattle.rewriting.specs.declared.Rewriting.the-variants.{Rewritten}
 use Rattle.rewriting.specs.Answer as rewriting
 use Rattle.rewriting.specs.Rewriting.{TableAfter}
 use Rattle.apply_entry.specs.Applying.{SiteAfter}
+use Rattle.classes_entry.specs.Refusal.{classesBytes}
 use Rattle.job_run.specs.declared.Job.{Job}
 use Rattle.job_run.specs.Buffers.{Buffers}
+use Rattle.job_run.specs.Job.{JobAfter}
 use Rattle.job_run.specs.Answer.{verdictOf, afterOf, todayOf, nodesOf, classesOf}
 use Rattle.job_run.specs.Refusal.{piecesVerdict}
+
+-- the four buffers that listing and numbering write have the stated lengths
+pub record Sets (after today classes work : List ℕ) : Type 0 where
+  pub after-size : length after ≡ setBytes
+  pub today-size : length today ≡ setBytes
+  pub classes-size : length classes ≡ classesBytes
+  pub work-size : length work ≡ workBytes
 
 -- the buffers of a refusal
 pub record Zeros (b b′ : Buffers) : Type 0 where
@@ -55,7 +65,7 @@ pub record Prepared (first : Verdict) (site cond sheet free′ changed changed�
   pub verdict : rewriting.verdictOf r ≡ first then piecesVerdict site cond sheet
   pub made : (n : ℕ) → r ≡ Rewritten n → Made site cond sheet free′ changed changed′ table table′ n
 
--- both are listed, and the slots of the changed site are numbered
+-- the condition and the rewritten table are listed, and the slots of the changed site are numbered
 pub record Finished (site cond changed table : List ℕ) (n : ℕ) (after′ today′ classes′ work′ : List ℕ) (r : Job) : Type 0 where
   pub verdict : verdictOf r ≡ Accepted
   pub nodes : nodesOf r ≡ n
@@ -64,3 +74,8 @@ pub record Finished (site cond changed table : List ℕ) (n : ℕ) (after′ tod
   pub classes-after : Classes (siteOf changed) classes′
   pub classes-count : classesOf r ≡ different classes′
   pub work-zero : work′ ≡ replicate workBytes 0
+
+-- a job on these pieces, after the verdict `first` on all that is tested before them, answers r
+pub record Ran (first : Verdict) (site cond sheet : List ℕ) (b b′ : Buffers) (r : Job) : Type 0 where
+  pub verdict : verdictOf r ≡ first then piecesVerdict site cond sheet
+  pub left : JobAfter (verdictOf r) site cond sheet b b′ (afterOf r) (todayOf r) (nodesOf r) (classesOf r)

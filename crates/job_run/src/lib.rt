@@ -11,10 +11,9 @@ ghost use Rattle.site.specs.Refusal.{siteVerdict};
 ghost use Rattle.condition.specs.Refusal.{conditionVerdict};
 ghost use Rattle.sheet.specs.Refusal.{sheetVerdict};
 ghost use Rattle.limits.specs.Limits.{tableNodes, tableBytes};
-ghost use Rattle.job_steps.specs.Steps.{Judged};
-ghost use Rattle.job_run.specs.Buffers.{six, Sets, Sized};
-ghost use Rattle.job_run.specs.Job.{Ran};
-ghost use Rattle.job_run.specs.Steps.{Zeros, Prepared, Listable, Finished};
+ghost use Rattle.job_steps.specs.Steps.{PiecesJudged};
+ghost use Rattle.job_run.specs.Buffers.{buffersOf, Sized};
+ghost use Rattle.job_run.specs.Steps.{Sets, Zeros, Prepared, Listable, Finished, Ran};
 
 // The answer of a job: how many slots are listed on the site after and today, how many nodes the rewritten table has, and how many
 // different class numbers there are; or the item that is met and its W.
@@ -36,7 +35,7 @@ fn zero_three(a: &mut [u8], b: &mut [u8], c: &mut [u8])
 // The answer to a job that meets an item: every buffer becomes zeros, whatever its length.
 fn refuse(
     item: u8,
-    place: u16,
+    fault: u16,
     changed: &mut [u8],
     table: &mut [u8],
     after: &mut [u8],
@@ -44,22 +43,22 @@ fn refuse(
     classes: &mut [u8],
     work: &mut [u8],
 ) -> Job
-    ensures { λ r. ⌜ r ≡ Job.Refused item place ⌝ }
-    ensures { λ _. ⌜ Zeros (six (now (changed .entry)) (now (table .entry)) (now (after .entry)) (now (today .entry)) (now (classes .entry)) (now (work .entry))) (six (now (changed .exit)) (now (table .exit)) (now (after .exit)) (now (today .exit)) (now (classes .exit)) (now (work .exit))) ⌝ }
+    ensures { λ r. ⌜ r ≡ Job.Refused item fault ⌝ }
+    ensures { λ _. ⌜ Zeros (buffersOf (now (changed .entry)) (now (table .entry)) (now (after .entry)) (now (today .entry)) (now (classes .entry)) (now (work .entry))) (buffersOf (now (changed .exit)) (now (table .exit)) (now (after .exit)) (now (today .exit)) (now (classes .exit)) (now (work .exit))) ⌝ }
 {
     zero_three(changed, table, after);
     zero_three(today, classes, work);
-    Job::Refused(item, place)
+    Job::Refused(item, fault)
 }
 
 // The verdict `first`, then items 3 to 12. The free variables of an accepted condition's nodes are written to `free`.
 fn judge(first: Verdict, site: &[u8], cond: &[u8], sheet: &[u8], free: &mut [u16]) -> Verdict
     requires { ⌜ length (now free) ≡ tableNodes ⌝ }
-    ensures { λ r. ⌜ Judged (first then siteVerdict (now (site .entry)) then conditionVerdict (now (cond .entry)) then sheetVerdict (now (sheet .entry))) (now (cond .entry)) (now (free .exit)) r ⌝ }
+    ensures { λ r. ⌜ PiecesJudged (first then siteVerdict (now (site .entry)) then conditionVerdict (now (cond .entry)) then sheetVerdict (now (sheet .entry))) (now (cond .entry)) (now (free .exit)) r ⌝ }
 {
     match first {
         Verdict::Accepted => job_steps::judge(site, cond, sheet, free),
-        Verdict::Refused(item, place) => Verdict::Refused(item, place),
+        Verdict::Refused(item, fault) => Verdict::Refused(item, fault),
     }
 }
 
@@ -80,7 +79,7 @@ fn prepare(
     let v = judge(first, site, cond, sheet, free);
     match v {
         Verdict::Accepted => job_steps::change(site, cond, sheet, changed, table),
-        Verdict::Refused(item, place) => Rewriting::Refused(item, place),
+        Verdict::Refused(item, fault) => Rewriting::Refused(item, fault),
     }
 }
 
@@ -122,8 +121,8 @@ pub fn run(
     classes: &mut [u8],
     work: &mut [u8],
 ) -> Job
-    requires { ⌜ (first ≡ Accepted → Sized (six (now changed) (now table) (now after) (now today) (now classes) (now work))) ⌝ }
-    ensures { λ r. ⌜ Ran first (now (site .entry)) (now (cond .entry)) (now (sheet .entry)) (six (now (changed .entry)) (now (table .entry)) (now (after .entry)) (now (today .entry)) (now (classes .entry)) (now (work .entry))) (six (now (changed .exit)) (now (table .exit)) (now (after .exit)) (now (today .exit)) (now (classes .exit)) (now (work .exit))) r ⌝ }
+    requires { ⌜ (first ≡ Accepted → Sized (buffersOf (now changed) (now table) (now after) (now today) (now classes) (now work))) ⌝ }
+    ensures { λ r. ⌜ Ran first (now (site .entry)) (now (cond .entry)) (now (sheet .entry)) (buffersOf (now (changed .entry)) (now (table .entry)) (now (after .entry)) (now (today .entry)) (now (classes .entry)) (now (work .entry))) (buffersOf (now (changed .exit)) (now (table .exit)) (now (after .exit)) (now (today .exit)) (now (classes .exit)) (now (work .exit))) r ⌝ }
 {
     let mut free = even_rule::no_masks();
     let r = prepare(first, site, cond, sheet, &mut free, changed, table);

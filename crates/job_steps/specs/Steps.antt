@@ -18,11 +18,11 @@ use Rattle.rewriting.specs.Rewriting.{TableAfter}
 use Rattle.apply_entry.specs.Applying.{SiteAfter}
 
 -- inputs that have the verdict `due` are judged with v; an accepted condition's free variables are handed on in these masks
-pub record Judged (due : Verdict) (cond masks : List ℕ) (v : Verdict) : Type 0 where
+pub record PiecesJudged (due : Verdict) (cond masks : List ℕ) (v : Verdict) : Type 0 where
   pub verdict : v ≡ due
   pub rows : v ≡ Accepted → FreeRows cond masks
 
--- 13, then 14
+-- items 13 and 14, in this order
 unfoldable pub changeVerdict : (site cond sheet : List ℕ) → Verdict
 changeVerdict site cond sheet = goesVerdict (editsOf sheet) (siteOf site) then lengthVerdict (editsOf sheet) (tableOf cond)
 

@@ -17,29 +17,29 @@ ghost use Rattle.condition.specs.Refusal.{conditionVerdict};
 ghost use Rattle.sheet.specs.Refusal.{sheetVerdict};
 ghost use Rattle.limits.specs.Limits.{tableNodes, tableBytes};
 ghost use Rattle.listing.specs.Listed.{workBytes, Listed};
-ghost use Rattle.job_steps.specs.Steps.{Judged, Changed};
+ghost use Rattle.job_steps.specs.Steps.{PiecesJudged, Changed};
 
 // Items 7 to 10 of the condition, then 11 and 12 of the sheet.
 fn judge_condition(cond: &[u8], sheet: &[u8], free: &mut [u16]) -> Verdict
     requires { ⌜ length (now free) ≡ tableNodes ⌝ }
-    ensures { λ r. ⌜ Judged (conditionVerdict (now (cond .entry)) then sheetVerdict (now (sheet .entry))) (now (cond .entry)) (now (free .exit)) r ⌝ }
+    ensures { λ r. ⌜ PiecesJudged (conditionVerdict (now (cond .entry)) then sheetVerdict (now (sheet .entry))) (now (cond .entry)) (now (free .exit)) r ⌝ }
 {
     let v = even_rule::check(cond, free);
     match v {
         Verdict::Accepted => sheet::check(sheet),
-        Verdict::Refused(item, place) => Verdict::Refused(item, place),
+        Verdict::Refused(item, fault) => Verdict::Refused(item, fault),
     }
 }
 
 // Items 3 to 12 of the three pieces. The free variables of an accepted condition's nodes are written to `free`.
 pub fn judge(site: &[u8], cond: &[u8], sheet: &[u8], free: &mut [u16]) -> Verdict
     requires { ⌜ length (now free) ≡ tableNodes ⌝ }
-    ensures { λ r. ⌜ Judged (siteVerdict (now (site .entry)) then conditionVerdict (now (cond .entry)) then sheetVerdict (now (sheet .entry))) (now (cond .entry)) (now (free .exit)) r ⌝ }
+    ensures { λ r. ⌜ PiecesJudged (siteVerdict (now (site .entry)) then conditionVerdict (now (cond .entry)) then sheetVerdict (now (sheet .entry))) (now (cond .entry)) (now (free .exit)) r ⌝ }
 {
     let v = site::check(site);
     match v {
         Verdict::Accepted => judge_condition(cond, sheet, free),
-        Verdict::Refused(item, place) => Verdict::Refused(item, place),
+        Verdict::Refused(item, fault) => Verdict::Refused(item, fault),
     }
 }
 
@@ -58,7 +58,7 @@ pub fn change(
     let v = applying::apply(site, sheet, changed);
     match v {
         Verdict::Accepted => rewriting::rewrite_sheet(cond, sheet, table),
-        Verdict::Refused(item, place) => Rewriting::Refused(item, place),
+        Verdict::Refused(item, fault) => Rewriting::Refused(item, fault),
     }
 }
 

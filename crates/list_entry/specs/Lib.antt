@@ -1,8 +1,10 @@
--- Which inputs listing refuses, in document 01's order.
+-- Which inputs listing refuses, in their order.
 pub mod Refusal
 -- the numbers and values of its answer
 pub mod Answer
 -- what listing answers and leaves in its buffers
 pub mod Listing
+-- what an inner function tests
+pub mod Inputs
 -- what is proved of them
 pub mod Laws

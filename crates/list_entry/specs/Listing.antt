@@ -8,7 +8,6 @@ use Rattle.verdict.specs.declared.Verdict.the-variants.{Accepted, Refused}
 use Rattle.semantics.specs.Table.{formOf}
 use Rattle.site.specs.Site.{siteOf}
 use Rattle.condition.specs.Bytes.{tableOf}
-use Rattle.even_rule.specs.Free.{FreeAfter}
 use Rattle.listing.specs.Listed.{Listed}
 use Rattle.list_entry.specs.Refusal.{listVerdict}
 
@@ -17,13 +16,12 @@ unfoldable pub SetAfter : Verdict → (site table set set′ : List ℕ) (n : �
 SetAfter Accepted site table set set′ n = Listed (siteOf site) (formOf (tableOf table)) set′ n
 SetAfter (Refused item w) site table set set′ n = (set′ ≡ replicate (length set) 0) × (n ≡ 0)
 
--- listing answers the verdict v and the count n
-pub record Answered (site table set set′ work work′ : List ℕ) (v : Verdict) (n : ℕ) : Type 0 where
-  pub verdict : v ≡ listVerdict (length set) (length work) site table
+-- what listing leaves after a verdict: the set and the count, and a work buffer of zeros
+pub record ListAfter (v : Verdict) (site table set set′ work work′ : List ℕ) (n : ℕ) : Type 0 where
   pub set-after : SetAfter v site table set set′ n
   pub work-zero : work′ ≡ replicate (length work) 0
 
--- the inputs are judged with the verdict v, and these masks of free variables are handed on
-pub record Judged (setLen workLen : ℕ) (site table masks : List ℕ) (v : Verdict) : Type 0 where
-  pub verdict : v ≡ listVerdict setLen workLen site table
-  pub masks-after : FreeAfter v table masks
+-- listing answers the verdict v and the count n
+pub record ListAnswered (site table set set′ work work′ : List ℕ) (v : Verdict) (n : ℕ) : Type 0 where
+  pub verdict : v ≡ listVerdict (length set) (length work) site table
+  pub left : ListAfter v site table set set′ work work′ n

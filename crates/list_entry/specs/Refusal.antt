@@ -1,4 +1,4 @@
--- Which inputs listing refuses: the items of document 01, "Reasons for sending a job back", in their order.
+-- Which inputs listing refuses: the items of docs/SPEC.md, "Reasons", in their order.
 use mathlib.Core.List.{List}
 use Prim.Native.Nat.{ℕ}
 use Rattle.bitset.specs.Set.{setBytes}

@@ -1,4 +1,4 @@
--- What listing a condition answers: the set of the slots where it holds, and how many they are. Document 01, "The condition".
+-- What listing a condition answers: the set of the slots where it holds, and how many they are. docs/SPEC.md, "The condition".
 use mathlib.Core.Path.{_≡_}
 use mathlib.Core.Logic.{_↔_}
 use mathlib.Core.List.{List}
@@ -6,6 +6,7 @@ use mathlib.Core.Bool.{true}
 use Prim.Native.Nat.{ℕ, _*_, _<_}
 use lib.ListN.{length}
 use Rattle.finite.specs.Tests.{count}
+use Rattle.finite.specs.Bytes.{Bytes}
 use Rattle.bitset.specs.Set.{setBytes, has}
 use Rattle.limits.specs.Limits.{slots, tableNodes}
 use Rattle.semantics.specs.Form.{Form}
@@ -19,5 +20,6 @@ workBytes = setBytes * tableNodes
 -- variable holds at the same slots under every valuation
 pub record Listed (M : Model) (φ : Form) (set : List ℕ) (n : ℕ) : Type 0 where
   pub size : length set ≡ setBytes
+  pub bytes : Bytes set
   pub listed : (ρ : Env) (s : ℕ) → s < slots → (has set s ≡ true) ↔ Holds M ρ φ s
   pub counted : n ≡ count slots (has set)

@@ -1,7 +1,8 @@
--- Which inputs are refused, in document 01's order.
+-- Which inputs are refused, in their order.
 pub mod Refusal
-pub mod Judged
 -- what rewriting answers and leaves in its buffer
 pub mod Rewriting
+-- what an inner function tests
+pub mod Inputs
 -- what is proved of them
 pub mod Laws

@@ -8,6 +8,6 @@ use Rattle.rewriting.specs.Rewriting.{TableAfter}
 use Rattle.rewrite_entry.specs.Refusal.{rewriteVerdict}
 
 -- rewriting answers the verdict v and the node count n
-pub record Answered (table sheet result result′ : List ℕ) (v : Verdict) (n : ℕ) : Type 0 where
+pub record RewriteAnswered (table sheet result result′ : List ℕ) (v : Verdict) (n : ℕ) : Type 0 where
   pub verdict : v ≡ rewriteVerdict (length result) table sheet
-  pub table-after : TableAfter v table sheet result result′ n
+  pub left : TableAfter v table sheet result result′ n

@@ -5,8 +5,8 @@ use verdict::Verdict;
 ghost use mathlib.Core.Path.{_≡_};
 ghost use lib.ListN.{length, replicate};
 ghost use Rattle.rewriting.specs.Answer.{verdictOf, nodesOf};
-ghost use Rattle.rewrite_entry.specs.Judged.{inputVerdict};
-ghost use Rattle.rewrite_entry.specs.Rewriting.{Answered};
+ghost use Rattle.rewrite_entry.specs.Inputs.{inputVerdict};
+ghost use Rattle.rewrite_entry.specs.Rewriting.{RewriteAnswered};
 
 // The first of items 1, 7 to 10, 11 and 12 that the inputs meet, from the length of the result, the condition and the sheet.
 fn judge(result: usize, table: &[u8], sheet: &[u8]) -> Verdict
@@ -19,26 +19,26 @@ fn judge(result: usize, table: &[u8], sheet: &[u8]) -> Verdict
     let v = even_rule::check(table, &mut free);
     match v {
         Verdict::Accepted => sheet::check(sheet),
-        Verdict::Refused(item, place) => Verdict::Refused(item, place),
+        Verdict::Refused(item, fault) => Verdict::Refused(item, fault),
     }
 }
 
 // The answer to inputs that meet an item: the result becomes zeros.
-fn refused(result: &mut [u8], item: u8, place: u16) -> Rewriting
-    ensures { λ r. ⌜ r ≡ Rewriting.Refused item place ⌝ }
+fn refused(result: &mut [u8], item: u8, fault: u16) -> Rewriting
+    ensures { λ r. ⌜ r ≡ Rewriting.Refused item fault ⌝ }
     ensures { λ _. ⌜ now (result .exit) ≡ replicate (length (now (result .entry))) 0 ⌝ }
 {
     buffer::zero(result);
-    Rewriting::Refused(item, place)
+    Rewriting::Refused(item, fault)
 }
 
 // Rewrites the condition through the sheet: writes the table, and answers how many nodes it has.
 pub fn rewrite(table: &[u8], sheet: &[u8], result: &mut [u8]) -> Rewriting
-    ensures { λ r. ⌜ Answered (now (table .entry)) (now (sheet .entry)) (now (result .entry)) (now (result .exit)) (verdictOf r) (nodesOf r) ⌝ }
+    ensures { λ r. ⌜ RewriteAnswered (now (table .entry)) (now (sheet .entry)) (now (result .entry)) (now (result .exit)) (verdictOf r) (nodesOf r) ⌝ }
 {
     let v = judge(result.len(), table, sheet);
     match v {
         Verdict::Accepted => rewriting::rewrite_sheet(table, sheet, result),
-        Verdict::Refused(item, place) => refused(result, item, place),
+        Verdict::Refused(item, fault) => refused(result, item, fault),
     }
 }

@@ -3,17 +3,13 @@ use mathlib.Core.Path.{_≡_}
 use mathlib.Core.List.{List}
 use mathlib.Core.Bool.{true, false}
 use Prim.Native.Nat.{ℕ, _*_, _≤_, _<_}
-use lib.ListN.{length, getD, take}
+use lib.ListN.{length, take}
 use Rattle.limits.specs.Limits.{tableNodes}
 use Rattle.semantics.specs.Table.{Node}
 use Rattle.semantics.specs.Edit.{Edit}
 use Rattle.semantics.specs.Block.{rewriteSheet}
 use Rattle.condition.specs.Bytes.{bytesOf}
 use Rattle.rewriting.specs.Refusal.{tooLong}
-
--- each number is a byte
-abbrev pub Bytes : List ℕ → Type 0
-Bytes s = (i : ℕ) → getD s i 0 < 256
 
 -- all edits are done: a buffer starts with the rewritten table, which has r nodes; where the item is met, r is over 2,048
 pub record Passed (es : List Edit) (xs : List Node) (o : List ℕ) (r : ℕ) : Type 0 where

@@ -9,11 +9,12 @@ ghost use mathlib.Core.List.{_++_};
 ghost use mathlib.Core.Bool.{true};
 ghost use Prim.Native.Nat.{_-_, _≤_};
 ghost use lib.ListN.{length, take, replicate};
+ghost use Rattle.finite.specs.Bytes.{Bytes};
 ghost use Rattle.semantics.specs.Edit.{sheetLegal};
 ghost use Rattle.condition.specs.Bytes.{nodes};
 ghost use Rattle.sheet.specs.Bytes.{editsOf};
 ghost use Rattle.limits.specs.Limits.{tableNodes, tableBytes};
-ghost use Rattle.rewriting.specs.State.{Bytes, Passed};
+ghost use Rattle.rewriting.specs.State.{Passed};
 ghost use Rattle.rewriting.specs.Answer.{verdictOf, nodesOf};
 ghost use Rattle.rewriting.specs.Rewriting.{Rewrote};
 

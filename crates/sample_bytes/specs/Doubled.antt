@@ -1,5 +1,5 @@
 -- R through k edits that take link 4 from name 1 to name 2 away: each doubles its diamond, so that the table has 5 + 8 (2 ^ k - 1) nodes,
--- and from the ninth on item 14 is met. What rewriting returns, whatever was in its buffer.
+-- and from the ninth on item 14 is met. This is said of what rewriting returns, whatever was in its buffer.
 use mathlib.Core.Path.{_≡_}
 use mathlib.Core.List.{List}
 use Prim.Native.Nat.{ℕ, _+_, _-_, _*_, _^_, _≤_}

@@ -1,4 +1,4 @@
--- Document 01, "Small sites, by hand": what the entry points return for the starred examples.
+-- What the entry points return for the starred examples.
 -- a site's bytes
 pub mod Write
 -- what is returned for each row

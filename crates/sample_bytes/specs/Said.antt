@@ -2,8 +2,8 @@
 -- the stated lengths, whatever was in them.
 use mathlib.Core.Path.{_≡_}
 use mathlib.Core.List.{List, [], _∷_}
-use Prim.Native.Nat.{ℕ, _<_}
-use lib.ListN.{getD}
+use Prim.Native.Nat.{ℕ}
+use Rattle.finite.specs.Bytes.{Bytes}
 use Rattle.bitset.specs.Set.{Is}
 use Rattle.samples.specs.Rows.{Slots, only, has, Expected, lists, stuckAt, oddAt, Row, tableName}
 use Rattle.samples.specs.Said.{before, after}
@@ -25,14 +25,11 @@ tableIn r = condition.bytesOf (r .table)
 abbrev pub sheetIn : Row → List ℕ
 sheetIn r = sheet.bytesOf (r .edits)
 
--- they are bytes, and the site's are read as the row's site
-abbrev pub AreBytes : List ℕ → Type 0
-AreBytes S = (i : ℕ) → getD S i 0 < 256
-
-pub record Written (r : Row) : Type 0 where
-  pub site-bytes : AreBytes (siteIn r)
-  pub table-bytes : AreBytes (tableIn r)
-  pub sheet-bytes : AreBytes (sheetIn r)
+-- the pieces are bytes, and the site's are read as the row's site
+pub record SampleWritten (r : Row) : Type 0 where
+  pub site-bytes : Bytes (siteIn r)
+  pub table-bytes : Bytes (tableIn r)
+  pub sheet-bytes : Bytes (sheetIn r)
   pub site-read : siteOf (siteIn r) ≡ before r
 
 -- ---- a row that lists a set
@@ -71,4 +68,4 @@ Returns r (oddAt w) =
 -- each row of a list
 abbrev pub AllReturned : List Row → Type 0
 AllReturned [] = Unit {0}
-AllReturned (r ∷ rs) = (Written r × Returns r (r .expected)) × AllReturned rs
+AllReturned (r ∷ rs) = (SampleWritten r × Returns r (r .expected)) × AllReturned rs

@@ -1,4 +1,4 @@
--- The bytes of a site, written from its model. Document 01, "The site".
+-- The bytes of a site, written from its model. docs/SPEC.md, "The site".
 use mathlib.Core.List.{List, [], _∷_}
 use mathlib.Core.Bool.{Bool, cond}
 use Prim.Native.Nat.{ℕ, zero, suc, _+_, _-_, _*_, _/_, _%_}

@@ -1,1 +1,1 @@
-// No code: document 01's starred examples over bytes, as theorems in specs/.
+// No code: the starred examples over bytes, as theorems in specs/.

@@ -1,4 +1,4 @@
--- The outcome of a check, in the numbers of document 01, "Reasons for sending a job back".
+-- The outcome of a check, in the numbers of docs/SPEC.md, "Reasons".
 use Prim.Native.Nat.{ℕ}
 use Rattle.verdict.specs.declared.Verdict.{Verdict}
 use Rattle.verdict.specs.declared.Verdict.the-variants.{Accepted, Refused}
@@ -9,9 +9,9 @@ reasonOf Accepted = 0
 reasonOf (Refused n w) = n
 
 -- W: the node or edit that is at fault, else 0
-abbrev pub whereOf : Verdict → ℕ
-whereOf Accepted = 0
-whereOf (Refused n w) = w
+abbrev pub faultOf : Verdict → ℕ
+faultOf Accepted = 0
+faultOf (Refused n w) = w
 
 -- the first refusal of two checks, in this order
 abbrev pub _then_ : Verdict → Verdict → Verdict

@@ -1,6 +1,6 @@
 // The outcome of a check: the input is accepted, or refused with an item's number and W.
 ghost use mathlib.Core.Path.{_≡_};
-ghost use Rattle.verdict.specs.Verdict.{reasonOf, whereOf};
+ghost use Rattle.verdict.specs.Verdict.{reasonOf, faultOf};
 
 pub enum Verdict {
     Accepted,
@@ -18,8 +18,8 @@ pub fn reason(v: Verdict) -> u32
 }
 
 // W: the node or edit that is at fault, else 0.
-pub fn place(v: Verdict) -> u32
-    ensures { λ r. ⌜ r ≡ whereOf v ⌝ }
+pub fn fault(v: Verdict) -> u32
+    ensures { λ r. ⌜ r ≡ faultOf v ⌝ }
 {
     match v {
         Verdict::Accepted => 0,

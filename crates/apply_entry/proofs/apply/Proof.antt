@@ -1,5 +1,6 @@
 -- `apply_entry::apply` meets its contract: the inputs are judged, then the sheet is applied or refused.
 use mathlib.Core.Path.{sym, _∙_}
+use native.Mathlib.Omega.{arith}
 use Rattle.apply_entry.specs.Laws.Applying.{judged-accepted, answered-applied, answered-refused}
 use borrow.Author.Needs.{needs}
 use Rattle.apply_entry.proofs.apply.Statement.{statement}
@@ -24,7 +25,7 @@ same-length : tie.Need-same-length
 same-length c = search needs
 
 returns : tie.Need-returns
-returns c = answered-applied (c .before .before .before .before .before .before .judge .ensures) (c .before .before .before .before .enum-told .given .1) (c .before .before .apply .ensures)
+returns c = answered-applied (c .before .before .before .before .before .before .judge .ensures) (c .before .before .before .before .enum-told .given .1) (c .before .before .apply .ensures) (λ k. omega (arith, c .slice-known2 .given k))
 
 same-length-2 : tie.Need-same-length-2
 same-length-2 c = search needs

@@ -37,8 +37,12 @@ same-partition-requires : tie.Need-same-partition-requires Inv-loop μ-loop
 same-partition-requires c κs = search needs
 
 returns : tie.Need-returns Inv-loop μ-loop
-returns c = let l = c .before .before .before .before .before .loop in
-    refined-still (siteOf (c .before .before .before .before .before .before .before .before .before .args .site .now)) (l .rounds) (l .p) (l .inv .1) (l .inv .2) (c .before .before .before .before .before .before .before .of-site .result) (c .before .before .round .result) (c .before .before .before .before .before .before .before .of-site .ensures) (c .before .before .round .ensures) (sym (c .before .same-partition .ensures) ∙ c .if1 .taken)
+returns c =
+    let start = c .before .before .before .before .before .before .before .before .before in
+    let ways = c .before .before .before .before .before .before .before .of-site in
+    let l = c .before .before .before .before .before .loop in
+    let next = c .before .before .round in
+    refined-still (siteOf (start .args .site .now)) (l .rounds) (l .p) (l .inv .1) (l .inv .2) (ways .result) (next .result) (ways .ensures) (next .ensures) (sym (c .before .same-partition .ensures) ∙ c .if1 .taken)
 
 add-rounds : tie.Need-add-rounds Inv-loop μ-loop
 add-rounds c = omega arith
@@ -48,7 +52,11 @@ loop-less c = omega arith
 
 loop-again : tie.Need-loop-again Inv-loop μ-loop
 unfolding Refines
-loop-again c = (omega arith, omega arith, c .before .before .round .ensures (siteOf (c .before .before .before .before .before .before .before .before .before .args .site .now)) (c .before .before .before .before .before .before .before .of-site .ensures) (c .before .before .before .before .before .loop .rounds) (c .before .before .before .before .before .loop .inv .2))
+loop-again c =
+    let start = c .before .before .before .before .before .before .before .before .before in
+    let ways = c .before .before .before .before .before .before .before .of-site in
+    let l = c .before .before .before .before .before .loop in
+    (omega arith, omega arith, c .before .before .round .ensures (siteOf (start .args .site .now)) (ways .ensures) (l .rounds) (l .inv .2))
 
 returns-2 : tie.Need-returns-2 Inv-loop μ-loop
 returns-2 c = let l = c .before .loop in refined-last (siteOf (c .before .before .before .before .before .args .site .now)) (l .rounds) (l .p) (l .inv .1) (l .inv .2) (omega arith)

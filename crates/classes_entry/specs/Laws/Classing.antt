@@ -17,7 +17,7 @@ use Rattle.classes_entry.specs.declared.Classing.{Classing}
 use Rattle.classes_entry.specs.declared.Classing.the-variants as answer
 use Rattle.classes_entry.specs.Refusal.{classesBytes, classesVerdict}
 use Rattle.classes_entry.specs.Answer.{verdictOf, countOf}
-use Rattle.classes_entry.specs.Classing.{ClassesAfter, Answered}
+use Rattle.classes_entry.specs.Classing.{ClassesAfter, ClassesAnswered}
 
 -- ---- the inputs are judged
 
@@ -44,11 +44,11 @@ numbered {numbers = numbers} k classes h {classes′ = classes′} c f =
 
 module _ {site classes classes′ : List ℕ} {v : Verdict} (j : v ≡ classesVerdict (length classes) site) where
   pub answered-numbered : v ≡ Accepted → Classes (siteOf site) classes′ → {n : ℕ} → n ≡ different classes′
-      → Answered site classes classes′ Accepted n
+      → ClassesAnswered site classes classes′ Accepted n
   unfolding ClassesAfter
-  answered-numbered e k f = record { verdict = sym e ∙ j; classes-after = (k, f) }
+  answered-numbered e k f = record { verdict = sym e ∙ j; left = (k, f) }
 
   pub answered-refused : {item w : ℕ} → v ≡ Refused item w → {r : Classing} → r ≡ answer.Refused item w
-      → classes′ ≡ replicate (length classes) 0 → Answered site classes classes′ (verdictOf r) (countOf r)
+      → classes′ ≡ replicate (length classes) 0 → ClassesAnswered site classes classes′ (verdictOf r) (countOf r)
   unfolding ClassesAfter
-  answered-refused e f z = rw f (record { verdict = sym e ∙ j; classes-after = (z, refl) })
+  answered-refused e f z = rw f (record { verdict = sym e ∙ j; left = (z, refl) })

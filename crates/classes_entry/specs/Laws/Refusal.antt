@@ -1,4 +1,4 @@
--- What is known of inputs that are not refused; and the reason 0 says that they are not.
+-- What is known of inputs that are not refused.
 use mathlib.Core.Path.{_≡_}
 use mathlib.Core.List.{List}
 use Prim.Native.Nat.{ℕ}

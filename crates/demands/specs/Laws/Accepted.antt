@@ -1,17 +1,29 @@
--- Each entry point's chain of items: inputs that meet no item are accepted, and the reasons are 0 to 14.
-use mathlib.Core.Path.{_≡_}
+-- Each entry point's chain of items: inputs that meet no item are accepted, and the numbers of the items.
+use mathlib.Core.Path.{_≡_, sym, _∙_}
+use mathlib.Core.Bool.{false}
 use mathlib.Core.List.{List}
-use Prim.Native.Nat.{ℕ}
+use Prim.Native.Nat.{ℕ, _≤_}
+use native.Mathlib.Omega.{arith}
+use lib.ListN.{length}
+use Rattle.finite.specs.Tests.{below}
+use Rattle.finite.specs.Laws.Below.{below-not, not-below}
 use Rattle.verdict.specs.declared.Verdict.the-variants.{Accepted}
 use Rattle.bitset.specs.Set.{setBytes}
 use Rattle.site.specs.Layout.{siteBytes}
 use Rattle.site.specs.Site.{siteOf}
 use Rattle.site.specs.Refusal.{siteVerdict}
+use Rattle.limits.specs.Limits.{tableNodes}
+use Rattle.condition.specs.Bytes.{tableOf}
+use Rattle.condition.specs.Refusal.{conditionVerdict}
+use Rattle.condition.specs.Laws.Bytes.{length-table}
+use Rattle.condition.specs.Laws.Verdict.{accepted-sound}
 use Rattle.sheet.specs.Bytes.{editsOf}
 use Rattle.sheet.specs.Refusal.{sheetVerdict}
 use Rattle.listing.specs.Listed.{workBytes}
 use Rattle.applying.specs.Refusal.{goesVerdict}
-use Rattle.rewriting.specs.Refusal.{lengthVerdict}
+use Rattle.rewriting.specs.Refusal.{tooLong, lengthVerdict}
+use Rattle.rewriting.specs.Rewriting.{rewritten}
+use Rattle.rewriting.specs.Laws.Grow.{too-long-end}
 use Rattle.refusals.specs.Refusal.{bufferVerdict}
 use Rattle.refusals.specs.Laws.Items.{buffer-in, Numbered, numbered-then, numbered-buffer, numbered-site, numbered-condition, numbered-sheet, numbered-goes}
 use Rattle.list_entry.specs.Refusal.{listVerdict}
@@ -26,6 +38,18 @@ use Rattle.job_run.specs.Buffers.{Buffers}
 use Rattle.job_run.specs.Laws.Refusal.{pieces-in}
 use Rattle.job_entry.specs.Refusal.{buffersVerdict, jobVerdict}
 use Rattle.job_entry.specs.Laws.Refusal.{JobAccepted}
+
+-- ---- a rewritten table fits exactly if it was too long after no edit: it never gets shorter
+
+module _ (table sheet : List ℕ) (a : conditionVerdict table ≡ Accepted) where
+  at-end : tooLong (editsOf sheet) (tableOf table) ≡ below tableNodes (length (rewritten table sheet))
+  at-end = too-long-end (editsOf sheet) (tableOf table) (omega (arith, accepted-sound table a .few, length-table table))
+
+  pub fits-short : length (rewritten table sheet) ≤ tableNodes → tooLong (editsOf sheet) (tableOf table) ≡ false
+  fits-short h = at-end ∙ below-not tableNodes (length (rewritten table sheet)) h
+
+  pub short-fits : tooLong (editsOf sheet) (tableOf table) ≡ false → length (rewritten table sheet) ≤ tableNodes
+  short-fits h = not-below tableNodes (length (rewritten table sheet)) (sym at-end ∙ h)
 
 -- ---- no item is met
 
@@ -51,15 +75,15 @@ job-accepted b file a =
     rw (
       buffer-in (a .sized .changed-size),
       buffer-in (a .sized .table-size),
-      buffer-in (a .sized .sets .after-size),
-      buffer-in (a .sized .sets .today-size),
-      buffer-in (a .sized .sets .classes-size),
-      buffer-in (a .sized .sets .work-size),
+      buffer-in (a .sized .after-size),
+      buffer-in (a .sized .today-size),
+      buffer-in (a .sized .classes-size),
+      buffer-in (a .sized .work-size),
       a .trailer-accepted,
     )
     (pieces-in _ _ _ (a .pieces))
 
--- ---- the reasons are 0 to 14; of rewriting and of the job `rewrite-numbered` and `job-numbered` say it
+-- ---- the numbers of the items; of rewriting and of the job `rewrite-numbered` and `job-numbered` say it
 
 pub list-numbered : (setLen workLen : ℕ) (site table : List ℕ) → Numbered (listVerdict setLen workLen site table)
 unfolding listVerdict

@@ -1,7 +1,7 @@
 -- The demands are met.
 use mathlib.Core.Path.{_≡_, _∙_, ap}
 use mathlib.Core.Logic.{Iff·trans}
-use mathlib.Core.Bool.{true}
+use mathlib.Core.Bool.{true, false}
 use mathlib.Core.List.{List, _++_}
 use Prim.Native.Nat.{ℕ, _*_, _-_, _<_}
 use native.Mathlib.Omega.{arith}
@@ -13,7 +13,6 @@ use Rattle.semantics.specs.Table.{formOf}
 use Rattle.semantics.specs.Edit as edits
 use Rattle.semantics.specs.Bisimulation.{IsClass}
 use Rattle.semantics.specs.Laws.Demands.{class-undistinguished}
-use Rattle.site.specs.Layout.{siteBytes}
 use Rattle.site.specs.Site.{siteOf}
 use Rattle.site.specs.Refusal.{siteVerdict}
 use Rattle.site.specs.Laws.Valid.{site-valid}
@@ -32,11 +31,12 @@ use Rattle.listing.specs.Laws.Same.{same-lists}
 use Rattle.list_entry.specs.Refusal.{listVerdict}
 use Rattle.list_entry.specs.Listing.{SetAfter}
 use Rattle.apply_entry.specs.Refusal.{applyVerdict}
-use Rattle.apply_entry.specs.Applying.{SiteAfter}
+use Rattle.apply_entry.specs.Applying.{SiteWritten, SiteAfter}
 use Rattle.rewrite_entry.specs.Refusal.{rewriteVerdict}
+use Rattle.rewriting.specs.Refusal.{tooLong}
 use Rattle.rewriting.specs.Rewriting.{TableAfter, rewritten}
 use Rattle.demands.specs.Demands.{ApplyCall, RewriteCall, ListCall, rewrittenTable, Runnable, SameLists, Demand2, Going, Demand3, ClassCall, SameClasses}
-use Rattle.demands.specs.Laws.Accepted.{list-accepted, apply-accepted, rewrite-accepted, classes-accepted}
+use Rattle.demands.specs.Laws.Accepted.{fits-short, list-accepted, apply-accepted, rewrite-accepted, classes-accepted}
 
 -- ---- listing an accepted condition on an accepted site
 
@@ -51,7 +51,7 @@ module _ {site table : List ℕ} (a : siteVerdict site ≡ Accepted) (b : condit
 
   listed : Listed (siteOf site) (formOf (tableOf table)) (c .set′) (c .count)
   unfolding SetAfter
-  listed = rw list-goes at (c .returned .set-after)
+  listed = (rw list-goes at (c .returned .left)) .set-after
 
 -- ---- a sheet that goes through
 
@@ -76,16 +76,19 @@ module _ {site sheet : List ℕ} (j : Going site sheet) where
     apply-reason : c .reason ≡ 0
     apply-reason = c .returned .reason-is ∙ ap reasonOf apply-goes
 
-    left : (length (c .result′) ≡ siteBytes) × (siteOf (c .result′) ≡ edits.sheet (editsOf sheet) (siteOf site))
+    left : SiteWritten site sheet (c .result′)
     unfolding SiteAfter
-    left = rw apply-goes at (c .returned .site-after)
+    left = rw apply-goes at (c .returned .left)
 
     pub left-accepted : siteVerdict (c .result′) ≡ Accepted
     left-accepted =
-        after-accepted site sheet (c .result′) (j .site-accepted) (j .sheet-accepted) (j .goes-through) (left .0) (left .1)
+        after-accepted site sheet (c .result′) (j .site-accepted) (j .sheet-accepted) (j .goes-through) (left .size) (left .effects)
 
 module _ {site table sheet : List ℕ} (j : Runnable site table sheet) where
   -- ---- rewriting
+
+  short : tooLong (editsOf sheet) (tableOf table) ≡ false
+  short = fits-short table sheet (j .table-accepted) (j .table-fits)
 
   module _ (c : RewriteCall table sheet) where
     rewrite-goes : rewriteVerdict (length (c .result)) table sheet ≡ Accepted
@@ -95,7 +98,7 @@ module _ {site table sheet : List ℕ} (j : Runnable site table sheet) where
           result-size = c .result-size;
           table-accepted = j .table-accepted;
           sheet-accepted = j .going .sheet-accepted;
-          short = j .table-fits;
+          short = short;
         })
 
     rewrite-reason : c .reason ≡ 0
@@ -103,11 +106,11 @@ module _ {site table sheet : List ℕ} (j : Runnable site table sheet) where
 
     written : (c .nodes ≡ length (rewritten table sheet)) × (c .result′ ≡ bytesOf (rewritten table sheet) ++ replicate (tableBytes - 6 * c .nodes) 0)
     unfolding TableAfter
-    written = rw rewrite-goes at (c .returned .table-after)
+    written = rw rewrite-goes at (c .returned .left)
 
     pub table-accepted : conditionVerdict (rewrittenTable c) ≡ Accepted
     table-accepted =
-        rewritten-accepted table sheet (j .table-accepted) (j .going .sheet-accepted) (j .table-fits) _ (c .result′) (c .nodes) (written .0) (written .1)
+        rewritten-accepted table sheet (j .table-accepted) (j .going .sheet-accepted) short _ (c .result′) (c .nodes) (written .0) (written .1)
 
     is-rewritten : tableOf (rewrittenTable c) ≡ rewritten table sheet
     is-rewritten = taken-table (rewritten table sheet) _ (c .result′) (c .nodes) (written .0) (written .1)
@@ -121,22 +124,25 @@ module _ {site table sheet : List ℕ} (j : Runnable site table sheet) where
       let q = listed (left-accepted (j .going) a) (j .table-accepted) u in
       let s = accepted-sound table (j .table-accepted) in
       let e =
-      same-lists (t .set-bytes) (u .set-bytes)
+      same-lists
       (editsOf sheet) (legal (j .going)) (siteOf site) (valid (j .going)) (j .going .goes-through)
       (tableOf table) (s .fits) (omega (arith, s .some, length-table table))
-      (rw (is-rewritten r) at p) (rw (left (j .going) a .1) at q)
+      (rw (is-rewritten r) at p) (rw (left (j .going) a .effects) at q)
       in
       record {
         applies = apply-reason (j .going) a;
         rewrites = rewrite-reason r;
         lists-today = list-reason (j .going .site-accepted) (table-accepted r) t;
         lists-after = list-reason (left-accepted (j .going) a) (j .table-accepted) u;
-        same-set = e .0;
-        same-count = e .1;
-        today-listed = p;
-        after-listed = q;
-        blocks = is-rewritten r;
-        effects = left (j .going) a .1;
+        agree =
+            record {
+              same-set = e .0;
+              same-count = e .1;
+              today-listed = p;
+              after-listed = q;
+              blocks = is-rewritten r;
+              effects = left (j .going) a .effects;
+            };
       }
 
 pub demand-2 : Demand2
@@ -151,14 +157,14 @@ module _ {site sheet : List ℕ} (j : Going site sheet) (a : ApplyCall site shee
 
   classes-left : (x : ℕ) → x < slots → IsClass (edits.sheet (editsOf sheet) (siteOf site)) x (getD (n .classes′) x 0)
   unfolding ClassesAfter
-  classes-left x l = let c = rw numbered at (n .returned .classes-after) in rw (left j a .1) at (c .0 .each x l)
+  classes-left x l = let c = rw numbered at (n .returned .left) in rw (left j a .effects) at (c .0 .each x l)
 
   same-classes : SameClasses a n
   same-classes =
       record {
         applies = apply-reason j a;
         numbers = n .returned .reason-is ∙ ap reasonOf numbered;
-        same-number = λ ρ s t h k.
+        same-numbers = λ ρ s t h k.
             Iff·trans
             (class-undistinguished
             (editsOf sheet) (legal j) (siteOf site) (valid j) (j .goes-through) ρ s t (getD (n .classes′) s 0) (getD (n .classes′) t 0) h k

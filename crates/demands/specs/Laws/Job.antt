@@ -1,21 +1,21 @@
 -- The demands on a job are met: a job stands for five calls of the entry points, and theirs are.
 use mathlib.Core.Path.{_≡_, sym, _∙_, ap}
 use mathlib.Core.List.{List}
-use Prim.Native.Nat.{ℕ, _<_}
-use lib.ListN.{length, getD}
+use Prim.Native.Nat.{ℕ}
+use lib.ListN.{length}
 use Rattle.bitset.specs.Set.{setBytes}
-use Rattle.verdict.specs.Verdict.{reasonOf, whereOf}
+use Rattle.verdict.specs.Verdict.{reasonOf, faultOf}
 use Rattle.verdict.specs.declared.Verdict.the-variants.{Accepted}
 use Rattle.site.specs.Refusal.{siteVerdict}
 use Rattle.condition.specs.Refusal.{conditionVerdict}
 use Rattle.trailer.specs.Pieces.{siteIn, conditionIn, sheetIn}
 use Rattle.list_entry.specs.Listing.{SetAfter}
-use Rattle.job_run.specs.Job.{Left}
+use Rattle.job_run.specs.Job.{JobAfter}
 use Rattle.job_entry.specs.Refusal.{jobVerdict}
 use Rattle.job_entry.specs.Laws.Refusal.{job-accepts, job-reason}
 use Rattle.demands.specs.Demands.{Runnable, ApplyCall, RewriteCall, ListCall, ClassCall, rewrittenTable, Demand2, Demand3}
 use Rattle.demands.specs.Job.{JobCall, RunnableFile, JobAgrees, DemandJob}
-use Rattle.demands.specs.Laws.Accepted.{list-accepted, apply-accepted, rewrite-accepted, classes-accepted, job-accepted}
+use Rattle.demands.specs.Laws.Accepted.{fits-short, short-fits, list-accepted, apply-accepted, rewrite-accepted, classes-accepted, job-accepted}
 use Rattle.demands.specs.Laws.Demands.{left-accepted, table-accepted, demand-2, demand-3}
 
 -- ---- refused only where an item is met
@@ -35,7 +35,7 @@ module _ (file : List ℕ) (c : JobCall file) where
               cond-accepted = r .pieces .table-accepted;
               sheet-accepted = r .pieces .going .sheet-accepted;
               goes = r .pieces .going .goes-through;
-              short = r .pieces .table-fits;
+              short = fits-short (conditionIn file) (sheetIn file) (r .pieces .table-accepted) (r .pieces .table-fits);
             };
       }))
 
@@ -52,11 +52,11 @@ module _ (file : List ℕ) (c : JobCall file) where
               record {
                 going = record { site-accepted = a .pieces .site-accepted; sheet-accepted = a .pieces .sheet-accepted; goes-through = a .pieces .goes };
                 table-accepted = a .pieces .cond-accepted;
-                table-fits = a .pieces .short;
+                table-fits = short-fits (conditionIn file) (sheetIn file) (a .pieces .cond-accepted) (a .pieces .short);
               };
         }
 
-    left : Left Accepted (siteIn file) (conditionIn file) (sheetIn file) (c .lent) (c .lent′) (c .after) (c .today) (c .nodes) (c .classes)
+    left : JobAfter Accepted (siteIn file) (conditionIn file) (sheetIn file) (c .lent) (c .lent′) (c .after) (c .today) (c .nodes) (c .classes)
     left = rw accepted at (c .returned .left)
 
     -- ---- the five calls, each on the job's own buffers
@@ -64,8 +64,8 @@ module _ (file : List ℕ) (c : JobCall file) where
     pieces : Runnable (siteIn file) (conditionIn file) (sheetIn file)
     pieces = runnable .pieces
 
-    abbrev applied : ApplyCall (siteIn file) (sheetIn file)
-    applied =
+    abbrev applyCall : ApplyCall (siteIn file) (sheetIn file)
+    applyCall =
         let v =
         apply-accepted (length (c .lent .changed)) (siteIn file) (sheetIn file)
         (record {
@@ -78,81 +78,79 @@ module _ (file : List ℕ) (c : JobCall file) where
           result = c .lent .changed;
           result′ = c .lent′ .changed;
           reason = 0;
-          place = 0;
+          fault = 0;
           result-size = c .sized .changed-size;
-          returned = record { reason-is = sym (ap reasonOf v); where-is = sym (ap whereOf v); site-after = rw v (left .site-after) };
+          returned = record { reason-is = sym (ap reasonOf v); fault-is = sym (ap faultOf v); left = rw v (left .site-after) };
         }
 
-    abbrev rewritten : RewriteCall (conditionIn file) (sheetIn file)
-    rewritten =
+    abbrev rewriteCall : RewriteCall (conditionIn file) (sheetIn file)
+    rewriteCall =
         let v =
         rewrite-accepted (length (c .lent .table)) (conditionIn file) (sheetIn file)
         (record {
           result-size = c .sized .table-size;
           table-accepted = pieces .table-accepted;
           sheet-accepted = pieces .going .sheet-accepted;
-          short = pieces .table-fits;
+          short = fits-short (conditionIn file) (sheetIn file) (pieces .table-accepted) (pieces .table-fits);
         }) in
         record {
           result = c .lent .table;
           result′ = c .lent′ .table;
           reason = 0;
-          place = 0;
+          fault = 0;
           nodes = c .nodes;
           result-size = c .sized .table-size;
-          returned = record { reason-is = sym (ap reasonOf v); where-is = sym (ap whereOf v); table-after = rw v (left .table-after) };
+          returned = record { reason-is = sym (ap reasonOf v); fault-is = sym (ap faultOf v); left = rw v (left .table-after) };
         }
 
-    -- either list
+    -- the call of listing for the list today, or for the list after
     abbrev lists : (site table set set′ : List ℕ) (n : ℕ) → siteVerdict site ≡ Accepted → conditionVerdict table ≡ Accepted → length set ≡ setBytes
-        → ((k : ℕ) → getD set′ k 0 < 256) → SetAfter Accepted site table set set′ n → ListCall site table
-    lists site table set set′ n a b size bytes after =
+        → SetAfter Accepted site table set set′ n → ListCall site table
+    lists site table set set′ n a b size after =
         let v =
         list-accepted (length set) (length (c .lent .work)) site table
-        (record { set-size = size; work-size = c .sized .sets .work-size; site-accepted = a; table-accepted = b }) in
+        (record { set-size = size; work-size = c .sized .work-size; site-accepted = a; table-accepted = b }) in
         record {
           set = set;
           set′ = set′;
           work = c .lent .work;
           work′ = c .lent′ .work;
           reason = 0;
-          place = 0;
+          fault = 0;
           count = n;
           set-size = size;
-          set-bytes = bytes;
-          work-size = c .sized .sets .work-size;
+          work-size = c .sized .work-size;
           returned =
               record {
                 reason-is = sym (ap reasonOf v);
-                where-is = sym (ap whereOf v);
-                set-after = rw v after;
-                work-zero = left .work-zero;
+                fault-is = sym (ap faultOf v);
+                left = rw v (record { set-after = after; work-zero = left .work-zero });
               };
         }
 
-    abbrev today : ListCall (siteIn file) (rewrittenTable rewritten)
-    today =
-        lists (siteIn file) (rewrittenTable rewritten) (c .lent .today) (c .lent′ .today) (c .today) (pieces .going .site-accepted)
-        (table-accepted pieces rewritten) (c .sized .sets .today-size) (c .today-bytes) (left .list-today)
+    abbrev todayCall : ListCall (siteIn file) (rewrittenTable rewriteCall)
+    todayCall =
+        lists (siteIn file) (rewrittenTable rewriteCall) (c .lent .today) (c .lent′ .today) (c .today) (pieces .going .site-accepted)
+        (table-accepted pieces rewriteCall) (c .sized .today-size) (left .list-today)
 
-    abbrev after : ListCall (applied .result′) (conditionIn file)
-    after =
-        lists (applied .result′) (conditionIn file) (c .lent .after) (c .lent′ .after) (c .after) (left-accepted (pieces .going) applied)
-        (pieces .table-accepted) (c .sized .sets .after-size) (c .after-bytes) (left .list-after)
+    abbrev afterCall : ListCall (applyCall .result′) (conditionIn file)
+    afterCall =
+        lists (applyCall .result′) (conditionIn file) (c .lent .after) (c .lent′ .after) (c .after) (left-accepted (pieces .going) applyCall)
+        (pieces .table-accepted) (c .sized .after-size) (left .list-after)
 
-    abbrev numbered : ClassCall (applied .result′)
-    numbered =
+    abbrev classCall : ClassCall (applyCall .result′)
+    classCall =
         let v =
-        classes-accepted (length (c .lent .classes)) (applied .result′)
-        (record { classes-size = c .sized .sets .classes-size; site-accepted = left-accepted (pieces .going) applied }) in
+        classes-accepted (length (c .lent .classes)) (applyCall .result′)
+        (record { classes-size = c .sized .classes-size; site-accepted = left-accepted (pieces .going) applyCall }) in
         record {
           classes = c .lent .classes;
           classes′ = c .lent′ .classes;
           reason = 0;
-          place = 0;
+          fault = 0;
           count = c .classes;
-          classes-size = c .sized .sets .classes-size;
-          returned = record { reason-is = sym (ap reasonOf v); where-is = sym (ap whereOf v); classes-after = rw v (left .classes-after) };
+          classes-size = c .sized .classes-size;
+          returned = record { reason-is = sym (ap reasonOf v); fault-is = sym (ap faultOf v); left = rw v (left .classes-after) };
         }
 
     -- ---- what they agree on, the job does
@@ -160,15 +158,9 @@ module _ (file : List ℕ) (c : JobCall file) where
     agrees : JobAgrees c
     unfolding Demand2 Demand3
     agrees =
-        let d = demand-2 (siteIn file) (conditionIn file) (sheetIn file) pieces applied rewritten today after in
         record {
-          same-set = d .same-set;
-          same-count = d .same-count;
-          today-listed = d .today-listed;
-          after-listed = d .after-listed;
-          blocks = d .blocks;
-          effects = d .effects;
-          same-number = demand-3 (siteIn file) (sheetIn file) (pieces .going) applied numbered .same-number;
+          lists = demand-2 (siteIn file) (conditionIn file) (sheetIn file) pieces applyCall rewriteCall todayCall afterCall .agree;
+          numbers = demand-3 (siteIn file) (sheetIn file) (pieces .going) applyCall classCall .same-numbers;
         }
 
 pub demand-job : DemandJob

@@ -10,15 +10,15 @@ apply-requires c κs = search needs
 reason-requires : tie.Need-reason-requires
 reason-requires c κs = search needs
 
-place-requires : tie.Need-place-requires
-place-requires c κs = search needs
+fault-requires : tie.Need-fault-requires
+fault-requires c κs = search needs
 
 same-length : tie.Need-same-length
 same-length c = search needs
 
 returns : tie.Need-returns
-returns c = let a = c .before .before .before .before .apply in returned-apply (a .result) (a .ensures) (c .before .reason .ensures) (c .place .ensures)
+returns c = let a = c .before .before .before .before .apply in returned-apply (a .ensures) (c .before .reason .ensures) (c .fault .ensures)
 
 pub desk-apply-spec : {M : Type 1} → statement M
 desk-apply-spec =
-    tie.close (tie.spec apply-requires reason-requires place-requires same-length returns)
+    tie.close (tie.spec apply-requires reason-requires fault-requires same-length returns)

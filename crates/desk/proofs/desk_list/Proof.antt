@@ -13,8 +13,8 @@ verdict-requires c κs = search needs
 reason-requires : tie.Need-reason-requires
 reason-requires c κs = search needs
 
-place-requires : tie.Need-place-requires
-place-requires c κs = search needs
+fault-requires : tie.Need-fault-requires
+fault-requires c κs = search needs
 
 count-requires : tie.Need-count-requires
 count-requires c κs = search needs
@@ -26,7 +26,7 @@ same-length-2 : tie.Need-same-length-2
 same-length-2 c = search needs
 
 returns : tie.Need-returns
-returns c = let l = c .before .before .before .before .before .before .before .before .list in returned-list (l .result) (l .ensures) (c .before .before .before .verdict .ensures) (c .before .before .reason .ensures) (c .before .place .ensures) (c .count .ensures)
+returns c = let l = c .before .before .before .before .before .before .before .before .list in returned-list (l .result) (l .ensures) (c .before .before .before .verdict .ensures) (c .before .before .reason .ensures) (c .before .fault .ensures) (c .count .ensures)
 
 pub desk-list-spec : {M : Type 1} → statement M
 desk-list-spec =
@@ -35,7 +35,7 @@ desk-list-spec =
     list-requires
     verdict-requires
     reason-requires
-    place-requires
+    fault-requires
     count-requires
     same-length
     same-length-2

@@ -13,8 +13,8 @@ verdict-requires c κs = search needs
 reason-requires : tie.Need-reason-requires
 reason-requires c κs = search needs
 
-place-requires : tie.Need-place-requires
-place-requires c κs = search needs
+fault-requires : tie.Need-fault-requires
+fault-requires c κs = search needs
 
 nodes-requires : tie.Need-nodes-requires
 nodes-requires c κs = search needs
@@ -23,7 +23,7 @@ same-length : tie.Need-same-length
 same-length c = search needs
 
 returns : tie.Need-returns
-returns c = let a = c .before .before .before .before .before .before .rewrite in returned-rewrite (a .result) (a .ensures) (c .before .before .before .verdict .ensures) (c .before .before .reason .ensures) (c .before .place .ensures) (c .nodes .ensures)
+returns c = let a = c .before .before .before .before .before .before .rewrite in returned-rewrite (a .result) (a .ensures) (c .before .before .before .verdict .ensures) (c .before .before .reason .ensures) (c .before .fault .ensures) (c .nodes .ensures)
 
 pub desk-rewrite-spec : {M : Type 1} → statement M
 desk-rewrite-spec =
@@ -32,7 +32,7 @@ desk-rewrite-spec =
     rewrite-requires
     verdict-requires
     reason-requires
-    place-requires
+    fault-requires
     nodes-requires
     same-length
     returns)

@@ -1,85 +1,71 @@
 -- The answers of the entry points in numbers.
-use mathlib.Core.Path.{_≡_, sym, _∙_, ap}
+use mathlib.Core.Path.{_≡_, refl, sym, _∙_, ap, subst}
 use mathlib.Core.List.{List}
 use Prim.Native.Nat.{ℕ}
-use Rattle.verdict.specs.Verdict.{reasonOf, whereOf}
+use Rattle.verdict.specs.Verdict.{reasonOf, faultOf}
 use Rattle.verdict.specs.declared.Verdict.{Verdict}
 use Rattle.list_entry.specs.declared.Listing.{Listing}
 use Rattle.list_entry.specs.Answer.{verdictOf, countOf}
-use Rattle.list_entry.specs.Listing.{Answered}
-use Rattle.apply_entry.specs.Applying as applying
+use Rattle.list_entry.specs.Listing.{ListAfter, ListAnswered}
+use Rattle.apply_entry.specs.Applying.{SiteAfter, ApplyAnswered}
 use Rattle.rewriting.specs.declared.Rewriting.{Rewriting}
-use Rattle.rewriting.specs.Answer as answer
-use Rattle.rewrite_entry.specs.Rewriting as rewriting
+use Rattle.rewriting.specs.Answer as rewriting
+use Rattle.rewriting.specs.Rewriting.{TableAfter}
+use Rattle.rewrite_entry.specs.Rewriting.{RewriteAnswered}
 use Rattle.classes_entry.specs.declared.Classing.{Classing}
-use Rattle.classes_entry.specs.Answer as number
-use Rattle.classes_entry.specs.Classing as classing
+use Rattle.classes_entry.specs.Answer as classing
+use Rattle.classes_entry.specs.Classing.{ClassesAfter, ClassesAnswered}
+use Rattle.trailer.specs.Pieces.{siteIn, conditionIn, sheetIn}
 use Rattle.job_run.specs.declared.Job.{Job}
 use Rattle.job_run.specs.Buffers.{Buffers}
-use Rattle.job_run.specs.Answer as done
-use Rattle.job_entry.specs.Job as job
-use Rattle.desk.specs.Returned.{ReturnedList, ReturnedApply, ReturnedRewrite, ReturnedClasses, ReturnedJob}
+use Rattle.job_run.specs.Answer as job
+use Rattle.job_run.specs.Job.{JobAfter}
+use Rattle.job_entry.specs.Job.{JobAnswered}
+use Rattle.desk.specs.Returned.{Returned, ReturnedList, ReturnedApply, ReturnedRewrite, ReturnedClasses, ReturnedJob}
+
+-- the answer has the verdict u, which is due, and the numbers are those of v, which is u
+returned : (After : Verdict → Type 0) {due u : Verdict} → u ≡ due → After u → {v : Verdict} → v ≡ u → {reason fault : ℕ} → reason ≡ reasonOf v
+    → fault ≡ faultOf v → Returned due After reason fault
+returned After a l h e f = record { reason-is = e ∙ ap reasonOf (h ∙ a); fault-is = f ∙ ap faultOf (h ∙ a); left = subst After a l }
 
 -- ---- listing
 
 module _ {site table set set′ work work′ : List ℕ} where
-  pub returned-list : (r : Listing) → Answered site table set set′ work work′ (verdictOf r) (countOf r) → {v : Verdict} → v ≡ verdictOf r
-      → {reason w n : ℕ} → reason ≡ reasonOf v → w ≡ whereOf v → n ≡ countOf r → ReturnedList site table set set′ work work′ reason w n
-  returned-list r a h e f g =
-      record {
-        reason-is = e ∙ ap reasonOf (h ∙ a .verdict);
-        where-is = f ∙ ap whereOf (h ∙ a .verdict);
-        set-after = rw (g, sym (a .verdict)) (a .set-after);
-        work-zero = a .work-zero;
-      }
+  pub returned-list : (r : Listing) → ListAnswered site table set set′ work work′ (verdictOf r) (countOf r) → {v : Verdict} → v ≡ verdictOf r
+      → {reason fault n : ℕ} → reason ≡ reasonOf v → fault ≡ faultOf v → n ≡ countOf r → ReturnedList site table set set′ work work′ reason fault n
+  returned-list r a h {n = n} e f g = returned (λ v. ListAfter v site table set set′ work work′ n) (a .verdict) (rw g (a .left)) h e f
 
 -- ---- applying
 
 module _ {site sheet result result′ : List ℕ} where
-  pub returned-apply : (v : Verdict) → applying.Answered site sheet result result′ v → {reason w : ℕ} → reason ≡ reasonOf v → w ≡ whereOf v
-      → ReturnedApply site sheet result result′ reason w
-  returned-apply v a e f =
-      record {
-        reason-is = e ∙ ap reasonOf (a .verdict);
-        where-is = f ∙ ap whereOf (a .verdict);
-        site-after = rw (sym (a .verdict)) (a .site-after);
-      }
+  pub returned-apply : {v : Verdict} → ApplyAnswered site sheet result result′ v → {reason fault : ℕ} → reason ≡ reasonOf v → fault ≡ faultOf v
+      → ReturnedApply site sheet result result′ reason fault
+  returned-apply a e f = returned (λ v. SiteAfter v site sheet result result′) (a .verdict) (a .left) refl e f
 
 -- ---- rewriting
 
 module _ {table sheet result result′ : List ℕ} where
-  pub returned-rewrite : (r : Rewriting) → rewriting.Answered table sheet result result′ (answer.verdictOf r) (answer.nodesOf r) → {v : Verdict} → v ≡ answer.verdictOf r
-      → {reason w n : ℕ} → reason ≡ reasonOf v → w ≡ whereOf v → n ≡ answer.nodesOf r → ReturnedRewrite table sheet result result′ reason w n
-  returned-rewrite r a h e f g =
-      record {
-        reason-is = e ∙ ap reasonOf (h ∙ a .verdict);
-        where-is = f ∙ ap whereOf (h ∙ a .verdict);
-        table-after = rw (g, sym (a .verdict)) (a .table-after);
-      }
+  pub returned-rewrite : (r : Rewriting) → RewriteAnswered table sheet result result′ (rewriting.verdictOf r) (rewriting.nodesOf r)
+      → {v : Verdict} → v ≡ rewriting.verdictOf r → {reason fault n : ℕ} → reason ≡ reasonOf v → fault ≡ faultOf v → n ≡ rewriting.nodesOf r
+      → ReturnedRewrite table sheet result result′ reason fault n
+  returned-rewrite r a h {n = n} e f g = returned (λ v. TableAfter v table sheet result result′ n) (a .verdict) (rw g (a .left)) h e f
 
 -- ---- class numbers
 
 module _ {site classes classes′ : List ℕ} where
-  pub returned-classes : (r : Classing) → classing.Answered site classes classes′ (number.verdictOf r) (number.countOf r) → {v : Verdict} → v ≡ number.verdictOf r
-      → {reason w n : ℕ} → reason ≡ reasonOf v → w ≡ whereOf v → n ≡ number.countOf r → ReturnedClasses site classes classes′ reason w n
-  returned-classes r a h e f g =
-      record {
-        reason-is = e ∙ ap reasonOf (h ∙ a .verdict);
-        where-is = f ∙ ap whereOf (h ∙ a .verdict);
-        classes-after = rw (g, sym (a .verdict)) (a .classes-after);
-      }
+  pub returned-classes : (r : Classing) → ClassesAnswered site classes classes′ (classing.verdictOf r) (classing.countOf r)
+      → {v : Verdict} → v ≡ classing.verdictOf r → {reason fault n : ℕ} → reason ≡ reasonOf v → fault ≡ faultOf v → n ≡ classing.countOf r
+      → ReturnedClasses site classes classes′ reason fault n
+  returned-classes r a h {n = n} e f g = returned (λ v. ClassesAfter v site classes classes′ n) (a .verdict) (rw g (a .left)) h e f
 
 -- ---- a job
 
 module _ {file : List ℕ} {b b′ : Buffers} where
   pub returned-job : (r : Job)
-      → job.Answered file b b′ (done.verdictOf r) (done.afterOf r) (done.todayOf r) (done.nodesOf r) (done.classesOf r)
-      → {reason w after today nodes classes : ℕ} → (reason ≡ reasonOf (done.verdictOf r)) × (w ≡ whereOf (done.verdictOf r))
-      → (after ≡ done.afterOf r) × ((today ≡ done.todayOf r) × ((nodes ≡ done.nodesOf r) × (classes ≡ done.classesOf r)))
-      → ReturnedJob file b b′ reason w after today nodes classes
-  returned-job r a e f =
-      record {
-        reason-is = e .0 ∙ ap reasonOf (a .verdict);
-        where-is = e .1 ∙ ap whereOf (a .verdict);
-        left = rw (f .0, f .1 .0, f .1 .1 .0, f .1 .1 .1, sym (a .verdict)) (a .left);
-      }
+      → JobAnswered file b b′ (job.verdictOf r) (job.afterOf r) (job.todayOf r) (job.nodesOf r) (job.classesOf r)
+      → {reason fault after today nodes classes : ℕ} → (reason ≡ reasonOf (job.verdictOf r)) × (fault ≡ faultOf (job.verdictOf r))
+      → (after ≡ job.afterOf r) × ((today ≡ job.todayOf r) × ((nodes ≡ job.nodesOf r) × (classes ≡ job.classesOf r)))
+      → ReturnedJob file b b′ reason fault after today nodes classes
+  returned-job r a {after = after} {today = today} {nodes = nodes} {classes = classes} e f =
+      returned (λ v. JobAfter v (siteIn file) (conditionIn file) (sheetIn file) b b′ after today nodes classes)
+      (a .verdict) (rw (f .0, f .1 .0, f .1 .1 .0, f .1 .1 .1) (a .left)) refl (e .0) (e .1)

@@ -13,9 +13,9 @@ use Rattle.refusals.specs.Laws.Items.{then-out}
 use Rattle.job_run.specs.declared.Job.{Job}
 use Rattle.job_run.specs.Buffers.{Buffers, Sized}
 use Rattle.job_run.specs.Answer.{verdictOf, afterOf, todayOf, nodesOf, classesOf}
-use Rattle.job_run.specs.Job.{Ran}
+use Rattle.job_run.specs.Steps.{Ran}
 use Rattle.job_entry.specs.Refusal.{buffersVerdict}
-use Rattle.job_entry.specs.Job.{Answered}
+use Rattle.job_entry.specs.Job.{JobAnswered}
 use Rattle.job_entry.specs.Steps.{sizesFit, sizesVerdict}
 use Rattle.job_entry.specs.Laws.Refusal.{sizes-verdict, sized-out, job-then}
 
@@ -31,5 +31,5 @@ module _ {file : List ℕ} {b : Buffers} {fits met : Bool} {x y z : ℕ} {v : Ve
   sized e = sized-out b (then-out (buffersVerdict b) (trailerVerdict file) (judged b s c j ∙ e) .0)
 
   pub answered-ran : {site cond sheet : List ℕ} → site ≡ siteIn file → cond ≡ conditionIn file → sheet ≡ sheetIn file
-      → {b′ : Buffers} {r : Job} → Ran v site cond sheet b b′ r → Answered file b b′ (verdictOf r) (afterOf r) (todayOf r) (nodesOf r) (classesOf r)
+      → {b′ : Buffers} {r : Job} → Ran v site cond sheet b b′ r → JobAnswered file b b′ (verdictOf r) (afterOf r) (todayOf r) (nodesOf r) (classesOf r)
   answered-ran p q h w = record { verdict = rw (job-then b file, judged b s c j) (rw (p, q, h) at (w .verdict)); left = rw (p, q, h) at (w .left) }

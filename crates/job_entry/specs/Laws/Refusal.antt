@@ -1,4 +1,4 @@
--- What a job knows of inputs that it does not refuse; the reasons are 0 to 14, and 0 says that it does not.
+-- What a job knows of inputs that it does not refuse; the reason 0 says that it does not.
 use mathlib.Core.Path.{_≡_, refl, sym}
 use mathlib.Core.Bool.{Bool, true, false, not, _&&_, cond}
 use mathlib.Core.List.{List}
@@ -27,7 +27,7 @@ use Rattle.job_entry.specs.Steps.{sizesFit, sizesVerdict}
 
 -- ---- item 1
 
--- by one test of the six lengths
+-- item 1 of the six buffers by one test of their lengths
 pub sizes-verdict : (b : Buffers) → buffersVerdict b ≡ sizesVerdict (sizesFit b)
 unfolding buffersVerdict bufferVerdict sizesFit
 sizes-verdict b =
@@ -58,12 +58,10 @@ sized-out b e =
     record {
       changed-size = buffer-out (length (b .changed)) siteBytes (s .0);
       table-size = buffer-out (length (b .table)) tableBytes (t .0);
-      sets = record {
-        after-size = buffer-out (length (b .after)) setBytes (a .0);
-        today-size = buffer-out (length (b .today)) setBytes (d .0);
-        classes-size = buffer-out (length (b .classes)) classesBytes (c .0);
-        work-size = buffer-out (length (b .work)) workBytes (c .1);
-      };
+      after-size = buffer-out (length (b .after)) setBytes (a .0);
+      today-size = buffer-out (length (b .today)) setBytes (d .0);
+      classes-size = buffer-out (length (b .classes)) classesBytes (c .0);
+      work-size = buffer-out (length (b .work)) workBytes (c .1);
     }
 
 module _ (b : Buffers) (file : List ℕ) where
@@ -87,7 +85,7 @@ module _ (b : Buffers) (file : List ℕ) where
       let q = then-out (trailerVerdict file) (piecesVerdict (siteIn file) (conditionIn file) (sheetIn file)) (p .1) in
       record { sized = sized-out b (p .0); trailer-accepted = q .0; pieces = pieces-out _ _ _ (q .1) }
 
-  -- ---- its items have the numbers 1 to 14
+  -- ---- the numbers of its items
 
   buffers-numbered : Numbered (buffersVerdict b)
   unfolding buffersVerdict

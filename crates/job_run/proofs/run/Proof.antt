@@ -1,7 +1,7 @@
 -- The pieces are prepared, then both lists and the class numbers are written or the job is refused.
 use native.Mathlib.Omega.{arith}
 use borrow.Author.Needs.{needs}
-use Rattle.job_run.specs.Laws.Job.{went, ran-done, ran-refused}
+use Rattle.job_run.specs.Laws.Job.{sets-of, went, ran-done, ran-refused}
 use Rattle.job_run.proofs.run.Statement.{statement}
 use Rattle.job_run.proofs.run.Tie as tie
 
@@ -27,7 +27,7 @@ finish-requires c κs =
     let ready = c .before .before .before .before .before .before .before .before .before .before .before .before .before .before .before .prepare .ensures in
     let lent = c .before .before .before .before .before .before .before .before .before .before .before .before .before .before .before .before .before .before .before .before .before .before .before .before .before .before .before .before .before .pre in
     let made = c .before .before .before .before .before .before .before .before .r .given .1 in
-    (ready .made _ made .listable, lent (went ready made) .sets)
+    (ready .made _ made .listable, sets-of (lent (went ready made)))
 
 enum-known-r-2 : tie.Need-enum-known-r-2
 enum-known-r-2 c = search needs

@@ -23,19 +23,19 @@ use Rattle.refusals.specs.Laws.Items.{then-out}
 use Rattle.list_entry.specs.Listing.{SetAfter}
 use Rattle.apply_entry.specs.Applying.{SiteAfter}
 use Rattle.classes_entry.specs.Classing.{ClassesAfter}
-use Rattle.job_steps.specs.Steps.{Judged, Changed}
+use Rattle.job_steps.specs.Steps.{PiecesJudged, Changed}
 use Rattle.job_run.specs.declared.Job.{Job}
 use Rattle.job_run.specs.declared.Job.the-variants as answer
-use Rattle.job_run.specs.Buffers.{Buffers, six, Sized}
+use Rattle.job_run.specs.Buffers.{Buffers, buffersOf, Sized}
 use Rattle.job_run.specs.Refusal.{piecesVerdict}
-use Rattle.job_run.specs.Job.{Left, Ran}
-use Rattle.job_run.specs.Steps.{Zeros, Made, Prepared, Finished}
+use Rattle.job_run.specs.Job.{JobAfter}
+use Rattle.job_run.specs.Steps.{Sets, Zeros, Made, Prepared, Finished, Ran}
 use Rattle.job_run.specs.Laws.Refusal.{pieces-then, pieces-out}
 
 -- ---- the pieces are judged, applied and rewritten
 
 pub judged-out : (first : Verdict) (site cond sheet : List ℕ) {free′ : List ℕ} {v : Verdict}
-    → Judged (first then siteVerdict site then conditionVerdict cond then sheetVerdict sheet) cond free′ v → v ≡ Accepted
+    → PiecesJudged (first then siteVerdict site then conditionVerdict cond then sheetVerdict sheet) cond free′ v → v ≡ Accepted
     → (first ≡ Accepted) × ((siteVerdict site ≡ Accepted) × ((conditionVerdict cond ≡ Accepted) × (sheetVerdict sheet ≡ Accepted)))
 judged-out first site cond sheet j e =
     let p = then-out first _ (sym (j .verdict) ∙ e) in
@@ -44,7 +44,7 @@ judged-out first site cond sheet j e =
 
 -- the verdict, and what is written, where neither `first` nor items 3 to 12 refuse
 module _ (first : Verdict) {site cond sheet free′ : List ℕ} {v : Verdict}
-    (j : Judged (first then siteVerdict site then conditionVerdict cond then sheetVerdict sheet) cond free′ v) (e : v ≡ Accepted)
+    (j : PiecesJudged (first then siteVerdict site then conditionVerdict cond then sheetVerdict sheet) cond free′ v) (e : v ≡ Accepted)
     {changed changed′ table table′ : List ℕ} {r : Rewriting} (c : Changed site cond sheet changed changed′ table table′ r) where
   verdict : rewriting.verdictOf r ≡ first then piecesVerdict site cond sheet
   verdict = rw (pieces-then first site cond sheet, sym (j .verdict) ∙ e) (c .verdict)
@@ -64,21 +64,21 @@ module _ (first : Verdict) {site cond sheet free′ : List ℕ} {v : Verdict}
               cond-accepted = k .cond-accepted;
               free-size = size;
               free-rows = j .rows e;
-              changed-size = c .site-after n f .0;
+              changed-size = c .site-after n f .size;
               room = omega (arith, t .0, ap length (t .1), length-append (bytesOf ys) (replicate (tableBytes - 6 * n) 0), length-bytes ys);
               part-accepted = rewritten-accepted cond sheet (k .cond-accepted) (k .sheet-accepted) (k .short) _ table′ n (t .0) (t .1);
             };
       }
 
 module _ {first : Verdict} {site cond sheet free′ : List ℕ} {v : Verdict}
-    (j : Judged (first then siteVerdict site then conditionVerdict cond then sheetVerdict sheet) cond free′ v)
+    (j : PiecesJudged (first then siteVerdict site then conditionVerdict cond then sheetVerdict sheet) cond free′ v)
     {changed changed′ table table′ : List ℕ} where
   pub prepared : v ≡ Accepted → length free′ ≡ tableNodes → {r : Rewriting} → Changed site cond sheet changed changed′ table table′ r
       → Prepared first site cond sheet free′ changed changed′ table table′ r
   prepared e size c = record { verdict = verdict first j e c; made = made first j e c size }
 
-  pub prepared-refused : {item place : ℕ} → v ≡ Refused item place
-      → Prepared first site cond sheet free′ changed changed′ table table′ (change.Refused item place)
+  pub prepared-refused : {item fault : ℕ} → v ≡ Refused item fault
+      → Prepared first site cond sheet free′ changed changed′ table table′ (change.Refused item fault)
   prepared-refused e = record {
     verdict = rw (pieces-then first site cond sheet, sym (j .verdict) ∙ e);
     made = λ n f. let z : _≡_ {A = ℕ} 0 1 = cc in absurd (omega arith);
@@ -86,7 +86,7 @@ module _ {first : Verdict} {site cond sheet free′ : List ℕ} {v : Verdict}
 
 -- ---- a refusal leaves zeros
 
-zeros-left : {site cond sheet : List ℕ} {b b′ : Buffers} {item place : ℕ} → Zeros b b′ → Left (Refused item place) site cond sheet b b′ 0 0 0 0
+zeros-left : {site cond sheet : List ℕ} {b b′ : Buffers} {item fault : ℕ} → Zeros b b′ → JobAfter (Refused item fault) site cond sheet b b′ 0 0 0 0
 unfolding SiteAfter TableAfter SetAfter ClassesAfter
 zeros-left z = record {
   site-after = z .changed-zero;
@@ -99,6 +99,9 @@ zeros-left z = record {
 
 -- ---- the job answers
 
+pub sets-of : {b : Buffers} → Sized b → Sets (b .after) (b .today) (b .classes) (b .work)
+sets-of s = record { after-size = s .after-size; today-size = s .today-size; classes-size = s .classes-size; work-size = s .work-size }
+
 -- the site and the table were written, so nothing was refused first
 pub went : {first : Verdict} {site cond sheet free′ changed changed′ table table′ : List ℕ} {r : Rewriting}
     → Prepared first site cond sheet free′ changed changed′ table table′ r → {n : ℕ} → r ≡ change.Rewritten n → first ≡ Accepted
@@ -107,7 +110,7 @@ went {first = first} p e = then-out first _ (sym (p .verdict) ∙ ap rewriting.v
 module _ {first : Verdict} {site cond sheet free′ : List ℕ} {b : Buffers} {changed′ table′ : List ℕ} {r : Rewriting}
     (p : Prepared first site cond sheet free′ (b .changed) changed′ (b .table) table′ r) where
   pub ran-done : {n : ℕ} → r ≡ change.Rewritten n → Sized b → {after′ today′ classes′ work′ : List ℕ} {j : Job}
-      → Finished site cond changed′ table′ n after′ today′ classes′ work′ j → Ran first site cond sheet b (six changed′ table′ after′ today′ classes′ work′) j
+      → Finished site cond changed′ table′ n after′ today′ classes′ work′ j → Ran first site cond sheet b (buffersOf changed′ table′ after′ today′ classes′ work′) j
   unfolding SetAfter ClassesAfter
   ran-done {n = n} e s f =
       let m = p .made n e in
@@ -121,14 +124,14 @@ module _ {first : Verdict} {site cond sheet free′ : List ℕ} {b : Buffers} {c
               list-after = f .list-after;
               list-today = f .list-today;
               classes-after = (f .classes-after, f .classes-count);
-              work-zero = f .work-zero ∙ ap (λ (k : ℕ). replicate k 0) (sym (s .sets .work-size));
+              work-zero = f .work-zero ∙ ap (λ (k : ℕ). replicate k 0) (sym (s .work-size));
             });
       }
 
   -- the site after and the table may have been written already
-  pub ran-refused : {item place : ℕ} → r ≡ change.Refused item place → {j : Job} → j ≡ answer.Refused item place
+  pub ran-refused : {item fault : ℕ} → r ≡ change.Refused item fault → {j : Job} → j ≡ answer.Refused item fault
       → length changed′ ≡ length (b .changed) → length table′ ≡ length (b .table)
-      → {b′ : Buffers} → Zeros (six changed′ table′ (b .after) (b .today) (b .classes) (b .work)) b′ → Ran first site cond sheet b b′ j
+      → {b′ : Buffers} → Zeros (buffersOf changed′ table′ (b .after) (b .today) (b .classes) (b .work)) b′ → Ran first site cond sheet b b′ j
   ran-refused e f h i z =
       rw f
       (record {

@@ -1,4 +1,4 @@
--- What is known of pieces that are not refused; the reasons are 0 to 14.
+-- What is known of pieces that are not refused, and the numbers of their items.
 use mathlib.Core.Path.{_≡_}
 use mathlib.Core.Bool.{true, false}
 use mathlib.Core.List.{List}
@@ -60,7 +60,7 @@ module _ (site cond sheet : List ℕ) where
   unfolding piecesVerdict goesVerdict lengthVerdict
   pieces-in a = rw (a .site-accepted, a .cond-accepted, a .sheet-accepted, a .goes, a .short)
 
-  -- the items have the numbers 1 to 14
+  -- the numbers of the items
   pub pieces-numbered : Numbered (piecesVerdict site cond sheet)
   unfolding piecesVerdict
   pieces-numbered =

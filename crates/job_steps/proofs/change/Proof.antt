@@ -1,4 +1,5 @@
 -- Item 13 by applying, then item 14 by rewriting.
+use native.Mathlib.Omega.{arith}
 use Rattle.condition.specs.Laws.Verdict.{accepted-sound}
 use Rattle.sheet.specs.Laws.Accepted.{accepted-sheet}
 use Rattle.job_steps.specs.Laws.Steps.{changed-then, changed-stuck}
@@ -25,7 +26,11 @@ same-length-2 : tie.Need-same-length-2
 same-length-2 c = search needs
 
 returns : tie.Need-returns
-returns c = changed-then (c .before .before .before .before .before .before .before .before .apply .ensures) (c .before .before .before .before .enum-told .given .1) (c .before .before .rewrite-sheet .ensures)
+returns c =
+    let applied = c .before .before .before .before .before .before .before .before .apply in
+    let left = c .before .before .before .before .before .before .slice-known3 in
+    let told = c .before .before .before .before .enum-told in
+    changed-then (applied .ensures) (told .given .1) (λ k. omega (arith, left .given k)) (c .before .before .rewrite-sheet .ensures)
 
 same-length-3 : tie.Need-same-length-3
 same-length-3 c = search needs

@@ -3,21 +3,20 @@ use mathlib.Core.Path.{_≡_, sym, _∙_}
 use mathlib.Core.List.{List}
 use Prim.Native.Nat.{ℕ}
 use native.Mathlib.Omega.{arith}
+use Rattle.finite.specs.Bytes.{Bytes}
 use Rattle.verdict.specs.Verdict.{_then_}
 use Rattle.verdict.specs.Laws.{refused}
 use Rattle.verdict.specs.declared.Verdict.{Verdict}
 use Rattle.verdict.specs.declared.Verdict.the-variants.{Accepted, Refused}
-use Rattle.site.specs.Site.{siteOf}
 use Rattle.even_rule.specs.Free.{FreeRows, FreeAfter, Checked}
-use Rattle.sheet.specs.Bytes.{editsOf}
 use Rattle.applying.specs.Applies.{Applies}
-use Rattle.applying.specs.Laws.Goes.{goes-out}
 use Rattle.rewriting.specs.declared.Rewriting.{Rewriting}
 use Rattle.rewriting.specs.declared.Rewriting.the-variants as answer
 use Rattle.rewriting.specs.Answer.{verdictOf, nodesOf}
 use Rattle.rewriting.specs.Rewriting.{Rewrote}
 use Rattle.apply_entry.specs.Applying.{SiteAfter}
-use Rattle.job_steps.specs.Steps.{Judged, changeVerdict, Changed}
+use Rattle.apply_entry.specs.Laws.Applying.{site-written}
+use Rattle.job_steps.specs.Steps.{PiecesJudged, changeVerdict, Changed}
 
 -- ---- the pieces are judged
 
@@ -28,21 +27,21 @@ checked-rows k e = rw e at (k .masks)
 
 module _ {cond masks : List ℕ} where
   -- the first of two checks refuses
-  pub judged-refused : {u : Verdict} (w : Verdict) {item place : ℕ} → u ≡ Refused item place → Judged (u then w) cond masks (Refused item place)
+  pub judged-refused : {u : Verdict} (w : Verdict) {item fault : ℕ} → u ≡ Refused item fault → PiecesJudged (u then w) cond masks (Refused item fault)
   judged-refused w e = record { verdict = rw e; rows = λ f. refused f }
 
-  -- it accepts, and the second judges
-  pub judged-next : {u w v : Verdict} → u ≡ Accepted → Judged w cond masks v → Judged (u then w) cond masks v
+  -- the first of two checks accepts, and the second judges
+  pub judged-next : {u w v : Verdict} → u ≡ Accepted → PiecesJudged w cond masks v → PiecesJudged (u then w) cond masks v
   judged-next e j = record { verdict = rw e (j .verdict); rows = j .rows }
 
-  pub judged-sheet : {u w v : Verdict} → Checked cond masks u → u ≡ Accepted → v ≡ w → Judged w cond masks v
+  pub judged-sheet : {u w v : Verdict} → Checked cond masks u → u ≡ Accepted → v ≡ w → PiecesJudged w cond masks v
   judged-sheet k e f = record { verdict = f; rows = λ _. checked-rows k e }
 
 -- ---- the sheet is applied, then the condition is rewritten
 
 module _ {site cond sheet changed changed′ table table′ : List ℕ} {v : Verdict} (a : Applies site sheet changed′ v) where
-  pub changed-stuck : {item place : ℕ} → v ≡ Refused item place
-      → Changed site cond sheet changed changed′ table table′ (answer.Refused item place)
+  pub changed-stuck : {item fault : ℕ} → v ≡ Refused item fault
+      → Changed site cond sheet changed changed′ table table′ (answer.Refused item fault)
   unfolding changeVerdict
   changed-stuck e = record {
     verdict = rw (sym (a .answer) ∙ e);
@@ -50,13 +49,13 @@ module _ {site cond sheet changed changed′ table table′ : List ℕ} {v : Ver
     table-after = λ n f. let z : _≡_ {A = ℕ} 0 1 = cc in absurd (omega arith);
   }
 
-  pub changed-then : v ≡ Accepted → {r : Rewriting} → Rewrote cond sheet table table′ (verdictOf r) (nodesOf r)
+  pub changed-then : v ≡ Accepted → Bytes changed′ → {r : Rewriting} → Rewrote cond sheet table table′ (verdictOf r) (nodesOf r)
       → Changed site cond sheet changed changed′ table table′ r
   unfolding changeVerdict SiteAfter
-  changed-then e w =
+  changed-then e b w =
       let g = sym (a .answer) ∙ e in
       record {
         verdict = rw g (w .verdict);
-        site-after = λ n f. (a .long, a .left (goes-out (editsOf sheet) (siteOf site) g));
+        site-after = λ n f. site-written a e b;
         table-after = λ n f. rw f at (w .table-after);
       }

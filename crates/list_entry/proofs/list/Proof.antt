@@ -22,7 +22,10 @@ slice-aggregate-list : tie.Need-slice-aggregate-list
 slice-aggregate-list c = search needs
 
 list-requires : tie.Need-list-requires
-list-requires c κs = let j = c .before .before .before .before .before .before .judge in let e = c .before .before .before .enum-told .given .1 in let k = accepts (j .ensures) e in
+list-requires c κs =
+    let j = c .before .before .before .before .before .before .judge in
+    let e = c .before .before .before .enum-told .given .1 in
+    let k = accepts (j .ensures) e in
     (accepted-out _ (k .site-accepted) .0, (k .table-accepted, ((omega arith, free-rows (j .ensures) e), (k .set-size, k .work-size))))
 
 enum-known-v : tie.Need-enum-known-v
@@ -38,7 +41,11 @@ same-length-2 : tie.Need-same-length-2
 same-length-2 c = search needs
 
 returns : tie.Need-returns
-returns c = answered-listed (c .before .before .before .before .before .before .before .before .before .before .before .judge .ensures) (c .before .before .before .before .before .before .before .before .enum-told .given .1) (c .before .before .before .before .list .ensures .0) (c .before .before .before .before .list .ensures .1)
+returns c =
+    let l = c .before .before .before .before .list in
+    let told = c .before .before .before .before .before .before .before .before .enum-told in
+    let j = c .before .before .before .before .before .before .before .before .before .before .before .judge in
+    answered-listed (j .ensures) (told .given .1) (l .ensures .0) (l .ensures .1)
 
 same-length-3 : tie.Need-same-length-3
 same-length-3 c = search needs
@@ -47,7 +54,11 @@ same-length-4 : tie.Need-same-length-4
 same-length-4 c = search needs
 
 returns-2 : tie.Need-returns-2
-returns-2 c = let z = c .before .before .before .before .refused .ensures in answered-refused (c .before .before .before .before .before .before .before .before .before .before .before .judge .ensures) (c .before .before .before .before .before .before .before .before .v .given .1) (z .0) (z .1 .0) (z .1 .1)
+returns-2 c =
+    let z = c .before .before .before .before .refused .ensures in
+    let met = c .before .before .before .before .before .before .before .before .v in
+    let j = c .before .before .before .before .before .before .before .before .before .before .before .judge in
+    answered-refused (j .ensures) (met .given .1) (z .0) (z .1 .0) (z .1 .1)
 
 pub list-spec : {M : Type 1} → statement M
 list-spec =

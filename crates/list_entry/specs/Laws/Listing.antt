@@ -18,33 +18,34 @@ use Rattle.list_entry.specs.declared.Listing.the-variants as answer
 use Rattle.refusals.specs.Laws.Items.{buffer-in, buffer-not}
 use Rattle.list_entry.specs.Refusal.{listVerdict}
 use Rattle.list_entry.specs.Answer.{verdictOf, countOf}
-use Rattle.list_entry.specs.Listing.{SetAfter, Answered, Judged}
+use Rattle.list_entry.specs.Listing.{SetAfter, ListAnswered}
+use Rattle.list_entry.specs.Inputs.{InputsJudged}
 use Rattle.list_entry.specs.Laws.Refusal.{Accepts, list-accepts}
 
 -- ---- the inputs are judged
 
 module _ {set work : ℕ} {site table masks : List ℕ} where
   module _ (zeros : masks ≡ noMasks) where
-    pub judged-set : set ≢ setBytes → Judged set work site table masks (Refused 1 0)
+    pub judged-set : set ≢ setBytes → InputsJudged set work site table masks (Refused 1 0)
     unfolding listVerdict FreeAfter
     judged-set h = record { verdict = rw (buffer-not h); masks-after = zeros }
 
-    pub judged-work : set ≡ setBytes → work ≢ workBytes → Judged set work site table masks (Refused 1 0)
+    pub judged-work : set ≡ setBytes → work ≢ workBytes → InputsJudged set work site table masks (Refused 1 0)
     unfolding listVerdict FreeAfter
     judged-work e h = record { verdict = rw (buffer-in e, buffer-not h); masks-after = zeros }
 
     pub judged-site : set ≡ setBytes → work ≡ workBytes → {item w : ℕ} → siteVerdict site ≡ Refused item w
-        → Judged set work site table masks (Refused item w)
+        → InputsJudged set work site table masks (Refused item w)
     unfolding listVerdict FreeAfter
     judged-site e f v = record { verdict = rw (buffer-in e, buffer-in f, v); masks-after = zeros }
 
   pub judged-table : set ≡ setBytes → work ≡ workBytes → siteVerdict site ≡ Accepted → {r : Verdict} → Checked table masks r
-      → Judged set work site table masks r
+      → InputsJudged set work site table masks r
   unfolding listVerdict
   judged-table e f v k = record { verdict = rw (buffer-in e, buffer-in f, v) (k .verdict); masks-after = k .masks }
 
   -- what is known of accepted ones
-  module _ {v : Verdict} (j : Judged set work site table masks v) (e : v ≡ Accepted) where
+  module _ {v : Verdict} (j : InputsJudged set work site table masks v) (e : v ≡ Accepted) where
     pub accepts : Accepts set work site table
     accepts = list-accepts set work site table (sym (j .verdict) ∙ e)
 
@@ -54,18 +55,17 @@ module _ {set work : ℕ} {site table masks : List ℕ} where
 
 -- ---- listing answers
 
-module _ {site table set set′ work work′ masks : List ℕ} {v : Verdict} (j : Judged (length set) (length work) site table masks v) where
+module _ {site table set set′ work work′ masks : List ℕ} {v : Verdict} (j : InputsJudged (length set) (length work) site table masks v) where
   pub answered-listed : v ≡ Accepted → {n : ℕ} → Listed (siteOf site) (formOf (tableOf table)) set′ n → work′ ≡ replicate workBytes 0
-      → Answered site table set set′ work work′ Accepted n
+      → ListAnswered site table set set′ work work′ Accepted n
   unfolding SetAfter
   answered-listed e l z =
       record {
         verdict = sym e ∙ j .verdict;
-        set-after = l;
-        work-zero = z ∙ ap (λ (k : ℕ). replicate k 0) (sym (accepts j e .work-size));
+        left = record { set-after = l; work-zero = z ∙ ap (λ (k : ℕ). replicate k 0) (sym (accepts j e .work-size)) };
       }
 
   pub answered-refused : {item w : ℕ} → v ≡ Refused item w → {r : Listing} → r ≡ answer.Refused item w → set′ ≡ replicate (length set) 0
-      → work′ ≡ replicate (length work) 0 → Answered site table set set′ work work′ (verdictOf r) (countOf r)
+      → work′ ≡ replicate (length work) 0 → ListAnswered site table set set′ work work′ (verdictOf r) (countOf r)
   unfolding SetAfter
-  answered-refused e f y z = rw f (record { verdict = sym e ∙ j .verdict; set-after = (y, refl); work-zero = z })
+  answered-refused e f y z = rw f (record { verdict = sym e ∙ j .verdict; left = record { set-after = (y, refl); work-zero = z } })

@@ -57,9 +57,11 @@ returns c =
     let a = start .args in
     let p = start .pre in
     let s = accepted-sound (a .table .now) (p .1 .0) in
-    let e = ev .last .1 .1 .1 in (
+    let e = ev .last .1 .1 .1 in
+    let stored = c .before .before .before .before .before .before .slice-known4 in (
       record {
         size = omega (arith, st .kept, p .1 .1 .1 .0);
+        bytes = λ k. omega (arith, stored .given k);
         listed = answer (a .site .now) (a .table .now) _ (e .0) (e .1 .0) (e .1 .1 .0) (st .last .0) (length (a .table .now) / 6 - 1) s refl (ev .ensures)
             (λ t h. whole (a .set .now) (st .last .0) (ld .result) (st .ensures) t h ∙ ld .ensures t h);
         counted = c .count .ensures;

@@ -4,7 +4,7 @@ use mathlib.Core.Logic.{_↔_, Iff·symm}
 use mathlib.Core.List.{List}
 use mathlib.Core.Bool.{true, false}
 use Prim.Native.Nat.{ℕ, _<_}
-use lib.ListN.{length, getD}
+use lib.ListN.{length}
 use Rattle.finite.specs.Tests.{count}
 use Rattle.finite.specs.Laws.Bools.{both}
 use Rattle.bitset.specs.Set.{setBytes, has}
@@ -19,7 +19,7 @@ use Rattle.semantics.specs.Laws.Demands.{rewritten-holds}
 use Rattle.listing.specs.Listed.{Listed}
 
 -- two sets A and B, as bytes
-module _ {A B : List ℕ} (ha : (k : ℕ) → getD A k 0 < 256) (hb : (k : ℕ) → getD B k 0 < 256) {m n : ℕ} where
+module _ {A B : List ℕ} {m n : ℕ} where
   -- the sets of conditions that hold at the same slots are the same bytes
   pub same-listed : {M N : Model} {φ ψ : Form} → Listed M φ A m → Listed N ψ B n
       → ((ρ : Env) (s : ℕ) → s < slots → Holds M ρ φ s ↔ Holds N ρ ψ s) → (A ≡ B) × (m ≡ n)
@@ -27,7 +27,7 @@ module _ {A B : List ℕ} (ha : (k : ℕ) → getD A k 0 < 256) (hb : (k : ℕ) 
   same-listed p q on =
       let none : Env = λ v x. false in
       let e : A ≡ B =
-      same-slots setBytes A B (p .size) (q .size) ha hb (λ s h. both
+      same-slots setBytes A B (p .size) (q .size) (p .bytes) (q .bytes) (λ s h. both
       (λ g. q .listed none s h .1 (on none s h .0 (p .listed none s h .0 g)))
       (λ g. p .listed none s h .1 (on none s h .1 (q .listed none s h .0 g))))
       in

@@ -26,7 +26,7 @@ use Rattle.sheet.specs.Refusal.{faulty, sized, sheetVerdict}
 use Rattle.applying.specs.Stuck.{stuckAt}
 use Rattle.applying.specs.Refusal.{goesVerdict}
 use Rattle.rewriting.specs.Refusal.{tooLong, lengthVerdict}
-use Rattle.refusals.specs.Refusal.{bufferVerdict}
+use Rattle.refusals.specs.Refusal.{lastItem, bufferVerdict}
 
 -- ---- item 1
 
@@ -52,17 +52,17 @@ pub then-out : (v w : Verdict) → v then w ≡ Accepted → (v ≡ Accepted) ×
 then-out Accepted w e = (refl, e)
 then-out (Refused n k) w e = refused e
 
--- ---- items have the numbers 1 to 14, so the reason 0 says that the inputs are accepted
+-- ---- items have the numbers 1 to `lastItem`, so the reason 0 says that the inputs are accepted
 
 pub record Numbered (v : Verdict) : Type 0 where
-  pub to-14 : reasonOf v ≤ 14
+  pub to-last : reasonOf v ≤ lastItem
   pub accepts : reasonOf v ≡ 0 → v ≡ Accepted
 
 pub numbered-accepted : Numbered Accepted
-numbered-accepted = record { to-14 = omega arith; accepts = λ e. refl }
+numbered-accepted = record { to-last = omega arith; accepts = λ e. refl }
 
-pub numbered-item : (b : Bool) (n w : ℕ) (v : Verdict) → 0 < n → n ≤ 14 → Numbered v → Numbered (cond b (Refused n w) v)
-numbered-item true n w v h g k = record { to-14 = g; accepts = λ e. absurd (omega arith) }
+pub numbered-item : (b : Bool) (n w : ℕ) (v : Verdict) → 0 < n → n ≤ lastItem → Numbered v → Numbered (cond b (Refused n w) v)
+numbered-item true n w v h g k = record { to-last = g; accepts = λ e. absurd (omega arith) }
 numbered-item false n w v h g k = k
 
 pub numbered-then : (v w : Verdict) → Numbered v → Numbered w → Numbered (v then w)

@@ -1,4 +1,4 @@
--- What rewriting knows of inputs that it does not refuse; the reasons are 0 to 14, and 0 says that it does not.
+-- What rewriting knows of inputs that it does not refuse; the reason 0 says that it does not.
 use mathlib.Core.Path.{_≡_}
 use mathlib.Core.Bool.{false}
 use mathlib.Core.List.{List}

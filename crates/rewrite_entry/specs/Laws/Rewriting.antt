@@ -25,8 +25,8 @@ use Rattle.rewriting.specs.Rewriting.{TableAfter, Rewrote}
 use Rattle.refusals.specs.Refusal.{bufferVerdict}
 use Rattle.refusals.specs.Laws.Items.{buffer-in, buffer-not, buffer-out, then-out}
 use Rattle.rewrite_entry.specs.Refusal.{rewriteVerdict}
-use Rattle.rewrite_entry.specs.Judged.{inputVerdict}
-use Rattle.rewrite_entry.specs.Rewriting.{Answered}
+use Rattle.rewrite_entry.specs.Inputs.{inputVerdict}
+use Rattle.rewrite_entry.specs.Rewriting.{RewriteAnswered}
 
 -- ---- the inputs are judged
 
@@ -75,13 +75,13 @@ input-then len table sheet =
 -- ---- rewriting answers
 
 module _ {table sheet result result′ : List ℕ} {v : Verdict} (j : v ≡ inputVerdict (length result) table sheet) where
-  -- none of the first items is met
-  pub answered-rewritten : v ≡ Accepted → {u : Verdict} {n : ℕ} → Rewrote table sheet result result′ u n → Answered table sheet result result′ u n
+  -- no item before 14 is met
+  pub answered-rewritten : v ≡ Accepted → {u : Verdict} {n : ℕ} → Rewrote table sheet result result′ u n → RewriteAnswered table sheet result result′ u n
   answered-rewritten e w =
-      record { verdict = rw (input-then (length result) table sheet, ← j, e) (w .verdict); table-after = w .table-after }
+      record { verdict = rw (input-then (length result) table sheet, ← j, e) (w .verdict); left = w .table-after }
 
-  -- one of them is met
+  -- an item before 14 is met
   pub answered-refused : {item w : ℕ} → v ≡ Refused item w → {r : Rewriting} → r ≡ entry.Refused item w
-      → result′ ≡ replicate (length result) 0 → Answered table sheet result result′ (verdictOf r) (nodesOf r)
+      → result′ ≡ replicate (length result) 0 → RewriteAnswered table sheet result result′ (verdictOf r) (nodesOf r)
   unfolding TableAfter
-  answered-refused e f z = rw f (record { verdict = rw (input-then (length result) table sheet, ← j, e); table-after = (refl, z) })
+  answered-refused e f z = rw f (record { verdict = rw (input-then (length result) table sheet, ← j, e); left = (refl, z) })

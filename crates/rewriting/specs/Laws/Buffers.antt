@@ -6,12 +6,12 @@ use native.Mathlib.Omega.{arith}
 use lib.ListN.{length, getD, take, drop, replicate, length-drop, take-append-drop, List·getD-append, drop-of-length-le}
 use lib.Seq.{length-take-le, take-at, take-length, getD-append-add, getD-drop}
 use Rattle.finite.specs.Tests.{all, below}
+use Rattle.finite.specs.Bytes.{Bytes}
 use Rattle.finite.specs.Laws.Bools.{either, look}
 use Rattle.finite.specs.Laws.Below.{below-out, not-below}
 use Rattle.semantics.specs.Table.{Node}
 use Rattle.condition.specs.Bytes.{nodeAt, nodes, tableOf, bytesOf}
 use Rattle.condition.specs.Laws.Bytes.{length-nodes, length-bytes, nodes-more, read-back, write-back}
-use Rattle.rewriting.specs.State.{Bytes}
 
 -- zeros from byte n on: the part that was lent has come back as zeros
 pub cleared : (b ys : List ℕ) (n : ℕ) → n ≤ length b → ys ≡ replicate (length (take (length b - n) (drop n b))) 0

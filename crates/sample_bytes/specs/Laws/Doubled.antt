@@ -80,7 +80,7 @@ module _ (k : ℕ) (few : k ≤ 64) (call : RewriteCall (condition.bytesOf table
       let p : 2 ^ k ≤ 2 ^ 8 = pow-mono h in
       let v : rewriteVerdict (length (call .result)) (condition.bytesOf tableR) (cuts k) ≡ Accepted =
       rw (verdict-is, long-is k, below-not tableNodes (5 + 8 * (2 ^ k - 1)) (omega arith)) in
-      let t = rw v at (call .returned .table-after) in
+      let t = rw v at (call .returned .left) in
       (call .returned .reason-is ∙ ap reasonOf v, t .0 ∙ rw (edits-back (edits k), table-back tableR) (nodes-are k))
 
   long : 9 ≤ k → NotRewritten call 14 0

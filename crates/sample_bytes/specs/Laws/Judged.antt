@@ -7,15 +7,16 @@ use native.Mathlib.Omega.{arith}
 use lib.ListN.{length, getD, take}
 use Rattle.finite.specs.Tests.{below, first}
 use Rattle.finite.specs.Laws.Bools.{and-l, and-r}
-use Rattle.finite.specs.Laws.Below.{below-in, below-not}
+use Rattle.finite.specs.Laws.Below.{below-in}
 use Rattle.verdict.specs.declared.Verdict.the-variants.{Accepted, Refused}
 use Rattle.semantics.specs.Holds.{Model}
 use Rattle.semantics.specs.Table.{Node, treeAt, formOf, nodesFit, evenTable}
 use Rattle.semantics.specs.Form.{even, closed}
+use Rattle.semantics.specs.Block.{rewriteSheet}
 use Rattle.semantics.specs.Edit as edits
 use Rattle.semantics.specs.Edit.{Edit, DS, edit, goes, sheetGoes, Valid}
 use Rattle.samples.specs.Rows.{Slots, Row}
-use Rattle.samples.specs.Said.{before, rewritten, Sound, Lists, Stuck, Odd}
+use Rattle.samples.specs.Said.{before, Sound, Lists, Stuck, Odd}
 use Rattle.site.specs.Site.{siteOf}
 use Rattle.site.specs.Refusal.{siteVerdict}
 use Rattle.site.specs.Laws.Valid.{site-valid}
@@ -32,8 +33,6 @@ use Rattle.sheet.specs.Laws.Accepted.{sheet-accepted}
 use Rattle.applying.specs.Stuck.{stuckAt}
 use Rattle.applying.specs.Refusal.{goesVerdict}
 use Rattle.limits.specs.Limits.{tableNodes}
-use Rattle.rewriting.specs.Refusal.{tooLong}
-use Rattle.rewriting.specs.Laws.Grow.{too-long-end}
 use Rattle.sample_bytes.specs.Said.{siteIn, tableIn, sheetIn}
 use Rattle.sample_bytes.specs.Laws.Write as write
 use Rattle.sample_bytes.specs.Laws.Rows.{Fits}
@@ -101,10 +100,8 @@ module _ (r : Row) (o : Sound r) (f : Fits r) where
     pub goes-ok : sheetGoes (editsOf (sheetIn r)) (siteOf (siteIn r)) ≡ true
     goes-ok = rw (sheet-read, site-read) (l .goes-through)
 
-    pub short-ok : k ≤ tableNodes → tooLong (editsOf (sheetIn r)) (tableOf (tableIn r)) ≡ false
-    short-ok h =
-        rw (sheet-read, table-read)
-        (too-long-end (r .edits) (r .table) (f .few-nodes) ∙ below-not tableNodes (length (rewritten r)) (omega (arith, l .node-count)))
+    pub fits-ok : k ≤ tableNodes → length (rewriteSheet (editsOf (sheetIn r)) (tableOf (tableIn r))) ≤ tableNodes
+    fits-ok h = rw (sheet-read, table-read) (omega (arith, l .node-count))
 
   pub goes-stuck : {w : ℕ} → Stuck r w → goesVerdict (editsOf (sheetIn r)) (siteOf (siteIn r)) ≡ Refused 13 w
   goes-stuck {w} s = rw (sheet-read, site-read) (stuck-refused (r .edits) (before r) w (s .inside) (s .others-go) (s .stuck))

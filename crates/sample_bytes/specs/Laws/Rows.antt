@@ -5,6 +5,7 @@ use mathlib.Core.Bool.{Bool, true, _&&_}
 use Prim.Native.Nat.{ℕ, zero, suc, _≤_}
 use native.Mathlib.Omega.{arith}
 use lib.ListN.{length}
+use Rattle.finite.specs.Bytes.{Bytes}
 use Rattle.finite.specs.Tests.{same, below}
 use Rattle.finite.specs.Laws.Bools.{either, look, and-l, and-r}
 use Rattle.finite.specs.Laws.Below.{same-eq, below-out}
@@ -14,7 +15,7 @@ use Rattle.samples.specs.Rows.{Expected, lists, stuckAt, oddAt, Row, tableR, ta
 use Rattle.samples.specs.Laws.Site.{some-each}
 use Rattle.condition.specs.Bytes as condition
 use Rattle.sheet.specs.Bytes as sheet
-use Rattle.sample_bytes.specs.Said.{tableIn, sheetIn, AreBytes}
+use Rattle.sample_bytes.specs.Said.{tableIn, sheetIn}
 use Rattle.sample_bytes.specs.Laws.Write.{InRange}
 
 -- ---- the tests
@@ -68,7 +69,7 @@ range-out a ok =
           below-out m links (subst (λ q. below q links ≡ true) (sym (same-eq (and-l _ _ (r .1)))) (r .2));
     }
 
-pub bytes-out : (xs : List ℕ) → bytes xs ≡ true → AreBytes xs
+pub bytes-out : (xs : List ℕ) → bytes xs ≡ true → Bytes xs
 unfolding bytes each
 bytes-out [] p i = omega arith
 bytes-out (x ∷ xs) p zero = below-out x 256 (and-l _ _ p)
@@ -76,8 +77,8 @@ bytes-out (x ∷ xs) p (suc i) = bytes-out xs (and-r (below x 256) _ p) i
 
 pub record Fits (r : Row) : Type 0 where
   pub range : InRange (model (r .site))
-  pub table-bytes : AreBytes (tableIn r)
-  pub sheet-bytes : AreBytes (sheetIn r)
+  pub table-bytes : Bytes (tableIn r)
+  pub sheet-bytes : Bytes (sheetIn r)
   pub few-nodes : length (r .table) ≤ tableNodes
   pub few-edits : length (r .edits) ≤ 64
   pub as-expected : expectedFits (r .expected) ≡ true

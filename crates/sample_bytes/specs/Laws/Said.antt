@@ -33,12 +33,12 @@ use Rattle.rewriting.specs.Rewriting.{TableAfter}
 use Rattle.rewrite_entry.specs.Laws.Refusal.{rewrite-reason}
 use Rattle.demands.specs.Demands.{Runnable, ApplyCall, RewriteCall, ListCall, rewrittenTable, Demand2}
 use Rattle.demands.specs.Laws.Demands.{demand-2}
-use Rattle.sample_bytes.specs.Said.{siteIn, tableIn, sheetIn, Lists, Answers, Written, Returns, AllReturned}
+use Rattle.sample_bytes.specs.Said.{siteIn, tableIn, sheetIn, Lists, Answers, SampleWritten, Returns, AllReturned}
 use Rattle.sample_bytes.specs.Refused.{NotApplied, NotRewritten, NotListed}
 use Rattle.sample_bytes.specs.Laws.Write.{bytes-lt}
 use Rattle.sample_bytes.specs.Laws.Refused.{not-applied, not-rewritten, not-listed}
 use Rattle.sample_bytes.specs.Laws.Rows.{expectedFits, rowFits, Fits, fits-out, rows-fit}
-use Rattle.sample_bytes.specs.Laws.Judged.{site-read, site-ok, sheet-read, sheet-ok, table-read, table-ok, goes-ok, short-ok, goes-stuck, table-refused}
+use Rattle.sample_bytes.specs.Laws.Judged.{site-read, site-ok, sheet-read, sheet-ok, table-read, table-ok, goes-ok, fits-ok, goes-stuck, table-refused}
 
 -- ---- a set that is listed
 
@@ -75,7 +75,7 @@ module _ (r : Row) (o : Sound r) (f : Fits r) where
         record {
           going = record { site-accepted = site-ok r o f; sheet-accepted = sheet-ok r o f; goes-through = goes-ok r o f l };
           table-accepted = table-ok r o f l;
-          table-fits = short-ok r o f l few;
+          table-fits = fits-ok r o f l few;
         }
 
     valid-after : Valid (after r)
@@ -85,7 +85,7 @@ module _ (r : Row) (o : Sound r) (f : Fits r) where
     unfolding TableAfter
     nodes-are w e =
         let v = rewrite-reason (length (w .result)) (tableIn r) (sheetIn r) (sym (w .returned .reason-is) ∙ e) in
-        let t = rw v at (w .returned .table-after) in
+        let t = rw v at (w .returned .left) in
         t .0 ∙ rw (sheet-read r o f, table-read r o f) (l .node-count)
 
     answers : (applied : ApplyCall (siteIn r) (sheetIn r)) (rewrote : RewriteCall (tableIn r) (sheetIn r))
@@ -94,9 +94,9 @@ module _ (r : Row) (o : Sound r) (f : Fits r) where
     unfolding Demand2
     answers a w t u =
         let d = demand-2 (siteIn r) (tableIn r) (sheetIn r) runnable a w t u in
-        let left : siteOf (a .result′) ≡ after r = rw (sheet-read r o f, site-read r o f) at (d .effects) in
-        let today = rw (d .blocks, sheet-read r o f, table-read r o f, site-read r o f) at (d .today-listed) in
-        let later = rw (left, table-read r o f) at (d .after-listed) in
+        let left : siteOf (a .result′) ≡ after r = rw (sheet-read r o f, site-read r o f) at (d .agree .effects) in
+        let today = rw (d .agree .blocks, sheet-read r o f, table-read r o f, site-read r o f) at (d .agree .today-listed) in
+        let later = rw (left, table-read r o f) at (d .agree .after-listed) in
         record {
           applies = d .applies;
           site-after = left;
@@ -128,7 +128,7 @@ module _ (r : Row) (o : Sound r) (f : Fits r) where
   returns (stuckAt w) e s = stuck w s
   returns (oddAt w) e d = (unlisted w d, unwritten w d)
 
-  row-returns : Says r (r .expected) → Written r × Returns r (r .expected)
+  row-returns : Says r (r .expected) → SampleWritten r × Returns r (r .expected)
   row-returns s = (
     record {
       site-bytes = bytes-lt (before r) (o .valid);

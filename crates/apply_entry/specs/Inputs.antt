@@ -1,4 +1,4 @@
--- The items that are tested before the sheet is tried on the site.
+-- The items that are tested before the sheet is tried on the site, for the inner check of the inputs.
 use mathlib.Core.List.{List}
 use Prim.Native.Nat.{ℕ}
 use Rattle.verdict.specs.Verdict.{_then_}
@@ -9,5 +9,5 @@ use Rattle.sheet.specs.Refusal.{sheetVerdict}
 use Rattle.refusals.specs.Refusal.{bufferVerdict}
 
 -- 1, then 3 to 6, then 11 and 12
-unfoldable pub judged : (resultLen : ℕ) (site sheet : List ℕ) → Verdict
-judged resultLen site sheet = bufferVerdict resultLen siteBytes then siteVerdict site then sheetVerdict sheet
+unfoldable pub inputVerdict : (resultLen : ℕ) (site sheet : List ℕ) → Verdict
+inputVerdict resultLen site sheet = bufferVerdict resultLen siteBytes then siteVerdict site then sheetVerdict sheet
