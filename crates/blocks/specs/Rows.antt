@@ -1,4 +1,4 @@
--- The rows of blocks. A row is a block with places for numbers: the old node's parameter w; the edit's numbers a and b; v, the reverse of the
+-- The rows of blocks. A row is a block with gaps for numbers: the old node's parameter w; the edit's numbers a and b; v, the reverse of the
 -- way b; e, the way that leads everywhere; and the images T and U of the old node's children.
 use mathlib.Core.List.{List, [], _∷_, map}
 use mathlib.Core.Bool.{cond}

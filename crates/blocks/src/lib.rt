@@ -1,5 +1,5 @@
-// Blocks as rows: a node's block is spelled first, as a row of a table and the numbers that the row refers to, and then written. Document 01,
-// "Rewriting".
+// Blocks as rows: a node's block is spelled first, as a row of a table and the numbers that the row refers to, and then written.
+// docs/SPEC.md, "Rewriting".
 use buffer::wide;
 use limits::BOX;
 use limits::DIA;
@@ -90,7 +90,7 @@ fn on_way(w: u8, m: u8, x: u8, y: u8, z: u8) -> u8
     z
 }
 
-// The row of a node of this kind and parameter: of an edit that changes the leaf k with parameter n,
+// The row of a node of this kind and parameter, where an edit changes the leaf k with parameter n.
 fn leaf_row(kind: u8, param: u8, k: u8, n: u8, row: u8) -> u8
     ensures { λ r. ⌜ r ≡ leafRow kind param k n row ⌝ }
 {
@@ -100,7 +100,7 @@ fn leaf_row(kind: u8, param: u8, k: u8, n: u8, row: u8) -> u8
     kind
 }
 
-// of an edit that changes way m,
+// The row of a node of this kind and parameter, where an edit changes way m.
 fn way_row(kind: u8, param: u8, m: u8, first: u8) -> u8
     requires { ⌜ first < 240 ⌝ }
     ensures { λ r. ⌜ r ≡ wayRow kind param m first ⌝ }
@@ -114,7 +114,7 @@ fn way_row(kind: u8, param: u8, m: u8, first: u8) -> u8
     kind
 }
 
-// of AS,
+// The row of a node of this kind and parameter for AS.
 fn as_row(kind: u8, param: u8, n: u8) -> u8
     ensures { λ r. ⌜ r ≡ asRow kind param n ⌝ }
 {
@@ -124,7 +124,7 @@ fn as_row(kind: u8, param: u8, n: u8) -> u8
     leaf_row(kind, param, NAME, n, AS_NAME)
 }
 
-// and of DS.
+// The row of a node of this kind and parameter for DS.
 fn ds_row(kind: u8, param: u8) -> u8
     ensures { λ r. ⌜ r ≡ dsRow kind param ⌝ }
 {
@@ -331,7 +331,7 @@ fn high(x: usize) -> u8
     (x / 256) as u8
 }
 
-// Writes one node at place i, where there is room for it.
+// Writes one node at number i, where there is room for it.
 pub fn put_node(out: &mut [u8], i: usize, kind: u8, param: u8, left: usize, right: usize)
     requires { ⌜ (i < 65536) × (left < 65536) × (right < 65536) ⌝ }
     ensures { λ _. ⌜ now (out .exit) ≡ put (now (out .entry)) i (record { kind = kind; param = param; left = left; right = right }) ⌝ }
@@ -378,7 +378,7 @@ fn within(kind: u8, lo: u8, hi: u8, x: usize) -> usize
     0
 }
 
-// Writes a copy of a node at place i.
+// Writes a copy of a node at number i.
 fn write_copy(out: &mut [u8], i: usize, kind: u8, param: u8, t: usize, u: usize)
     requires { ⌜ (kind < copyCount) × (i < 65536) × (t < 65536) × (u < 65536) ⌝ }
     ensures { λ _. ⌜ now (out .exit) ≡ put (now (out .entry)) i (copyOf kind param t u) ⌝ }
@@ -411,7 +411,7 @@ fn child(c: usize, at: usize, t: usize) -> usize
     t
 }
 
-// Writes the node of group g at place i, where the block begins at number at.
+// Writes the node of group g at number i, where the block begins at number at.
 fn put_group(out: &mut [u8], i: usize, g: usize, ps: [u8; 8], at: usize, t: usize)
     requires { ⌜ (i < 65536) × (g < 65536) × (at < 60000) × (t < 60000) ⌝ }
     ensures { λ _. ⌜ now (out .exit) ≡ put (now (out .entry)) i (decode ps at t (nodeOf g)) ⌝ }

@@ -1,4 +1,4 @@
-// A table of nodes rewritten through a sheet of edits, the last one first. Document 01, "Rewriting", and item 14.
+// A table of nodes rewritten through a sheet of edits, the last one first. docs/SPEC.md, "Rewriting", and item 14 of "Reasons".
 use buffer::copy;
 use limits::NODE_BYTES;
 use limits::TABLE_BYTES;
@@ -48,7 +48,7 @@ fn passes(
         let next = done + 1;
         let last = edits - next;
         let e = sheet::edit_at(sheet, last);
-        let made = placing::rewrite(table, count, e, images, rows, spare);
+        let made = emitting::rewrite(table, count, e, images, rows, spare);
         if TABLE_NODES < made {
             return made;
         }

@@ -19,7 +19,8 @@ zero-requires c κs = tt
 
 same-length : tie.Need-same-length
 same-length c =
-    let p = c .before .before .before .before .before in let s = p .before .before .before .before .before .before .before .before .before .before in
+    let p = c .before .before .before .before .before in let k = p .before .before .before .before .before in
+    let s = k .before .before .before .before .before in
     omega (arith, c .before .before .zero .kept)
 
 returns : tie.Need-returns

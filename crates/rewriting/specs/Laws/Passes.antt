@@ -19,7 +19,7 @@ use Rattle.condition.specs.Laws.Bytes.{length-nodes}
 use Rattle.sheet.specs.Bytes.{editAt, editsOf}
 use Rattle.sheet.specs.Laws.Read.{edits-length, edits-at, edits-drop}
 use Rattle.limits.specs.Limits.{tableNodes, tableBytes}
-use Rattle.blocks.specs.Write.{Written}
+use Rattle.blocks.specs.Write.{TableWritten}
 use Rattle.rewriting.specs.Refusal.{tooLong, lengthVerdict}
 use Rattle.rewriting.specs.Rewriting.{rewritten, TableAfter, Rewrote}
 use Rattle.rewriting.specs.State.{Passed}
@@ -83,9 +83,9 @@ module _ {sheet : List ℕ} {xs : List Node} {o : List ℕ} {count j k : ℕ} {e
   next-long = rw (edits-drop sheet k in-sheet) (rw (rw d at (P .short)) refl)
 
   pub passing-more : (spare : List ℕ) {made : ℕ} {o′ : List ℕ} → made ≡ length (rewriteTable e (nodes o count))
-      → Written spare (rewriteTable e (nodes o count)) → made ≤ tableNodes → length spare ≡ tableBytes
+      → TableWritten spare (rewriteTable e (nodes o count)) → made ≤ tableNodes → length spare ≡ tableBytes
       → o′ ≡ take (6 * made) spare ++ drop (6 * made) o → Passing sheet xs o′ made k
-  unfolding Written
+  unfolding TableWritten
   passing-more spare {made} {o′} em w f l eo =
       let n : made ≡ length (rewriteSheet (drop k (editsOf sheet)) xs) = em ∙ ap length next-table in
       let b : take (6 * made) spare ≡ bytesOf (rewriteSheet (drop k (editsOf sheet)) xs) =

@@ -1,0 +1,146 @@
+-- `emit_children` and `emit_under`, a cycle of calls. The measure: twice the node's number, 1 more for `emit_under`.
+use Prim.Native.Nat.{ℕ, _+_, _*_, _<_}
+use native.Mathlib.Omega.{arith}
+use Rattle.emitting.specs.Laws.Emitted.{emitting-none, emitting-then, emittable-then, emittable-low, children}
+use borrow.Fn.Kinds.{In}
+use borrow.Fn.PlainCycle.{Measures, is, falls, and}
+use Rattle.emitting.proofs.emit_children.Reads as emit-children
+use Rattle.emitting.proofs.emit_children.Kinds as emit-children-kinds
+use Rattle.emitting.proofs.+emit_children+emit_under.Lts-emit_children as emit-children-lts
+use Rattle.emitting.proofs.emit_under.Reads as emit-under
+use Rattle.emitting.proofs.emit_under.Kinds as emit-under-kinds
+use Rattle.emitting.proofs.+emit_children+emit_under.Lts-emit_under as emit-under-lts
+use Rattle.emitting.proofs.higher.Reads as higher-reads
+use Rattle.emitting.proofs.left_of.Reads as left-of-reads
+use Rattle.emitting.proofs.lower.Reads as lower-reads
+use Rattle.emitting.proofs.emit_two.Reads as emit-two-reads
+use Rattle.emitting.proofs.right_of.Reads as right-of-reads
+use Rattle.emitting.proofs.+emit_children+emit_under.{statement}
+use Rattle.emitting.proofs.+emit_children+emit_under.Tie.{close}
+
+abbrev μ-emit-children : Measures 4 emit-children-kinds.ps ℕ
+μ-emit-children κs a = 2 * a .1 .1 .1 .1 .1 .1 .1 .0
+
+abbrev μ-emit-under : Measures 4 emit-under-kinds.ps ℕ
+μ-emit-under κs a = 2 * a .1 .1 .1 .1 .1 .1 .1 .0 + 1
+
+abbrev emit-children-at : ℕ → In 4 emit-children-kinds.ps
+emit-children-at t =
+    and
+    4
+    emit-children-kinds.ps
+    (is 4 emit-children-kinds.ps μ-emit-children t)
+    emit-children.Pre
+
+abbrev emit-children-below : ℕ → In 4 emit-children-kinds.ps
+emit-children-below t =
+    and
+    4
+    emit-children-kinds.ps
+    (falls 4 emit-children-kinds.ps _<_ μ-emit-children t)
+    emit-children.Pre
+
+abbrev emit-under-at : ℕ → In 4 emit-under-kinds.ps
+emit-under-at t =
+    and 4 emit-under-kinds.ps (is 4 emit-under-kinds.ps μ-emit-under t) emit-under.Pre
+
+abbrev emit-under-below : ℕ → In 4 emit-under-kinds.ps
+emit-under-below t =
+    and 4 emit-under-kinds.ps (falls 4 emit-under-kinds.ps _<_ μ-emit-under t) emit-under.Pre
+
+abbrev emit-children-calls : ℕ → emit-children-lts.Claims
+emit-children-calls t = (lower-reads.Asked, lower-reads.Learnt, higher-reads.Asked, higher-reads.Learnt, emit-two-reads.Asked, emit-two-reads.Learnt, emit-under-below t, emit-under.Post)
+
+emit-children-lower-requires : (t : ℕ) → emit-children-lts.Need-lower-requires (emit-children-calls t) (emit-children-at t) emit-children.Post
+emit-children-lower-requires t c κs = tt
+
+emit-children-higher-requires : (t : ℕ) → emit-children-lts.Need-higher-requires (emit-children-calls t) (emit-children-at t) emit-children.Post
+emit-children-higher-requires t c κs = tt
+
+emit-children-emit-two-requires : (t : ℕ) → emit-children-lts.Need-emit-two-requires (emit-children-calls t) (emit-children-at t) emit-children.Post
+emit-children-emit-two-requires t c κs = c .before .before .before .before .pre .1
+
+emit-children-returns : (t : ℕ) → emit-children-lts.Need-returns (emit-children-calls t) (emit-children-at t) emit-children.Post
+emit-children-returns t c =
+    let w = c .before in let h = w .before .before .before in
+    children (h .before .lower .ensures) (h .higher .ensures) (w .emit-two .ensures .0) emitting-none
+
+emit-children-emit-under-requires : (t : ℕ) → emit-children-lts.Need-emit-under-requires (emit-children-calls t) (emit-children-at t) emit-children.Post
+emit-children-emit-under-requires t c κs =
+    let w = c .before .before .before .before in let s = w .before .before .before .before .before in
+    let b = w .emit-two .ensures .1 .1 (omega arith) in
+    (omega (arith, s .pre .0), (emittable-low (emittable-then (s .pre .1) (w .emit-two .ensures .0 .0)) _ (omega arith), omega (arith, s .pre .1 .numbered .most)))
+
+emit-children-returns-2 : (t : ℕ) → emit-children-lts.Need-returns-2 (emit-children-calls t) (emit-children-at t) emit-children.Post
+emit-children-returns-2 t c =
+    let w = c .before .before .before .before .before in let h = w .before .before .before in
+    children (h .before .lower .ensures) (h .higher .ensures) (w .emit-two .ensures .0) (c .emit-under .ensures)
+
+emit-children-emit-under-requires-2 : (t : ℕ) → emit-children-lts.Need-emit-under-requires-2 (emit-children-calls t) (emit-children-at t) emit-children.Post
+emit-children-emit-under-requires-2 t c κs =
+    let w = c .before .before .before .before .before in let s = w .before .before .before .before .before in
+    let b = w .emit-two .ensures .1 .0 (omega arith) in
+    (omega (arith, s .pre .0), (emittable-low (emittable-then (s .pre .1) (w .emit-two .ensures .0 .0)) _ (omega arith), omega (arith, s .pre .1 .numbered .most)))
+
+emit-children-returns-3 : (t : ℕ) → emit-children-lts.Need-returns-3 (emit-children-calls t) (emit-children-at t) emit-children.Post
+emit-children-returns-3 t c =
+    let w = c .before .before .before .before .before .before in let h = w .before .before .before in
+    children (h .before .lower .ensures) (h .higher .ensures) (w .emit-two .ensures .0) (c .emit-under2 .ensures)
+
+emit-children-emit-under-requires-3 : (t : ℕ) → emit-children-lts.Need-emit-under-requires-3 (emit-children-calls t) (emit-children-at t) emit-children.Post
+emit-children-emit-under-requires-3 t c κs =
+    let w = c .before .before .before .before .before in let s = w .before .before .before .before .before in
+    let b = w .emit-two .ensures .1 .2 (omega arith) in
+    (omega (arith, s .pre .0), (emittable-low (emittable-then (s .pre .1) (w .emit-two .ensures .0 .0)) _ (omega arith), omega (arith, s .pre .1 .numbered .most)))
+
+emit-children-emit-under-requires-4 : (t : ℕ) → emit-children-lts.Need-emit-under-requires-4 (emit-children-calls t) (emit-children-at t) emit-children.Post
+emit-children-emit-under-requires-4 t c κs =
+    let u = c .before .before in let w = u .before .before .before .before .before .before in
+    let s = w .before .before .before .before .before in
+    let b = w .emit-two .ensures .1 .0 (omega arith) in
+    (omega (arith, s .pre .0), (emittable-low (emittable-then (s .pre .1) (emitting-then (w .emit-two .ensures .0 .0) (u .emit-under3 .ensures))) _ (omega arith), omega (arith, s .pre .1 .numbered .most)))
+
+emit-children-returns-4 : (t : ℕ) → emit-children-lts.Need-returns-4 (emit-children-calls t) (emit-children-at t) emit-children.Post
+emit-children-returns-4 t c =
+    let u = c .before .before .before in let w = u .before .before .before .before .before .before in
+    let h = w .before .before .before in
+    children (h .before .lower .ensures) (h .higher .ensures) (w .emit-two .ensures .0) (emitting-then (u .emit-under3 .ensures) (c .emit-under4 .ensures))
+
+abbrev emit-under-calls : ℕ → emit-under-lts.Claims
+emit-under-calls t = (left-of-reads.Asked, left-of-reads.Learnt, right-of-reads.Asked, right-of-reads.Learnt, emit-children-below t, emit-children.Post)
+
+emit-under-left-of-requires : (t : ℕ) → emit-under-lts.Need-left-of-requires (emit-under-calls t) (emit-under-at t) emit-under.Post
+emit-under-left-of-requires t c κs = (c .pre .1 .0 .whole, c .pre .1 .1)
+
+emit-under-right-of-requires : (t : ℕ) → emit-under-lts.Need-right-of-requires (emit-under-calls t) (emit-under-at t) emit-under.Post
+emit-under-right-of-requires t c κs = (c .before .pre .1 .0 .whole, c .before .pre .1 .1)
+
+emit-under-emit-children-requires : (t : ℕ) → emit-under-lts.Need-emit-children-requires (emit-under-calls t) (emit-under-at t) emit-under.Post
+emit-under-emit-children-requires t c κs = let s = c .before .before .before .before in (omega (arith, s .pre .0), s .pre .1 .0)
+
+emit-under-returns : (t : ℕ) → emit-under-lts.Need-returns (emit-under-calls t) (emit-under-at t) emit-under.Post
+emit-under-returns t c = c .emit-children .ensures .0
+
+pub +emit-children+emit-under-spec : {M : Type 1} → statement M
++emit-children+emit-under-spec =
+    close μ-emit-children μ-emit-under (λ t. emit-children-lts.spec (emit-children-calls t)
+    (emit-children-at t)
+    emit-children.Post
+    (emit-children-lower-requires t)
+    (emit-children-higher-requires t)
+    (emit-children-emit-two-requires t)
+    (emit-children-returns t)
+    (emit-children-emit-under-requires t)
+    (emit-children-returns-2 t)
+    (emit-children-emit-under-requires-2 t)
+    (emit-children-returns-3 t)
+    (emit-children-emit-under-requires-3 t)
+    (emit-children-emit-under-requires-4 t)
+    (emit-children-returns-4 t))
+    λ t. emit-under-lts.spec (emit-under-calls t)
+    (emit-under-at t)
+    emit-under.Post
+    (emit-under-left-of-requires t)
+    (emit-under-right-of-requires t)
+    (emit-under-emit-children-requires t)
+    (emit-under-returns t)

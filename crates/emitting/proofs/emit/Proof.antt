@@ -1,0 +1,137 @@
+-- A node that is not emitted has its block written: a copy at once, another by its row.
+use native.Mathlib.Omega.{arith}
+use mathlib.Core.Path.{refl}
+use Rattle.emitting.specs.Laws.Numbered.{numbered-low, image-small}
+use Rattle.emitting.specs.Laws.Emitted.{emitting-none, row-known, room-before, emitted, emitted-leaf, emitted-one, emitted-two}
+use Rattle.emitting.proofs.emit.Statement.{statement}
+use Rattle.emitting.proofs.emit.Tie as tie
+
+element-copy-out-row : tie.Need-element-copy-out-row
+element-copy-out-row c = omega (arith, c .pre .numbered .most)
+
+returns : tie.Need-returns
+returns c = (emitting-none, c .if1 .taken)
+
+element-write-rows : tie.Need-element-write-rows
+element-write-rows c = omega (arith, c .before .before .pre .numbered .most)
+
+param-requires : tie.Need-param-requires
+param-requires c κs = let s = c .before .before .before in omega (arith, s .pre .whole, s .pre .numbered .most)
+
+mul-widen : tie.Need-mul-widen
+mul-widen c = omega (arith, c .before .before .before .before .pre .numbered .most)
+
+element-copy-out-widen : tie.Need-element-copy-out-widen
+element-copy-out-widen c = omega (arith, c .before .before .before .before .pre .numbered .most)
+
+widen-requires : tie.Need-widen-requires
+widen-requires c κs = tt
+
+put-node-requires : tie.Need-put-node-requires
+put-node-requires c κs = omega (arith, c .before .before .widen .ensures .1)
+
+returns-2 : tie.Need-returns-2
+returns-2 c =
+    let w = c .before .before .before in let p = w .before .before in let q = p .before .before in let s = q .before .before in
+    emitted-leaf (s .args .c) (s .pre) refl (q .if1 .left) (p .param .ensures) (w .widen .ensures .0) refl (c .before .before .if2 .taken) (c .put-node .ensures)
+
+left-of-requires : tie.Need-left-of-requires
+left-of-requires c κs = let s = c .before .before .before .before .before .before .before in (s .pre .whole, omega (arith, s .pre .numbered .most))
+
+image-requires : tie.Need-image-requires
+image-requires c κs = omega (arith, c .before .before .before .before .before .before .before .before .pre .numbered .most)
+
+waits-requires : tie.Need-waits-requires
+waits-requires c κs = let w = c .before .before .before .before in let s = w .before .before .before .before .before .before in omega (arith, s .pre .numbered .most)
+
+one-child-requires : tie.Need-one-child-requires
+one-child-requires c κs = tt
+
+put-node-requires-2 : tie.Need-put-node-requires-2
+put-node-requires-2 c κs =
+    let i = c .before .before .before .before .before in let w = i .before .before .before in let s = w .before .before .before .before .before .before in
+    omega (arith, w .widen .ensures .1, image-small (numbered-low (s .pre .numbered) (s .args .c) (omega arith)) _ (i .image .ensures))
+
+returns-3 : tie.Need-returns-3
+returns-3 c =
+    let o = c .before .before .before in let i = o .before .before .before in let w = i .before .before .before in let p = w .before .before in let q = p .before .before in let s = q .before .before in
+    emitted-one (s .args .c) (s .pre) refl (q .if1 .left) (p .param .ensures) (w .widen .ensures .0) refl (o .one-child .ensures (c .before .before .if3 .taken)) (i .before .left-of .ensures) (i .image .ensures) (c .put-node2 .ensures)
+
+right-of-requires : tie.Need-right-of-requires
+right-of-requires c κs = let w = c .before .before .before .before .before .before .before in let s = w .before .before .before .before .before .before in (s .pre .whole, omega (arith, s .pre .numbered .most))
+
+image-requires-2 : tie.Need-image-requires-2
+image-requires-2 c κs = let w = c .before .before .before .before .before .before .before .before in let s = w .before .before .before .before .before .before in omega (arith, s .pre .numbered .most)
+
+waits-requires-2 : tie.Need-waits-requires-2
+waits-requires-2 c κs = let r = c .before .before in let w = r .before .before .before .before .before .before .before .before in let s = w .before .before .before .before .before .before in omega (arith, s .pre .numbered .most)
+
+two-children-requires : tie.Need-two-children-requires
+two-children-requires c κs = tt
+
+put-node-requires-3 : tie.Need-put-node-requires-3
+put-node-requires-3 c κs =
+    let j = c .before .before .before .before .before in let i = j .before .before .before .before .before .before in let w = i .before .before .before in let s = w .before .before .before .before .before .before in
+    let m = numbered-low (s .pre .numbered) (s .args .c) (omega arith) in
+    omega (arith, w .widen .ensures .1, image-small m _ (i .image .ensures), image-small m _ (j .image2 .ensures))
+
+returns-4 : tie.Need-returns-4
+returns-4 c =
+    let o = c .before .before .before in let j = o .before .before .before in let i = j .before .before .before .before .before .before in let w = i .before .before .before in let p = w .before .before in let q = p .before .before in let s = q .before .before in
+    emitted-two (s .args .c) (s .pre) refl (q .if1 .left) (p .param .ensures) (w .widen .ensures .0) refl (o .two-children .ensures (c .before .before .if4 .taken)) (i .before .left-of .ensures) (i .image .ensures) (j .before .right-of .ensures) (j .image2 .ensures) (c .put-node3 .ensures)
+
+add-write : tie.Need-add-write
+add-write c = let j = c .before .before .before .before .before in let i = j .before .before .before .before .before .before in let w = i .before .before .before in omega (arith, w .widen .ensures .1)
+
+size-requires : tie.Need-size-requires
+size-requires c κs =
+    let j = c .before .before .before .before .before in let i = j .before .before .before .before .before .before in let w = i .before .before .before in let p = w .before .before in let q = p .before .before in let s = q .before .before in
+    row-known _ (s .pre) refl (q .if1 .left) (p .param .ensures)
+
+sub-write : tie.Need-sub-write
+sub-write c =
+    let j = c .before .before .before .before .before .before in let i = j .before .before .before .before .before .before in let w = i .before .before .before in let p = w .before .before in let q = p .before .before in let s = q .before .before in
+    omega (arith, room-before (s .args .c) (s .pre) refl (q .if1 .left) (p .param .ensures) (i .before .left-of .ensures) (j .before .right-of .ensures) (i .image .ensures) (j .image2 .ensures) (c .size .ensures) (w .widen .ensures .0) .0)
+
+write-requires : tie.Need-write-requires
+write-requires c κs =
+    let j = c .before .before .before .before .before .before in let i = j .before .before .before .before .before .before in let w = i .before .before .before in let p = w .before .before in let q = p .before .before in let s = q .before .before in
+    let m = numbered-low (s .pre .numbered) (s .args .c) (omega arith) in
+    let b = room-before (s .args .c) (s .pre) refl (q .if1 .left) (p .param .ensures) (i .before .left-of .ensures) (j .before .right-of .ensures) (i .image .ensures) (j .image2 .ensures) (c .size .ensures) (w .widen .ensures .0) in
+    (row-known _ (s .pre) refl (q .if1 .left) (p .param .ensures), omega (arith, b .1), image-small m _ (i .image .ensures), image-small m _ (j .image2 .ensures))
+
+returns-5 : tie.Need-returns-5
+returns-5 c =
+    let z = c .before in let j = z .before .before .before .before .before .before in let i = j .before .before .before .before .before .before in let w = i .before .before .before in let p = w .before .before in let q = p .before .before in let s = q .before .before in
+    emitted (s .args .c) (s .pre) refl (q .if1 .left) (p .param .ensures) (i .before .left-of .ensures) (j .before .right-of .ensures) (i .image .ensures) (j .image2 .ensures) (z .size .ensures) (w .widen .ensures .0) (c .write .ensures) refl
+
+pub emit-spec : {M : Type 1} → statement M
+emit-spec =
+    tie.close
+    (tie.spec
+    element-copy-out-row
+    returns
+    element-write-rows
+    param-requires
+    mul-widen
+    element-copy-out-widen
+    widen-requires
+    put-node-requires
+    returns-2
+    left-of-requires
+    image-requires
+    waits-requires
+    one-child-requires
+    put-node-requires-2
+    returns-3
+    right-of-requires
+    image-requires-2
+    waits-requires-2
+    two-children-requires
+    put-node-requires-3
+    returns-4
+    add-write
+    size-requires
+    sub-write
+    write-requires
+    returns-5)
