@@ -4,6 +4,10 @@ pub mod Sizes
 -- images and starts; bytes written; blocks emitted
 pub mod State
 pub mod Copied
+-- a copy of a node has the children of the node
+pub mod Shapes
 pub mod Numbered
 pub mod Puts
 pub mod Emitted
+-- emitting goes down
+pub mod Deep

@@ -2,6 +2,7 @@
 use mathlib.Core.Path.{_≡_}
 use mathlib.Core.List.{List, [], _∷_, _++_}
 use mathlib.Core.Bool.{cond}
+use mathlib.Core.Logic.{_⊎_}
 use Prim.Native.Nat.{ℕ, zero, suc, _+_, _*_, _≤_, _<_}
 use lib.ListN.{length, getD}
 use lib.Dec.{ltb}
@@ -133,3 +134,21 @@ pub record Emitting (s : List ℕ) (e : Edit) (rows out rows′ out′ : List �
   pub same : (j : ℕ) → (getD rows′ j 0 ≡ emittedRow → ⊥) → getD rows′ j 0 ≡ getD rows j 0
   pub stand : (j : ℕ) → (getD rows j 0 ≡ emittedRow → ⊥) → getD rows′ j 0 ≡ emittedRow → Stands s e out′ j
   pub keeps : (j : ℕ) → Stands s e out j → Stands s e out′ j
+
+-- the children that node j uses are emitted, where they are below it
+pub record ChildrenEmitted (s rows : List ℕ) (j : ℕ) : Type 0 where
+  pub left : leftAt s j < j → getD rows (leftAt s j) 0 ≡ emittedRow
+  pub right : rightAt s j < j → getD rows (rightAt s j) 0 ≡ emittedRow
+
+-- each node that is emitted now (′) and was not before has its children emitted too
+pub record Deep (s rows rows′ : List ℕ) : Type 0 where
+  pub down : (j : ℕ) → (getD rows j 0 ≡ emittedRow → ⊥) → getD rows′ j 0 ≡ emittedRow → ChildrenEmitted s rows′ j
+
+-- only c is emitted now and was not before, and its children are emitted too, or one of them waits
+pub record OneEmitted (s rows rows′ : List ℕ) (c : ℕ) (Waits : Type 0) : Type 0 where
+  pub only : (j : ℕ) → (getD rows j 0 ≡ emittedRow → ⊥) → getD rows′ j 0 ≡ emittedRow → (j ≡ c) × (ChildrenEmitted s rows′ j ⊎ Waits)
+
+-- each node that is emitted now and was not before has its children emitted too; or it is lo, and waiting is 2 or 3; or hi, and waiting is 1 or 3
+pub record TwoEmitted (s rows rows′ : List ℕ) (lo hi waiting : ℕ) : Type 0 where
+  pub owed : (j : ℕ) → (getD rows j 0 ≡ emittedRow → ⊥) → getD rows′ j 0 ≡ emittedRow
+      → ChildrenEmitted s rows′ j ⊎ (((j ≡ lo) × (2 ≤ waiting)) ⊎ ((j ≡ hi) × (1 ≤ waiting) × (waiting ≡ 2 → ⊥)))

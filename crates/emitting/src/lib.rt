@@ -33,7 +33,7 @@ ghost use Rattle.sheet.specs.Bytes.{editOf};
 ghost use Rattle.limits.specs.Limits.{tableNodes, tableBytes, orNo, diaNo, slotNo};
 ghost use Rattle.blocks.specs.Spelling.{firstOf, secondOf, Spells};
 ghost use Rattle.blocks.specs.Write.{TableWritten};
-ghost use Rattle.emitting.specs.State.{usedChild, leftAt, rightAt, startOf, Numbered, imageIn, emittedRow, spellingOf, firstKind, endKind, Rowed, NoneEmitted, Emittable, Emitting, lowerOf, higherOf};
+ghost use Rattle.emitting.specs.State.{usedChild, leftAt, rightAt, startOf, Numbered, imageIn, emittedRow, spellingOf, firstKind, endKind, Rowed, NoneEmitted, Emittable, Emitting, Deep, ChildrenEmitted, OneEmitted, TwoEmitted, lowerOf, higherOf};
 
 // Tables, images and rows are lent as whole arrays: a call passes a pointer for each, in a register, and a last call becomes a jump.
 
@@ -97,6 +97,7 @@ fn image(images: &[u16; TABLE_NODES], i: usize, c: usize) -> usize
 // Whether node c is below i and not emitted.
 fn waits(rows: &[u8; TABLE_NODES], i: usize, c: usize) -> bool
     requires { ⌜ i ≤ tableNodes ⌝ }
+    ensures { λ r. ⌜ (r ≡ false → c < i → getD (now (rows .entry)) c 0 ≡ emittedRow) ⌝ }
 {
     if c < i {
         return rows[c] != EMITTED;
@@ -212,6 +213,7 @@ fn emit(
 ) -> bool
     requires { ⌜ Emittable (now table) (editOf e) (now images) (now rows) (now out) a b (c + 1) ⌝ }
     ensures { λ _. ⌜ Emitting (now (table .entry)) (editOf e) (now (rows .entry)) (now (out .entry)) (now (rows .exit)) (now (out .exit)) × (getD (now (rows .exit)) c 0 ≡ emittedRow) ⌝ }
+    ensures { λ r. ⌜ OneEmitted (now (table .entry)) (now (rows .entry)) (now (rows .exit)) c (r ≡ true) ⌝ }
 {
     let row = rows[c];
     if row == EMITTED {
@@ -258,6 +260,7 @@ fn emit_below(
     requires { ⌜ Emittable (now table) (editOf e) (now images) (now rows) (now out) a b i ⌝ }
     ensures { λ _. ⌜ Emitting (now (table .entry)) (editOf e) (now (rows .entry)) (now (out .entry)) (now (rows .exit)) (now (out .exit)) × (c < i → getD (now (rows .exit)) c 0 ≡ emittedRow) ⌝ }
     ensures { λ r. ⌜ (r ≤ 1) × (r ≡ 1 → c < i) ⌝ }
+    ensures { λ r. ⌜ OneEmitted (now (table .entry)) (now (rows .entry)) (now (rows .exit)) c (r ≡ 1) ⌝ }
 {
     if i <= c {
         return 0;
@@ -285,6 +288,7 @@ fn emit_two(
     requires { ⌜ Emittable (now table) (editOf e) (now images) (now rows) (now out) a b i ⌝ }
     ensures { λ _. ⌜ Emitting (now (table .entry)) (editOf e) (now (rows .entry)) (now (out .entry)) (now (rows .exit)) (now (out .exit)) × (lo < i → getD (now (rows .exit)) lo 0 ≡ emittedRow) × (hi < i → getD (now (rows .exit)) hi 0 ≡ emittedRow) ⌝ }
     ensures { λ r. ⌜ (2 ≤ r → lo < i) × (r ≡ 1 → hi < i) × (3 ≤ r → hi < i) ⌝ }
+    ensures { λ r. ⌜ TwoEmitted (now (table .entry)) (now (rows .entry)) (now (rows .exit)) lo hi r ⌝ }
 {
     let mut c = lo;
     let mut waiting = 0u8;
@@ -331,6 +335,7 @@ fn emit_children(
 )
     requires { ⌜ Emittable (now table) (editOf e) (now images) (now rows) (now out) a b i ⌝ }
     ensures { λ _. ⌜ Emitting (now (table .entry)) (editOf e) (now (rows .entry)) (now (out .entry)) (now (rows .exit)) (now (out .exit)) × (l < i → getD (now (rows .exit)) l 0 ≡ emittedRow) × (r < i → getD (now (rows .exit)) r 0 ≡ emittedRow) ⌝ }
+    ensures { λ _. ⌜ Deep (now (table .entry)) (now (rows .entry)) (now (rows .exit)) ⌝ }
 {
     let lo = lower(l, r);
     let hi = higher(l, r);
@@ -363,6 +368,7 @@ fn emit_under(
 )
     requires { ⌜ Emittable (now table) (editOf e) (now images) (now rows) (now out) a b i × (i < tableNodes) ⌝ }
     ensures { λ _. ⌜ Emitting (now (table .entry)) (editOf e) (now (rows .entry)) (now (out .entry)) (now (rows .exit)) (now (out .exit)) ⌝ }
+    ensures { λ _. ⌜ Deep (now (table .entry)) (now (rows .entry)) (now (rows .exit)) × ChildrenEmitted (now (table .entry)) (now (rows .exit)) i ⌝ }
 {
     let l = left_of(table, i);
     let r = right_of(table, i);
@@ -382,6 +388,7 @@ fn emit_open(
 )
     requires { ⌜ Emittable (now table) (editOf e) (now images) (now rows) (now out) a b (i + 1) ⌝ }
     ensures { λ _. ⌜ Emitting (now (table .entry)) (editOf e) (now (rows .entry)) (now (out .entry)) (now (rows .exit)) (now (out .exit)) × (getD (now (rows .exit)) i 0 ≡ emittedRow) ⌝ }
+    ensures { λ _. ⌜ Deep (now (table .entry)) (now (rows .entry)) (now (rows .exit)) ⌝ }
 {
     if rows[i] == EMITTED {
         return;

@@ -1,6 +1,7 @@
 -- `emit_children` and `emit_under`, a cycle of calls. The measure: twice the node's number, 1 more for `emit_under`.
 use Prim.Native.Nat.{ℕ, _+_, _*_, _<_}
 use native.Mathlib.Omega.{arith}
+use Rattle.emitting.specs.Laws.Deep.{children-stay, deep-then, paid, none-owed, below-both}
 use Rattle.emitting.specs.Laws.Emitted.{emitting-none, emitting-then, emittable-then, emittable-low, children}
 use borrow.Fn.Kinds.{In}
 use borrow.Fn.PlainCycle.{Measures, is, falls, and}
@@ -62,49 +63,57 @@ emit-children-emit-two-requires t c κs = c .before .before .before .before .pre
 
 emit-children-returns : (t : ℕ) → emit-children-lts.Need-returns (emit-children-calls t) (emit-children-at t) emit-children.Post
 emit-children-returns t c =
-    let w = c .before in let h = w .before .before .before in
-    children (h .before .lower .ensures) (h .higher .ensures) (w .emit-two .ensures .0) emitting-none
+    let w = c .before in let h = w .before .before .before in (
+      children (h .before .lower .ensures) (h .higher .ensures) (w .emit-two .ensures .0) emitting-none,
+      none-owed (w .emit-two .ensures .1 .1) (omega arith),
+    )
 
 emit-children-emit-under-requires : (t : ℕ) → emit-children-lts.Need-emit-under-requires (emit-children-calls t) (emit-children-at t) emit-children.Post
 emit-children-emit-under-requires t c κs =
     let w = c .before .before .before .before in let s = w .before .before .before .before .before in
-    let b = w .emit-two .ensures .1 .1 (omega arith) in
+    let b = w .emit-two .ensures .1 .0 .1 (omega arith) in
     (omega (arith, s .pre .0), (emittable-low (emittable-then (s .pre .1) (w .emit-two .ensures .0 .0)) _ (omega arith), omega (arith, s .pre .1 .numbered .most)))
 
 emit-children-returns-2 : (t : ℕ) → emit-children-lts.Need-returns-2 (emit-children-calls t) (emit-children-at t) emit-children.Post
 emit-children-returns-2 t c =
-    let w = c .before .before .before .before .before in let h = w .before .before .before in
-    children (h .before .lower .ensures) (h .higher .ensures) (w .emit-two .ensures .0) (c .emit-under .ensures)
+    let u = c .emit-under .ensures in let w = c .before .before .before .before .before in let h = w .before .before .before in (
+      children (h .before .lower .ensures) (h .higher .ensures) (w .emit-two .ensures .0) (u .0),
+      paid (w .emit-two .ensures .1 .1) (u .0) (u .1 .0) (λ g. absurd (omega arith)) (λ g n. u .1 .1),
+    )
 
 emit-children-emit-under-requires-2 : (t : ℕ) → emit-children-lts.Need-emit-under-requires-2 (emit-children-calls t) (emit-children-at t) emit-children.Post
 emit-children-emit-under-requires-2 t c κs =
     let w = c .before .before .before .before .before in let s = w .before .before .before .before .before in
-    let b = w .emit-two .ensures .1 .0 (omega arith) in
+    let b = w .emit-two .ensures .1 .0 .0 (omega arith) in
     (omega (arith, s .pre .0), (emittable-low (emittable-then (s .pre .1) (w .emit-two .ensures .0 .0)) _ (omega arith), omega (arith, s .pre .1 .numbered .most)))
 
 emit-children-returns-3 : (t : ℕ) → emit-children-lts.Need-returns-3 (emit-children-calls t) (emit-children-at t) emit-children.Post
 emit-children-returns-3 t c =
-    let w = c .before .before .before .before .before .before in let h = w .before .before .before in
-    children (h .before .lower .ensures) (h .higher .ensures) (w .emit-two .ensures .0) (c .emit-under2 .ensures)
+    let u = c .emit-under2 .ensures in let w = c .before .before .before .before .before .before in let h = w .before .before .before in (
+      children (h .before .lower .ensures) (h .higher .ensures) (w .emit-two .ensures .0) (u .0),
+      paid (w .emit-two .ensures .1 .1) (u .0) (u .1 .0) (λ g. u .1 .1) (λ g n. absurd (n (omega arith))),
+    )
 
 emit-children-emit-under-requires-3 : (t : ℕ) → emit-children-lts.Need-emit-under-requires-3 (emit-children-calls t) (emit-children-at t) emit-children.Post
 emit-children-emit-under-requires-3 t c κs =
     let w = c .before .before .before .before .before in let s = w .before .before .before .before .before in
-    let b = w .emit-two .ensures .1 .2 (omega arith) in
+    let b = w .emit-two .ensures .1 .0 .2 (omega arith) in let d = w .emit-two .ensures .1 .0 .0 (omega arith) in
     (omega (arith, s .pre .0), (emittable-low (emittable-then (s .pre .1) (w .emit-two .ensures .0 .0)) _ (omega arith), omega (arith, s .pre .1 .numbered .most)))
 
 emit-children-emit-under-requires-4 : (t : ℕ) → emit-children-lts.Need-emit-under-requires-4 (emit-children-calls t) (emit-children-at t) emit-children.Post
 emit-children-emit-under-requires-4 t c κs =
     let u = c .before .before in let w = u .before .before .before .before .before .before in
     let s = w .before .before .before .before .before in
-    let b = w .emit-two .ensures .1 .0 (omega arith) in
-    (omega (arith, s .pre .0), (emittable-low (emittable-then (s .pre .1) (emitting-then (w .emit-two .ensures .0 .0) (u .emit-under3 .ensures))) _ (omega arith), omega (arith, s .pre .1 .numbered .most)))
+    let b = w .emit-two .ensures .1 .0 .2 (omega arith) in let d = w .emit-two .ensures .1 .0 .0 (omega arith) in
+    (omega (arith, s .pre .0), (emittable-low (emittable-then (s .pre .1) (emitting-then (w .emit-two .ensures .0 .0) (u .emit-under3 .ensures .0))) _ (omega arith), omega (arith, s .pre .1 .numbered .most)))
 
 emit-children-returns-4 : (t : ℕ) → emit-children-lts.Need-returns-4 (emit-children-calls t) (emit-children-at t) emit-children.Post
 emit-children-returns-4 t c =
     let u = c .before .before .before in let w = u .before .before .before .before .before .before in
-    let h = w .before .before .before in
-    children (h .before .lower .ensures) (h .higher .ensures) (w .emit-two .ensures .0) (emitting-then (u .emit-under3 .ensures) (c .emit-under4 .ensures))
+    let h = w .before .before .before in let x = u .emit-under3 .ensures in let y = c .emit-under4 .ensures in (
+      children (h .before .lower .ensures) (h .higher .ensures) (w .emit-two .ensures .0) (emitting-then (x .0) (y .0)),
+      paid (w .emit-two .ensures .1 .1) (emitting-then (x .0) (y .0)) (deep-then (x .1 .0) (y .0) (y .1 .0)) (λ g. y .1 .1) (λ g n. children-stay (y .0) (x .1 .1)),
+    )
 
 abbrev emit-under-calls : ℕ → emit-under-lts.Claims
 emit-under-calls t = (left-of-reads.Asked, left-of-reads.Learnt, right-of-reads.Asked, right-of-reads.Learnt, emit-children-below t, emit-children.Post)
@@ -119,7 +128,9 @@ emit-under-emit-children-requires : (t : ℕ) → emit-under-lts.Need-emit-child
 emit-under-emit-children-requires t c κs = let s = c .before .before .before .before in (omega (arith, s .pre .0), s .pre .1 .0)
 
 emit-under-returns : (t : ℕ) → emit-under-lts.Need-returns (emit-under-calls t) (emit-under-at t) emit-under.Post
-emit-under-returns t c = c .emit-children .ensures .0
+emit-under-returns t c =
+    let m = c .emit-children .ensures in let r = c .before .before .before in let l = r .before in
+    (m .0 .0, (m .1, below-both (l .left-of .ensures) (r .right-of .ensures) (m .0 .1) (m .0 .2)))
 
 pub +emit-children+emit-under-spec : {M : Type 1} → statement M
 +emit-children+emit-under-spec =

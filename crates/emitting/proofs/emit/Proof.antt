@@ -2,7 +2,8 @@
 use native.Mathlib.Omega.{arith}
 use mathlib.Core.Path.{refl}
 use Rattle.emitting.specs.Laws.Numbered.{numbered-low, image-small}
-use Rattle.emitting.specs.Laws.Emitted.{emitting-none, row-known, room-before, emitted, emitted-leaf, emitted-one, emitted-two}
+use Rattle.emitting.specs.Laws.Deep.{one-none, one-leaf, one-waits, two-wait}
+use Rattle.emitting.specs.Laws.Emitted.{emitting-none, row-known, leaf-here, one-here, room-before, emitted, emitted-leaf, emitted-one, emitted-two}
 use Rattle.emitting.proofs.emit.Statement.{statement}
 use Rattle.emitting.proofs.emit.Tie as tie
 
@@ -10,7 +11,7 @@ element-copy-out-row : tie.Need-element-copy-out-row
 element-copy-out-row c = omega (arith, c .pre .numbered .most)
 
 returns : tie.Need-returns
-returns c = (emitting-none, c .if1 .taken)
+returns c = ((emitting-none, c .if1 .taken), one-none)
 
 element-write-rows : tie.Need-element-write-rows
 element-write-rows c = omega (arith, c .before .before .pre .numbered .most)
@@ -32,8 +33,10 @@ put-node-requires c κs = omega (arith, c .before .before .widen .ensures .1)
 
 returns-2 : tie.Need-returns-2
 returns-2 c =
-    let w = c .before .before .before in let p = w .before .before in let q = p .before .before in let s = q .before .before in
-    emitted-leaf (s .args .c) (s .pre) refl (q .if1 .left) (p .param .ensures) (w .widen .ensures .0) refl (c .before .before .if2 .taken) (c .put-node .ensures)
+    let w = c .before .before .before in let p = w .before .before in let q = p .before .before in let s = q .before .before in (
+      emitted-leaf (s .args .c) (s .pre) refl (q .if1 .left) (p .param .ensures) (w .widen .ensures .0) refl (c .before .before .if2 .taken) (c .put-node .ensures),
+      one-leaf refl (leaf-here _ (s .pre) refl (q .if1 .left) (p .param .ensures) (c .before .before .if2 .taken)),
+    )
 
 left-of-requires : tie.Need-left-of-requires
 left-of-requires c κs = let s = c .before .before .before .before .before .before .before in (s .pre .whole, omega (arith, s .pre .numbered .most))
@@ -54,8 +57,10 @@ put-node-requires-2 c κs =
 
 returns-3 : tie.Need-returns-3
 returns-3 c =
-    let o = c .before .before .before in let i = o .before .before .before in let w = i .before .before .before in let p = w .before .before in let q = p .before .before in let s = q .before .before in
-    emitted-one (s .args .c) (s .pre) refl (q .if1 .left) (p .param .ensures) (w .widen .ensures .0) refl (o .one-child .ensures (c .before .before .if3 .taken)) (i .before .left-of .ensures) (i .image .ensures) (c .put-node2 .ensures)
+    let o = c .before .before .before in let i = o .before .before .before in let w = i .before .before .before in let p = w .before .before in let q = p .before .before in let s = q .before .before in (
+      emitted-one (s .args .c) (s .pre) refl (q .if1 .left) (p .param .ensures) (w .widen .ensures .0) refl (o .one-child .ensures (c .before .before .if3 .taken)) (i .before .left-of .ensures) (i .image .ensures) (c .put-node2 .ensures),
+      one-waits refl (i .before .left-of .ensures) (o .before .waits .ensures) (one-here _ (s .pre) refl (q .if1 .left) (p .param .ensures) (o .one-child .ensures (c .before .before .if3 .taken))),
+    )
 
 right-of-requires : tie.Need-right-of-requires
 right-of-requires c κs = let w = c .before .before .before .before .before .before .before in let s = w .before .before .before .before .before .before in (s .pre .whole, omega (arith, s .pre .numbered .most))
@@ -77,8 +82,10 @@ put-node-requires-3 c κs =
 
 returns-4 : tie.Need-returns-4
 returns-4 c =
-    let o = c .before .before .before in let j = o .before .before .before in let i = j .before .before .before .before .before .before in let w = i .before .before .before in let p = w .before .before in let q = p .before .before in let s = q .before .before in
-    emitted-two (s .args .c) (s .pre) refl (q .if1 .left) (p .param .ensures) (w .widen .ensures .0) refl (o .two-children .ensures (c .before .before .if4 .taken)) (i .before .left-of .ensures) (i .image .ensures) (j .before .right-of .ensures) (j .image2 .ensures) (c .put-node3 .ensures)
+    let o = c .before .before .before in let j = o .before .before .before in let i = j .before .before .before .before .before .before in let w = i .before .before .before in let p = w .before .before in let q = p .before .before in let s = q .before .before in (
+      emitted-two (s .args .c) (s .pre) refl (q .if1 .left) (p .param .ensures) (w .widen .ensures .0) refl (o .two-children .ensures (c .before .before .if4 .taken)) (i .before .left-of .ensures) (i .image .ensures) (j .before .right-of .ensures) (j .image2 .ensures) (c .put-node3 .ensures),
+      two-wait refl (i .before .left-of .ensures) (j .before .before .before .before .waits .ensures) (j .before .right-of .ensures) (o .before .waits2 .ensures),
+    )
 
 add-write : tie.Need-add-write
 add-write c = let j = c .before .before .before .before .before in let i = j .before .before .before .before .before .before in let w = i .before .before .before in omega (arith, w .widen .ensures .1)
@@ -102,8 +109,10 @@ write-requires c κs =
 
 returns-5 : tie.Need-returns-5
 returns-5 c =
-    let z = c .before in let j = z .before .before .before .before .before .before in let i = j .before .before .before .before .before .before in let w = i .before .before .before in let p = w .before .before in let q = p .before .before in let s = q .before .before in
-    emitted (s .args .c) (s .pre) refl (q .if1 .left) (p .param .ensures) (i .before .left-of .ensures) (j .before .right-of .ensures) (i .image .ensures) (j .image2 .ensures) (z .size .ensures) (w .widen .ensures .0) (c .write .ensures) refl
+    let z = c .before in let j = z .before .before .before .before .before .before in let i = j .before .before .before .before .before .before in let w = i .before .before .before in let p = w .before .before in let q = p .before .before in let s = q .before .before in (
+      emitted (s .args .c) (s .pre) refl (q .if1 .left) (p .param .ensures) (i .before .left-of .ensures) (j .before .right-of .ensures) (i .image .ensures) (j .image2 .ensures) (z .size .ensures) (w .widen .ensures .0) (c .write .ensures) refl,
+      two-wait refl (i .before .left-of .ensures) (j .before .before .before .before .waits .ensures) (j .before .right-of .ensures) (z .before .before .before .before .waits2 .ensures),
+    )
 
 pub emit-spec : {M : Type 1} → statement M
 emit-spec =

@@ -28,7 +28,7 @@ loop-less c = omega arith
 
 loop-again : tie.Need-loop-again Inv-loop μ-loop
 loop-again c =
-    let l = c .before .before .before .before .loop .inv in let m = c .emit-open .ensures in
+    let l = c .before .before .before .before .loop .inv in let m = c .emit-open .ensures .0 in
     (omega arith, emitting-then (l .1) (m .0), emitted-more (m .0) (omega arith) (m .1) (l .2))
 
 returns : tie.Need-returns Inv-loop μ-loop

@@ -22,7 +22,7 @@ emit-below-requires : tie.Need-emit-below-requires Inv-loop μ-loop
 emit-below-requires c κs = let l = c .before .before .before in emittable-then (l .before .pre) (l .loop .inv .emitting)
 
 add-waiting : tie.Need-add-waiting Inv-loop μ-loop
-add-waiting c = omega (arith, c .emit-below .ensures .1 .0, c .before .before .before .before .loop .inv .small (omega arith))
+add-waiting c = omega (arith, c .emit-below .ensures .1 .0 .0, c .before .before .before .before .loop .inv .small (omega arith))
 
 add-done : tie.Need-add-done Inv-loop μ-loop
 add-done c = omega arith
@@ -31,7 +31,7 @@ loop-less : tie.Need-loop-less Inv-loop μ-loop
 loop-less c = omega arith
 
 loop-again : tie.Need-loop-again Inv-loop μ-loop
-loop-again c = of-two-more (c .before .before .before .before .loop .inv) (omega arith) (c .emit-below .ensures .0) (c .emit-below .ensures .1)
+loop-again c = of-two-more (c .before .before .before .before .loop .inv) (omega arith) (c .emit-below .ensures .0) (c .emit-below .ensures .1 .0) (c .emit-below .ensures .1 .1)
 
 returns : tie.Need-returns Inv-loop μ-loop
 returns c = both-of-two (c .before .loop .inv) (omega arith)

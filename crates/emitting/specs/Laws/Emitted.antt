@@ -23,9 +23,11 @@ use Rattle.blocks.specs.Spelling.{spelled, Spells, Sized, keptBy, usedBy, copyO
 use Rattle.blocks.specs.Laws.Rows.{sized-copy, copy-written}
 use Rattle.blocks.specs.Write.{put, puts, TableWritten}
 use Rattle.blocks.specs.Laws.Write.{length-puts}
-use Rattle.emitting.specs.State.{blockIn, step, stateAt, leftAt, rightAt, startOf, Numbered, imageIn, emittedRow, spellingOf, Rowed, NoneEmitted, Emittable, Stands, Emitting, lowerOf, higherOf}
+use Rattle.emitting.specs.State.{blockIn, step, stateAt, leftAt, rightAt, startOf, Numbered, imageIn, emittedRow, spellingOf, Rowed, NoneEmitted, Emittable, Stands, Emitting, lowerOf, higherOf, OneEmitted, TwoEmitted}
 use Rattle.emitting.specs.Laws.State.{state-out, block-used}
 use Rattle.emitting.specs.Laws.Numbered.{blockAt, start-more, starts-up, numbered-low, start-none, image-is, image-last, rowed-low}
+use Rattle.emitting.specs.Laws.Shapes.{leaf-alone, one-alone}
+use Rattle.emitting.specs.Laws.Deep.{one-none, one-more, two-more}
 use Rattle.emitting.specs.Laws.Puts.{puts-low, puts-high, puts-in, bytes-append}
 
 -- ---- one block written
@@ -137,6 +139,15 @@ module _ {s : List ℕ} {e : Edit} {images rows out : List ℕ} {a b : ℕ} (c :
   pub row-known : row < rowCount
   row-known = spells-here .known
 
+  -- the children that a copy does not have
+  pub leaf-here : row < notNo → (leftAt s c ≡ c) × (rightAt s c ≡ c)
+  unfolding leftAt rightAt
+  leaf-here h = leaf-alone spells-here h _ _ c
+
+  pub one-here : (diaNo ≤ row) × (row < slotNo) → rightAt s c ≡ c
+  unfolding rightAt
+  one-here h = one-alone spells-here h _ c
+
   module _ {l r t u : ℕ} (el : l ≡ leftAt s c) (eq : r ≡ rightAt s c) (et : t ≡ imageIn images c l) (eu : u ≡ imageIn images c r) where
     block-here : spelled (record { row = row; w = p; a = a; b = b }) t u ≡ blockAt e s c
     unfolding blockIn leftAt rightAt
@@ -224,6 +235,8 @@ pub record EmittedOfTwo (s : List ℕ) (e : Edit) (rows out : List ℕ) (i lo hi
   pub lo-waits : 2 ≤ done → 2 ≤ waiting → lo < i
   pub hi-alone : 2 ≤ done → waiting ≡ 1 → hi < i
   pub hi-too : 2 ≤ done → 3 ≤ waiting → hi < i
+  pub lo-owed : done ≤ 1 → OneEmitted s rows rows′ lo (1 ≤ waiting)
+  pub owed : 2 ≤ done → TwoEmitted s rows rows′ lo hi waiting
 
 pub of-two-none : {s : List ℕ} {e : Edit} {rows out : List ℕ} {i lo hi : ℕ} → EmittedOfTwo s e rows out i lo hi rows out lo 0 0
 of-two-none = record {
@@ -238,13 +251,15 @@ of-two-none = record {
   lo-waits = λ h. absurd (omega arith);
   hi-alone = λ h. absurd (omega arith);
   hi-too = λ h. absurd (omega arith);
+  lo-owed = λ h. one-none;
+  owed = λ h. absurd (omega arith);
 }
 
 pub of-two-more : {s : List ℕ} {e : Edit} {rows out rows₁ out₁ rows₂ out₂ : List ℕ} {i lo hi c waiting done r : ℕ}
     → EmittedOfTwo s e rows out i lo hi rows₁ out₁ c waiting done → done < 2
     → Emitting s e rows₁ out₁ rows₂ out₂ × (c < i → getD rows₂ c 0 ≡ emittedRow) → (r ≤ 1) × (r ≡ 1 → c < i)
-    → EmittedOfTwo s e rows out i lo hi rows₂ out₂ hi (2 * waiting + r) (done + 1)
-of-two-more {s} {e} {rows} {out} {rows₁} {out₁} {rows₂} {out₂} {i} {lo} {hi} {c} {waiting} {done} {r} T b P q =
+    → OneEmitted s rows₁ rows₂ c (r ≡ 1) → EmittedOfTwo s e rows out i lo hi rows₂ out₂ hi (2 * waiting + r) (done + 1)
+of-two-more {s} {e} {rows} {out} {rows₁} {out₁} {rows₂} {out₂} {i} {lo} {hi} {c} {waiting} {done} {r} T b P q O =
     let small = T .small (omega arith) in
     let at : done ≡ 1 → c ≡ hi = λ h. T .then (omega arith) in
     record {
@@ -265,13 +280,15 @@ of-two-more {s} {e} {rows} {out} {rows₁} {out₁} {rows₂} {out₂} {i} {lo} 
       lo-waits = λ h g. T .lo-next (omega arith) (omega (arith, q .0));
       hi-alone = λ h g. let e₁ : done ≡ 1 = omega arith in omega (arith, at e₁, q .1 (omega (arith, q .0)));
       hi-too = λ h g. let e₁ : done ≡ 1 = omega arith in omega (arith, at e₁, q .1 (omega (arith, q .0)));
+      lo-owed = λ h. one-more (T .lo-owed (omega arith)) (P .0) O (T .first (omega arith));
+      owed = λ h. two-more (T .lo-owed (omega arith)) (P .0) O (T .then (omega arith));
     }
 
 -- after both
 pub both-of-two : {s : List ℕ} {e : Edit} {rows out rows′ out′ : List ℕ} {i lo hi c waiting done : ℕ} → EmittedOfTwo s e rows out i lo hi rows′ out′ c waiting done
     → 2 ≤ done → (Emitting s e rows out rows′ out′ × (lo < i → getD rows′ lo 0 ≡ emittedRow) × (hi < i → getD rows′ hi 0 ≡ emittedRow))
-    × ((2 ≤ waiting → lo < i) × (waiting ≡ 1 → hi < i) × (3 ≤ waiting → hi < i))
-both-of-two T h = ((T .emitting, T .lo-emitted (omega arith), T .hi-emitted h), (T .lo-waits h, T .hi-alone h, T .hi-too h))
+    × (((2 ≤ waiting → lo < i) × (waiting ≡ 1 → hi < i) × (3 ≤ waiting → hi < i)) × TwoEmitted s rows rows′ lo hi waiting)
+both-of-two T h = ((T .emitting, T .lo-emitted (omega arith), T .hi-emitted h), ((T .lo-waits h, T .hi-alone h, T .hi-too h), T .owed h))
 
 -- both children are emitted, whichever is the lower, and then more nodes
 pub children : {s : List ℕ} {e : Edit} {rows out rows₁ out₁ rows₂ out₂ : List ℕ} {i l r lo hi : ℕ} → lo ≡ lowerOf l r → hi ≡ higherOf l r

@@ -57,23 +57,23 @@ image-at e s (suc n) i h =
 -- ---- children
 
 -- a kind's children, and i where it has none
-unfoldable leftBy : Kind → ℕ → ℕ → ℕ
+unfoldable pub leftBy : Kind → ℕ → ℕ → ℕ
 leftBy (leaf k) l i = i
 leftBy (unary k) l i = l
 leftBy (binary k) l i = l
 
-unfoldable rightBy : Kind → ℕ → ℕ → ℕ
+unfoldable pub rightBy : Kind → ℕ → ℕ → ℕ
 rightBy (leaf k) r i = i
 rightBy (unary k) r i = i
 rightBy (binary k) r i = r
 
-left-used : (l i k : ℕ) → leftBy (kindOf k) l i ≡ usedChild notNo slotNo k l i
+pub left-used : (l i k : ℕ) → leftBy (kindOf k) l i ≡ usedChild notNo slotNo k l i
 unfolding kindOf leftBy
 left-used l i =
     each-kind _ refl refl refl refl refl refl refl refl refl refl refl refl
     (λ k h. rw (kind-past k h, le-ltb k 5 (omega arith), le-ltb k 12 h) refl)
 
-right-used : (r i k : ℕ) → rightBy (kindOf k) r i ≡ usedChild orNo diaNo k r i
+pub right-used : (r i k : ℕ) → rightBy (kindOf k) r i ≡ usedChild orNo diaNo k r i
 unfolding kindOf rightBy
 right-used r i =
     each-kind _ refl refl refl refl refl refl refl refl refl refl refl refl
