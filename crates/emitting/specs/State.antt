@@ -71,6 +71,11 @@ pub record Numbered (s : List ℕ) (e : Edit) (images : List ℕ) (n : ℕ) : Ty
 unfoldable pub imageIn : List ℕ → ℕ → ℕ → ℕ
 imageIn images i c = cond (ltb c i) (getD images c 0) 0
 
+-- the number of the first node of node i's block, by the images
+unfoldable pub startIn : List ℕ → ℕ → ℕ
+startIn images zero = 0
+startIn images (suc i) = getD images i 0 + 1
+
 -- what stands for a node's row once the node is emitted
 abbrev pub emittedRow : ℕ
 emittedRow = 255

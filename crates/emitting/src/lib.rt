@@ -5,7 +5,9 @@ use blocks::put_node;
 use blocks::size;
 use blocks::write;
 use condition::kind;
+use condition::left;
 use condition::param;
+use condition::right;
 use limits::AND;
 use limits::DIA;
 use limits::HERE;
@@ -33,7 +35,7 @@ ghost use Rattle.sheet.specs.Bytes.{editOf};
 ghost use Rattle.limits.specs.Limits.{tableNodes, tableBytes, orNo, diaNo, slotNo};
 ghost use Rattle.blocks.specs.Spelling.{firstOf, secondOf, Spells};
 ghost use Rattle.blocks.specs.Write.{TableWritten};
-ghost use Rattle.emitting.specs.State.{usedChild, leftAt, rightAt, startOf, Numbered, imageIn, emittedRow, spellingOf, firstKind, endKind, Rowed, NoneEmitted, Emittable, Emitting, Deep, ChildrenEmitted, OneEmitted, TwoEmitted, lowerOf, higherOf};
+ghost use Rattle.emitting.specs.State.{startOf, startIn, Numbered, imageIn, emittedRow, spellingOf, firstKind, endKind, Rowed, NoneEmitted, Emittable, Emitting, Deep, ChildrenEmitted, OneEmitted, TwoEmitted, lowerOf, higherOf};
 
 // Tables, images and rows are lent as whole arrays: a call passes a pointer for each, in a register, and a last call becomes a jump.
 
@@ -53,36 +55,6 @@ fn widen(x: u16) -> usize
     x as usize
 }
 
-// The field c of node i, of kind k, where it is a child, that is for the kinds from lo to below hi; and i where it is not used.
-fn used_child(k: u8, lo: u8, hi: u8, c: usize, i: usize) -> usize
-    ensures { λ r. ⌜ r ≡ usedChild lo hi k c i ⌝ }
-{
-    if k < lo {
-        return i;
-    }
-    if k < hi {
-        return c;
-    }
-    i
-}
-
-// The children of node i, and i where it has none.
-fn left_of(table: &[u8; TABLE_BYTES], i: usize) -> usize
-    requires { ⌜ (length (now table) ≡ tableBytes) × (i < tableNodes) ⌝ }
-    ensures { λ r. ⌜ r ≡ leftAt (now (table .entry)) i ⌝ }
-{
-    let k = kind(table, i);
-    used_child(k, NOT, SLOT, condition::left(table, i), i)
-}
-
-fn right_of(table: &[u8; TABLE_BYTES], i: usize) -> usize
-    requires { ⌜ (length (now table) ≡ tableBytes) × (i < tableNodes) ⌝ }
-    ensures { λ r. ⌜ r ≡ rightAt (now (table .entry)) i ⌝ }
-{
-    let k = kind(table, i);
-    used_child(k, OR, DIA, condition::right(table, i), i)
-}
-
 // The image of the child c of node i, and 0 where c is not lower.
 fn image(images: &[u16; TABLE_NODES], i: usize, c: usize) -> usize
     requires { ⌜ i ≤ tableNodes ⌝ }
@@ -92,6 +64,17 @@ fn image(images: &[u16; TABLE_NODES], i: usize, c: usize) -> usize
         return widen(images[c]);
     }
     0
+}
+
+// The number of the first node of node c's block: the one after the image before it.
+fn start(images: &[u16; TABLE_NODES], c: usize) -> usize
+    requires { ⌜ c ≤ tableNodes ⌝ }
+    ensures { λ r. ⌜ r ≡ startIn (now (images .entry)) c ⌝ }
+{
+    if c < 1 {
+        return 0;
+    }
+    widen(images[c - 1]) + 1
 }
 
 // Whether node c is below i and not emitted.
@@ -199,8 +182,9 @@ fn two_children(row: u8) -> bool
     (row == OR) | (row == AND)
 }
 
-// Node c is emitted: its block is written, copies of most kinds at once. Gives whether one of its children waits. The edit stands in the
-// contract alone.
+// Node c is emitted: its block is written, copies of most kinds at once. Gives whether one of its children waits. Both fields of a node that is
+// no leaf and no loop, diamond or box are taken for children: one that its kind does not use is 0 in an accepted condition, and emitting a node
+// early does no harm. The edit stands in the contract alone.
 fn emit(
     table: &[u8; TABLE_BYTES],
     images: &[u16; TABLE_NODES],
@@ -226,23 +210,23 @@ fn emit(
         put_node(out, last, row, w, 0, 0);
         return false;
     }
-    let l = left_of(table, c);
+    let l = left(table, c);
     let t = image(images, c, l);
-    let left = waits(rows, c, l);
+    let on_left = waits(rows, c, l);
     if one_child(row) {
         put_node(out, last, row, w, t, 0);
-        return left;
+        return on_left;
     }
-    let r = right_of(table, c);
+    let r = right(table, c);
     let u = image(images, c, r);
-    let right = waits(rows, c, r);
+    let on_right = waits(rows, c, r);
     if two_children(row) {
         put_node(out, last, row, 0, t, u);
-        return left | right;
+        return on_left | on_right;
     }
     let s = Spelling { row, w, a, b };
-    write(out, last + 1 - size(s), s, t, u);
-    left | right
+    write(out, start(images, c), s, t, u);
+    on_left | on_right
 }
 
 // Node c is emitted, where it is below i. Gives 1 where one of its children waits, and else 0.
@@ -370,8 +354,8 @@ fn emit_under(
     ensures { λ _. ⌜ Emitting (now (table .entry)) (editOf e) (now (rows .entry)) (now (out .entry)) (now (rows .exit)) (now (out .exit)) ⌝ }
     ensures { λ _. ⌜ Deep (now (table .entry)) (now (rows .entry)) (now (rows .exit)) × ChildrenEmitted (now (table .entry)) (now (rows .exit)) i ⌝ }
 {
-    let l = left_of(table, i);
-    let r = right_of(table, i);
+    let l = left(table, i);
+    let r = right(table, i);
     emit_children(table, images, rows, out, e, a, b, i, l, r);
 }
 

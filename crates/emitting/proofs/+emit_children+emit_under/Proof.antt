@@ -4,6 +4,8 @@ use native.Mathlib.Omega.{arith}
 use Rattle.emitting.specs.Laws.Deep.{children-stay, deep-then, paid, none-owed, below-both}
 use Rattle.emitting.specs.Laws.Emitted.{emitting-none, emitting-then, emittable-then, emittable-low, children}
 use borrow.Fn.Kinds.{In}
+use Rattle.condition.proofs.left.Reads as left-reads
+use Rattle.condition.proofs.right.Reads as right-reads
 use borrow.Fn.PlainCycle.{Measures, is, falls, and}
 use Rattle.emitting.proofs.emit_children.Reads as emit-children
 use Rattle.emitting.proofs.emit_children.Kinds as emit-children-kinds
@@ -12,10 +14,8 @@ use Rattle.emitting.proofs.emit_under.Reads as emit-under
 use Rattle.emitting.proofs.emit_under.Kinds as emit-under-kinds
 use Rattle.emitting.proofs.+emit_children+emit_under.Lts-emit_under as emit-under-lts
 use Rattle.emitting.proofs.higher.Reads as higher-reads
-use Rattle.emitting.proofs.left_of.Reads as left-of-reads
 use Rattle.emitting.proofs.lower.Reads as lower-reads
 use Rattle.emitting.proofs.emit_two.Reads as emit-two-reads
-use Rattle.emitting.proofs.right_of.Reads as right-of-reads
 use Rattle.emitting.proofs.+emit_children+emit_under.{statement}
 use Rattle.emitting.proofs.+emit_children+emit_under.Tie.{close}
 
@@ -116,21 +116,21 @@ emit-children-returns-4 t c =
     )
 
 abbrev emit-under-calls : ℕ → emit-under-lts.Claims
-emit-under-calls t = (left-of-reads.Asked, left-of-reads.Learnt, right-of-reads.Asked, right-of-reads.Learnt, emit-children-below t, emit-children.Post)
+emit-under-calls t = (left-reads.Asked, left-reads.Learnt, right-reads.Asked, right-reads.Learnt, emit-children-below t, emit-children.Post)
 
-emit-under-left-of-requires : (t : ℕ) → emit-under-lts.Need-left-of-requires (emit-under-calls t) (emit-under-at t) emit-under.Post
-emit-under-left-of-requires t c κs = (c .pre .1 .0 .whole, c .pre .1 .1)
+emit-under-left-requires : (t : ℕ) → emit-under-lts.Need-left-requires (emit-under-calls t) (emit-under-at t) emit-under.Post
+emit-under-left-requires t c κs = let s = c .before in omega (arith, s .pre .1 .0 .whole, s .pre .1 .1)
 
-emit-under-right-of-requires : (t : ℕ) → emit-under-lts.Need-right-of-requires (emit-under-calls t) (emit-under-at t) emit-under.Post
-emit-under-right-of-requires t c κs = (c .before .pre .1 .0 .whole, c .before .pre .1 .1)
+emit-under-right-requires : (t : ℕ) → emit-under-lts.Need-right-requires (emit-under-calls t) (emit-under-at t) emit-under.Post
+emit-under-right-requires t c κs = let s = c .before .before .before in omega (arith, s .pre .1 .0 .whole, s .pre .1 .1)
 
 emit-under-emit-children-requires : (t : ℕ) → emit-under-lts.Need-emit-children-requires (emit-under-calls t) (emit-under-at t) emit-under.Post
-emit-under-emit-children-requires t c κs = let s = c .before .before .before .before in (omega (arith, s .pre .0), s .pre .1 .0)
+emit-under-emit-children-requires t c κs = let s = c .before .before .before .before .before .before in (omega (arith, s .pre .0), s .pre .1 .0)
 
 emit-under-returns : (t : ℕ) → emit-under-lts.Need-returns (emit-under-calls t) (emit-under-at t) emit-under.Post
 emit-under-returns t c =
-    let m = c .emit-children .ensures in let r = c .before .before .before in let l = r .before in
-    (m .0 .0, (m .1, below-both (l .left-of .ensures) (r .right-of .ensures) (m .0 .1) (m .0 .2)))
+    let m = c .emit-children .ensures in let r = c .before .before .before in let l = r .before .before in
+    (m .0 .0, (m .1, below-both (l .left .ensures .0) (r .right .ensures .0) (m .0 .1) (m .0 .2)))
 
 pub +emit-children+emit-under-spec : {M : Type 1} → statement M
 +emit-children+emit-under-spec =
@@ -151,7 +151,7 @@ pub +emit-children+emit-under-spec : {M : Type 1} → statement M
     λ t. emit-under-lts.spec (emit-under-calls t)
     (emit-under-at t)
     emit-under.Post
-    (emit-under-left-of-requires t)
-    (emit-under-right-of-requires t)
+    (emit-under-left-requires t)
+    (emit-under-right-requires t)
     (emit-under-emit-children-requires t)
     (emit-under-returns t)

@@ -7,10 +7,13 @@ use Prim.Native.Nat.{ℕ, _+_, _*_, _≤_, _<_}
 use native.Mathlib.Omega.{arith}
 use lib.ListN.{length, getD, set}
 use lib.Seq.{getD-set-other}
+use lib.Dec.{ltb}
 use Rattle.finite.specs.Laws.Bools.{either, look, clash}
 use Rattle.finite.specs.Laws.Below.{equal?}
 use Rattle.semantics.specs.Edit.{Edit}
-use Rattle.emitting.specs.State.{leftAt, rightAt, emittedRow, Emitting, ChildrenEmitted, Deep, OneEmitted, TwoEmitted}
+use Rattle.condition.specs.Bytes.{nodeAt}
+use Rattle.limits.specs.Limits.{notNo, orNo, diaNo, slotNo}
+use Rattle.emitting.specs.State.{usedChild, leftAt, rightAt, emittedRow, Emitting, ChildrenEmitted, Deep, OneEmitted, TwoEmitted}
 
 -- ---- one node
 
@@ -94,24 +97,36 @@ pub not-off : {b : Bool} → not b ≡ false → b ≡ true
 not-off {b = true} h = refl
 not-off {b = false} h = sym h
 
-there : (rows : List ℕ) {c x y : ℕ} → x ≡ y → (x < c → getD rows x 0 ≡ emittedRow) → y < c → getD rows y 0 ≡ emittedRow
-there rows {c} e h = subst (λ (m : ℕ). m < c → getD rows m 0 ≡ emittedRow) e h
+-- a field is emitted, and so is the child, where the kind uses it
+there : (rows : List ℕ) (lo hi k c i : ℕ) → (c < i → getD rows c 0 ≡ emittedRow) → usedChild lo hi k c i < i → getD rows (usedChild lo hi k c i) 0 ≡ emittedRow
+there rows lo hi k c i h =
+    either (look (ltb k lo)) (λ q. rw q (λ g. absurd (omega arith)))
+    (λ q. either (look (ltb k hi)) (λ z. rw (q, z) h) (λ z. rw (q, z) (λ g. absurd (omega arith))))
 
--- the two children of a node
-pub below-both : {s rows : List ℕ} {i l r : ℕ} → l ≡ leftAt s i → r ≡ rightAt s i → (l < i → getD rows l 0 ≡ emittedRow)
+module _ (s rows : List ℕ) (i : ℕ) where
+  left-there : {l : ℕ} → l ≡ nodeAt s i .left → (l < i → getD rows l 0 ≡ emittedRow) → leftAt s i < i → getD rows (leftAt s i) 0 ≡ emittedRow
+  unfolding leftAt
+  left-there e h = there rows notNo slotNo (nodeAt s i .kind) (nodeAt s i .left) i (subst (λ (m : ℕ). m < i → getD rows m 0 ≡ emittedRow) e h)
+
+  right-there : {r : ℕ} → r ≡ nodeAt s i .right → (r < i → getD rows r 0 ≡ emittedRow) → rightAt s i < i → getD rows (rightAt s i) 0 ≡ emittedRow
+  unfolding rightAt
+  right-there e h = there rows orNo diaNo (nodeAt s i .kind) (nodeAt s i .right) i (subst (λ (m : ℕ). m < i → getD rows m 0 ≡ emittedRow) e h)
+
+-- both children of a node
+pub below-both : {s rows : List ℕ} {i l r : ℕ} → l ≡ nodeAt s i .left → r ≡ nodeAt s i .right → (l < i → getD rows l 0 ≡ emittedRow)
     → (r < i → getD rows r 0 ≡ emittedRow) → ChildrenEmitted s rows i
-below-both {s} {rows} el er a b = record { left = there rows el a; right = there rows er b }
+below-both {s} {rows} {i} el er a b = record { left = left-there s rows i el a; right = right-there s rows i er b }
 
 module _ {s rows rows′ : List ℕ} {c : ℕ} (e : rows′ ≡ set rows c emittedRow) where
   pub one-leaf : (leftAt s c ≡ c) × (rightAt s c ≡ c) → OneEmitted s rows rows′ c (false ≡ true)
   one-leaf h = one-set e (inl (record { left = λ g. absurd (omega (arith, h .0)); right = λ g. absurd (omega (arith, h .1)) }))
 
-  pub one-waits : {l : ℕ} {left : Bool} → l ≡ leftAt s c → (left ≡ false → l < c → getD rows′ l 0 ≡ emittedRow) → rightAt s c ≡ c
+  pub one-waits : {l : ℕ} {left : Bool} → l ≡ nodeAt s c .left → (left ≡ false → l < c → getD rows′ l 0 ≡ emittedRow) → rightAt s c ≡ c
       → OneEmitted s rows rows′ c (left ≡ true)
   one-waits {l} {left} el a h =
-      one-set e (either (look left) inr (λ q. inl (record { left = there rows′ el (a q); right = λ g. absurd (omega (arith, h)) })))
+      one-set e (either (look left) inr (λ q. inl (record { left = left-there s rows′ c el (a q); right = λ g. absurd (omega (arith, h)) })))
 
-  pub two-wait : {l r : ℕ} {left right : Bool} → l ≡ leftAt s c → (left ≡ false → l < c → getD rows′ l 0 ≡ emittedRow) → r ≡ rightAt s c
+  pub two-wait : {l r : ℕ} {left right : Bool} → l ≡ nodeAt s c .left → (left ≡ false → l < c → getD rows′ l 0 ≡ emittedRow) → r ≡ nodeAt s c .right
       → (right ≡ false → r < c → getD rows′ r 0 ≡ emittedRow) → OneEmitted s rows rows′ c ((left || right) ≡ true)
   two-wait {l} {r} {left} {right} el a er b =
       one-set e (either (look left) (λ q. inr (rw q refl))

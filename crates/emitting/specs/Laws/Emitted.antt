@@ -23,9 +23,9 @@ use Rattle.blocks.specs.Spelling.{spelled, Spells, Sized, keptBy, usedBy, copyO
 use Rattle.blocks.specs.Laws.Rows.{sized-copy, copy-written}
 use Rattle.blocks.specs.Write.{put, puts, TableWritten}
 use Rattle.blocks.specs.Laws.Write.{length-puts}
-use Rattle.emitting.specs.State.{blockIn, step, stateAt, leftAt, rightAt, startOf, Numbered, imageIn, emittedRow, spellingOf, Rowed, NoneEmitted, Emittable, Stands, Emitting, lowerOf, higherOf, OneEmitted, TwoEmitted}
-use Rattle.emitting.specs.Laws.State.{state-out, block-used}
-use Rattle.emitting.specs.Laws.Numbered.{blockAt, start-more, starts-up, numbered-low, start-none, image-is, image-last, rowed-low}
+use Rattle.emitting.specs.State.{blockIn, step, stateAt, leftAt, rightAt, startOf, startIn, Numbered, imageIn, emittedRow, spellingOf, Rowed, NoneEmitted, Emittable, Stands, Emitting, lowerOf, higherOf, OneEmitted, TwoEmitted}
+use Rattle.emitting.specs.Laws.State.{state-out}
+use Rattle.emitting.specs.Laws.Numbered.{blockAt, start-more, starts-up, start-is, numbered-low, start-none, image-is, image-last, rowed-low}
 use Rattle.emitting.specs.Laws.Shapes.{leaf-alone, one-alone}
 use Rattle.emitting.specs.Laws.Deep.{one-none, one-more, two-more}
 use Rattle.emitting.specs.Laws.Puts.{puts-low, puts-high, puts-in, bytes-append}
@@ -148,35 +148,34 @@ module _ {s : List ℕ} {e : Edit} {images rows out : List ℕ} {a b : ℕ} (c :
   unfolding rightAt
   one-here h = one-alone spells-here h _ c
 
-  module _ {l r t u : ℕ} (el : l ≡ leftAt s c) (eq : r ≡ rightAt s c) (et : t ≡ imageIn images c l) (eu : u ≡ imageIn images c r) where
+  module _ {l r t u : ℕ} (el : l ≡ nodeAt s c .left) (eq : r ≡ nodeAt s c .right) (et : t ≡ imageIn images c l) (eu : u ≡ imageIn images c r) where
     block-here : spelled (record { row = row; w = p; a = a; b = b }) t u ≡ blockAt e s c
-    unfolding blockIn leftAt rightAt
+    unfolding blockIn
     block-here =
         let M : Numbered s e images c = numbered-low (Y .numbered) c (omega arith) in
         let im : List ℕ = stateAt e s c .images in
-        let k = nodeAt s c .kind in
         spells-here .right t u
-        ∙ ap₂ (λ (x y : ℕ). block e (kindOf k) (nodeAt s c .param) (old x) (old y)) (et ∙ image-is M l ∙ ap (λ (m : ℕ). getD im m 0) el) (eu ∙ image-is M r ∙ ap (λ (m : ℕ). getD im m 0) eq)
-        ∙ block-used e k (nodeAt s c .param) im (nodeAt s c .left) (nodeAt s c .right) c
+        ∙ ap₂ (λ (x y : ℕ). block e (kindOf (nodeAt s c .kind)) (nodeAt s c .param) (old x) (old y)) (et ∙ image-is M l ∙ ap (λ (m : ℕ). getD im m 0) el) (eu ∙ image-is M r ∙ ap (λ (m : ℕ). getD im m 0) eq)
 
-    -- n is the size of the block, which ends with the image m
-    module _ {n m : ℕ} (Z : Sized (record { row = row; w = p; a = a; b = b }) n) (em : m ≡ getD images c 0) where
-      ends : m + 1 ≡ startOf e s c + n
-      ends =
-          omega (arith, em, Y .numbered .imaged c (omega arith), image-last e s c, start-more e s c, Z .right t u, ap size block-here)
+    -- the block begins at number m
+    pub emitted : {m : ℕ} {rows′ out′ : List ℕ} → m ≡ startIn images c
+        → out′ ≡ puts out m 0 (emit (spelled (record { row = row; w = p; a = a; b = b }) t u) m) → rows′ ≡ set rows c emittedRow
+        → Emitting s e rows out rows′ out′ × (getD rows′ c 0 ≡ emittedRow)
+    emitted {m} {rows′} {out′} em eo e′ =
+        let at : m ≡ startOf e s c = em ∙ start-is (Y .numbered) c (omega arith) in
+        let w : out′ ≡ puts out (startOf e s c) 0 (emit (blockAt e s c) (startOf e s c)) =
+        eo ∙ ap₂ (λ (B : Block) (i : ℕ). puts out i 0 (emit B i)) block-here at in
+        let i : c < length rows = omega (arith, Y .rowed .size, Y .numbered .most) in
+        rw e′ (emitting-one s e out c out′ w rows i (Y .room), getD-set-same rows c emittedRow 0 i)
 
-      pub emitted : {rows′ out′ : List ℕ} → out′ ≡ puts out (m + 1 - n) 0 (emit (spelled (record { row = row; w = p; a = a; b = b }) t u) (m + 1 - n))
-          → rows′ ≡ set rows c emittedRow
-          → Emitting s e rows out rows′ out′ × (getD rows′ c 0 ≡ emittedRow)
-      emitted {rows′} {out′} eo e′ =
-          let at : m + 1 - n ≡ startOf e s c = omega (arith, ends) in
-          let w : out′ ≡ puts out (startOf e s c) 0 (emit (blockAt e s c) (startOf e s c)) =
-          eo ∙ ap₂ (λ (B : Block) (i : ℕ). puts out i 0 (emit B i)) block-here at in
-          let i : c < length rows = omega (arith, Y .rowed .size, Y .numbered .most) in
-          rw e′ (emitting-one s e out c out′ w rows i (Y .room), getD-set-same rows c emittedRow 0 i)
+    -- a block of one node begins with its image
+    alone : {m : ℕ} → Sized (record { row = row; w = p; a = a; b = b }) 1 → m ≡ getD images c 0 → m ≡ startIn images c
+    alone Z em =
+        omega (arith, em, Y .numbered .imaged c (omega arith), image-last e s c, start-more e s c, Z .right t u, ap size block-here, start-is (Y .numbered) c (omega arith))
 
-      pub room-before : (n ≤ m + 1) × (m + 1 ≤ 22528)
-      room-before = (omega (arith, ends), omega (arith, em, Y .numbered .imaged c (omega arith), image-last e s c, Y .numbered .few, ap (startOf e s) (add-one c)))
+pub start-small : {s : List ℕ} {e : Edit} {images rows out : List ℕ} {a b : ℕ} (c : ℕ) → Emittable s e images rows out a b (c + 1) → startIn images c ≤ 22528
+start-small {s} {e} c Y =
+    omega (arith, start-is (Y .numbered) c (omega arith), starts-up e s c (c + 1) (omega arith), Y .numbered .few)
 
 -- ---- copies, written at once
 
@@ -200,22 +199,21 @@ copy-two k p t u g h =
 module _ {s : List ℕ} {e : Edit} {images rows out : List ℕ} {a b : ℕ} (c : ℕ) (Y : Emittable s e images rows out a b (c + 1)) {row p m : ℕ}
     (er : row ≡ getD rows c 0) (ne : row ≡ emittedRow → ⊥) (ep : p ≡ nodeAt s c .param) (em : m ≡ getD images c 0) {rows′ out′ : List ℕ}
     (e′ : rows′ ≡ set rows c emittedRow) where
-  copy-emitted : {t u : ℕ} (x : Node) → row < kinds → x ≡ copyOf row p t u → t ≡ imageIn images c (leftAt s c) → u ≡ imageIn images c (rightAt s c)
+  copy-emitted : {t u : ℕ} (x : Node) → row < kinds → x ≡ copyOf row p t u → t ≡ imageIn images c (nodeAt s c .left) → u ≡ imageIn images c (nodeAt s c .right)
       → out′ ≡ put out m x → Emitting s e rows out rows′ out′ × (getD rows′ c 0 ≡ emittedRow)
   copy-emitted {t} {u} x h ex et eu eo =
       let y : Spelling = record { row = row; w = p; a = a; b = b } in
-      let z : m + 1 - 1 ≡ m = omega arith in
-      emitted c Y er ne ep refl refl et eu (sized-copy y h) em (rw z (copy-written out y t u m h (eo ∙ ap (put out m) ex))) e′
+      emitted c Y er ne ep refl refl et eu (alone c Y er ne ep refl refl et eu (sized-copy y h) em) (copy-written out y t u m h (eo ∙ ap (put out m) ex)) e′
 
   pub emitted-leaf : row < notNo → out′ ≡ put out m (record { kind = row; param = p; left = 0; right = 0 })
       → Emitting s e rows out rows′ out′ × (getD rows′ c 0 ≡ emittedRow)
   emitted-leaf h eo = copy-emitted _ (omega arith) (copy-leaf row p _ _ h) refl refl eo
 
-  pub emitted-one : {l t : ℕ} → (diaNo ≤ row) × (row < slotNo) → l ≡ leftAt s c → t ≡ imageIn images c l
+  pub emitted-one : {l t : ℕ} → (diaNo ≤ row) × (row < slotNo) → l ≡ nodeAt s c .left → t ≡ imageIn images c l
       → out′ ≡ put out m (record { kind = row; param = p; left = t; right = 0 }) → Emitting s e rows out rows′ out′ × (getD rows′ c 0 ≡ emittedRow)
   emitted-one {l} {t} h el et eo = copy-emitted _ (omega arith) (copy-one row p t _ (h .0) (h .1)) (et ∙ ap (imageIn images c) el) refl eo
 
-  pub emitted-two : {l t r u : ℕ} → (orNo ≤ row) × (row < diaNo) → l ≡ leftAt s c → t ≡ imageIn images c l → r ≡ rightAt s c → u ≡ imageIn images c r
+  pub emitted-two : {l t r u : ℕ} → (orNo ≤ row) × (row < diaNo) → l ≡ nodeAt s c .left → t ≡ imageIn images c l → r ≡ nodeAt s c .right → u ≡ imageIn images c r
       → out′ ≡ put out m (record { kind = row; param = 0; left = t; right = u }) → Emitting s e rows out rows′ out′ × (getD rows′ c 0 ≡ emittedRow)
   emitted-two {l} {t} {r} {u} h el et eq eu eo =
       copy-emitted _ (omega arith) (copy-two row p t u (h .0) (h .1)) (et ∙ ap (imageIn images c) el) (eu ∙ ap (imageIn images c) eq) eo

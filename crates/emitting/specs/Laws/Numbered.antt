@@ -19,7 +19,7 @@ use Rattle.condition.specs.Bytes.{nodeAt}
 use Rattle.limits.specs.Limits.{tableNodes}
 use Rattle.blocks.specs.declared.Spelling.{Spelling}
 use Rattle.blocks.specs.Spelling.{firstOf, secondOf, Spells, Sized}
-use Rattle.emitting.specs.State.{blockIn, step, stateAt, imageOf, startOf, Numbered, imageIn, emittedRow, spellingOf, Rowed, NoneEmitted}
+use Rattle.emitting.specs.State.{blockIn, step, stateAt, imageOf, startOf, startIn, Numbered, imageIn, emittedRow, spellingOf, Rowed, NoneEmitted}
 use Rattle.emitting.specs.Laws.State.{images-length, image-at}
 use Rattle.emitting.specs.Laws.Sizes.{block-some}
 
@@ -105,6 +105,22 @@ module _ {s : List ℕ} {e : Edit} {images : List ℕ} {n : ℕ} (N : Numbered s
 pub ended : {s : List ℕ} {e : Edit} {images : List ℕ} {i n next : ℕ} → i ≡ n → Numbered s e images i → next ≡ startOf e s i
     → Numbered s e images n × (next ≡ startOf e s n)
 ended {s} {e} {images} {i} {n} {next} q N h = subst (λ (m : ℕ). Numbered s e images m × (next ≡ startOf e s m)) q (N, h)
+
+-- ---- starts by images
+
+pub start-is : {s : List ℕ} {e : Edit} {images : List ℕ} {n : ℕ} → Numbered s e images n → (c : ℕ) → c ≤ n → startIn images c ≡ startOf e s c
+unfolding startIn
+start-is {s} {e} N zero h = start-none e s
+start-is {s} {e} N (suc c) h = omega (arith, N .imaged c h, image-last e s c)
+
+pub start-after : (images : List ℕ) (c : ℕ) {v : ℕ} → 1 ≤ c → v ≡ getD images (c - 1) 0 → v + 1 ≡ startIn images c
+unfolding startIn
+start-after images zero h e = absurd (omega arith)
+start-after images (suc c) h e = let z : suc c - 1 ≡ c = omega arith in ap (λ (m : ℕ). m + 1) (e ∙ ap (λ (m : ℕ). getD images m 0) z)
+
+pub start-first : (images : List ℕ) {c : ℕ} → c < 1 → 0 ≡ startIn images c
+unfolding startIn
+start-first images {c} h = let z : c ≡ 0 = omega arith in rw z refl
 
 -- ---- rows
 

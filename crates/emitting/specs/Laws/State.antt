@@ -1,5 +1,5 @@
 -- Laws of the states of rewriting for one edit, and of a node's children.
-use mathlib.Core.Path.{_≡_, refl, sym, _∙_, ap, ap₂}
+use mathlib.Core.Path.{_≡_, refl, sym, _∙_, ap}
 use mathlib.Core.List.{List, [], _∷_, _++_}
 use Prim.Native.Nat.{ℕ, zero, suc, _≤_, _<_}
 use native.Mathlib.Omega.{arith}
@@ -9,8 +9,8 @@ use lib.ListN.{length, getD, length-append, List·getD-append}
 use Rattle.finite.specs.Laws.Bools.{either}
 use Rattle.finite.specs.Laws.Below.{equal?}
 use Rattle.semantics.specs.Edit.{Edit}
-use Rattle.semantics.specs.Table.{kNot, kDia, kBox, kMu, kNu, Kind, leaf, unary, binary, kindOf, Node}
-use Rattle.semantics.specs.Block.{old, block, rewrite, rewriteTable}
+use Rattle.semantics.specs.Table.{Kind, leaf, unary, binary, kindOf, Node}
+use Rattle.semantics.specs.Block.{rewrite, rewriteTable}
 use Rattle.condition.specs.Bytes.{nodeAt, nodes}
 use Rattle.condition.specs.Laws.Bytes.{nodes-more}
 use Rattle.condition.specs.Laws.Limits.{each-kind, kind-past}
@@ -78,23 +78,3 @@ unfolding kindOf rightBy
 right-used r i =
     each-kind _ refl refl refl refl refl refl refl refl refl refl refl refl
     (λ k h. rw (kind-past k h, le-ltb k 6 (omega arith), le-ltb k 8 (omega arith)) refl)
-
-block-by : (e : Edit) (K : Kind) (p : ℕ) (images : List ℕ) (l r i : ℕ) → block e K p (old (getD images (leftBy K l i) 0)) (old (getD images (rightBy K r i) 0)) ≡ block e K p (old (getD images l 0)) (old (getD images r 0))
-unfolding block leftBy rightBy
-block-by e (leaf k) p images l r i = refl
-block-by e (unary kNot) p images l r i = refl
-block-by e (unary kDia) p images l r i = refl
-block-by e (unary kBox) p images l r i = refl
-block-by e (unary kMu) p images l r i = refl
-block-by e (unary kNu) p images l r i = refl
-block-by e (binary k) p images l r i = refl
-
--- a child by the fields that were read
-pub used : (lo hi i : ℕ) {k k′ c c′ r : ℕ} → k ≡ k′ → c ≡ c′ → r ≡ usedChild lo hi k c i → r ≡ usedChild lo hi k′ c′ i
-used lo hi i e f h = h ∙ ap₂ (λ (k c : ℕ). usedChild lo hi k c i) e f
-
--- a block reads the images of the used children alone
-pub block-used : (e : Edit) (k p : ℕ) (images : List ℕ) (l r i : ℕ)
-    → block e (kindOf k) p (old (getD images (usedChild notNo slotNo k l i) 0)) (old (getD images (usedChild orNo diaNo k r i) 0))
-    ≡ block e (kindOf k) p (old (getD images l 0)) (old (getD images r 0))
-block-used e k p images l r i = rw (← left-used l i k, ← right-used r i k) (block-by e (kindOf k) p images l r i)
