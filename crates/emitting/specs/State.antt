@@ -11,8 +11,8 @@ use Rattle.semantics.specs.Edit.{Edit, CN1, CN2, AP, DP, AT, DT1, DT2, AS, DS}
 use Rattle.semantics.specs.Block.{Block, old, block, root, emit}
 use Rattle.condition.specs.Bytes.{nodeAt, bytesOf}
 use Rattle.limits.specs.Limits.{tableNodes, tableBytes, hereNo, labelNo, nameNo, varNo, notNo, orNo, diaNo, muNo, slotNo}
-use Rattle.blocks.specs.declared.Spelling.{Spelling}
-use Rattle.blocks.specs.Spelling.{Spells, firstOf, secondOf}
+use Rattle.spelling.specs.declared.Spelling.{Spelling}
+use Rattle.spelling.specs.Spelling.{Spells, firstOf, secondOf}
 
 pub record State : Type 0 where
   pub images : List ℕ

@@ -1,6 +1,5 @@
 // A table of nodes rewritten through one edit: a first pass gives each block its number, a second writes the blocks, by recursion on children.
 // docs/SPEC.md, "Rewriting".
-use blocks::Spelling;
 use blocks::put_node;
 use blocks::size;
 use blocks::write;
@@ -24,6 +23,7 @@ use limits::TABLE_NODES;
 use limits::TRUE;
 use limits::VAR;
 use sheet::Op;
+use spelling::Spelling;
 ghost use mathlib.Core.Path.{_≡_};
 ghost use mathlib.Core.Bool.{true, false};
 ghost use Prim.Native.Nat.{_+_, _*_, _-_, _≤_, _<_};
@@ -33,7 +33,7 @@ ghost use Rattle.semantics.specs.Block.{rewriteTable};
 ghost use Rattle.condition.specs.Bytes.{nodes};
 ghost use Rattle.sheet.specs.Bytes.{editOf};
 ghost use Rattle.limits.specs.Limits.{tableNodes, tableBytes, orNo, diaNo, slotNo};
-ghost use Rattle.blocks.specs.Spelling.{firstOf, secondOf, Spells};
+ghost use Rattle.spelling.specs.Spelling.{firstOf, secondOf, Spells};
 ghost use Rattle.blocks.specs.Write.{TableWritten};
 ghost use Rattle.emitting.specs.State.{startOf, startIn, Numbered, imageIn, emittedRow, spellingOf, firstKind, endKind, Rowed, NoneEmitted, Emittable, Emitting, Deep, ChildrenEmitted, OneEmitted, TwoEmitted, lowerOf, higherOf};
 
@@ -134,7 +134,7 @@ fn row_of(e: Op, from: u8, to: u8, kind: u8, w: u8) -> u8
             return kind;
         }
     }
-    let s = blocks::spell(e, kind, w);
+    let s = spelling::spell(e, kind, w);
     s.row
 }
 
@@ -417,7 +417,7 @@ pub fn rewrite(
     ensures { λ r. ⌜ (r ≡ length (rewriteTable (editOf e) (nodes (now (table .entry)) n))) × TableWritten (now (out .exit)) (rewriteTable (editOf e) (nodes (now (table .entry)) n)) × (r ≤ 22528) ⌝ }
     ensures { λ _. ⌜ (length (now (images .exit)) ≡ tableNodes) × (length (now (rows .exit)) ≡ tableNodes) × (length (now (out .exit)) ≡ tableBytes) ⌝ }
 {
-    let s = blocks::spell(e, TRUE, 0);
+    let s = spelling::spell(e, TRUE, 0);
     let made = number(table, n, e, s.a, s.b, images, rows);
     emit_down(table, images, rows, out, e, s.a, s.b, n);
     made

@@ -8,9 +8,9 @@ use Rattle.semantics.specs.Table.{kindOf}
 use Rattle.semantics.specs.Block.{old, change, blockDia, blockBox, blockLeaf, block}
 use Rattle.condition.specs.Laws.Limits.{each-kind}
 use Rattle.limits.specs.Limits.{kinds}
-use Rattle.blocks.specs.Rows.{copies, rows}
-use Rattle.blocks.specs.declared.Spelling.{Spelling}
-use Rattle.blocks.specs.Spelling.{firstOf, secondOf, spelled, Spells}
+use Rattle.spelling.specs.Rows.{copies, rows}
+use Rattle.spelling.specs.declared.Spelling.{Spelling}
+use Rattle.spelling.specs.Spelling.{firstOf, secondOf, spelled, Spells}
 use Rattle.emitting.specs.State.{spellingOf, firstKind, endKind}
 
 -- kind k is not one of those that edit e changes, and is known

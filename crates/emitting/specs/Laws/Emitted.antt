@@ -17,9 +17,9 @@ use Rattle.semantics.specs.Laws.Emit.{emit-length}
 use Rattle.condition.specs.Bytes.{nodeAt, nodes, bytesOf}
 use Rattle.condition.specs.Laws.Bytes.{length-bytes}
 use Rattle.limits.specs.Limits.{tableNodes, tableBytes, notNo, orNo, diaNo, slotNo, kinds}
-use Rattle.blocks.specs.declared.Spelling.{Spelling}
-use Rattle.blocks.specs.Rows.{rowCount}
-use Rattle.blocks.specs.Spelling.{spelled, Spells, Sized, keptBy, usedBy, copyOf}
+use Rattle.spelling.specs.declared.Spelling.{Spelling}
+use Rattle.spelling.specs.Rows.{rowCount}
+use Rattle.spelling.specs.Spelling.{spelled, Spells, Sized, keptBy, usedBy, copyOf}
 use Rattle.blocks.specs.Laws.Rows.{sized-copy, copy-written}
 use Rattle.blocks.specs.Write.{put, puts, TableWritten}
 use Rattle.blocks.specs.Laws.Write.{length-puts}

@@ -3,9 +3,9 @@ use mathlib.Core.Path.{_∙_, sym}
 use native.Mathlib.Omega.{arith}
 use Rattle.finite.specs.Laws.Below.{eq-same, ne-same}
 use Rattle.finite.specs.Tests.{same}
-use Rattle.blocks.specs.Spelling.{wayRow}
-use Rattle.blocks.proofs.way_row.Statement.{statement}
-use Rattle.blocks.proofs.way_row.Tie as tie
+use Rattle.spelling.specs.Spelling.{wayRow}
+use Rattle.spelling.proofs.way_row.Statement.{statement}
+use Rattle.spelling.proofs.way_row.Tie as tie
 
 add-on-way : tie.Need-add-on-way
 add-on-way c = omega arith

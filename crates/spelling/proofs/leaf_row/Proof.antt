@@ -1,9 +1,9 @@
 -- The row of a leaf.
 use mathlib.Core.Path.{refl}
 use Rattle.finite.specs.Tests.{same}
-use Rattle.blocks.specs.Spelling.{leafRow}
-use Rattle.blocks.proofs.leaf_row.Statement.{statement}
-use Rattle.blocks.proofs.leaf_row.Tie as tie
+use Rattle.spelling.specs.Spelling.{leafRow}
+use Rattle.spelling.proofs.leaf_row.Statement.{statement}
+use Rattle.spelling.proofs.leaf_row.Tie as tie
 
 returns : tie.Need-returns
 unfolding leafRow same

@@ -1,8 +1,8 @@
 -- The spelling of a block, edit by edit.
 use native.Mathlib.Omega.{arith}
-use Rattle.blocks.specs.Laws.Spelling.{spells-by}
-use Rattle.blocks.proofs.spell.Statement.{statement}
-use Rattle.blocks.proofs.spell.Tie as tie
+use Rattle.spelling.specs.Laws.Spelling.{spells-by}
+use Rattle.spelling.proofs.spell.Statement.{statement}
+use Rattle.spelling.proofs.spell.Tie as tie
 
 pub spell-spec : {M : Type 1} → statement M
 spell-spec =

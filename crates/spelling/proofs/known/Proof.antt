@@ -2,9 +2,9 @@
 use Prim.Native.Nat.{_≤_, _<_}
 use native.Mathlib.Omega.{arith}
 use Rattle.finite.specs.Laws.Below.{below-in, below-not}
-use Rattle.blocks.specs.Spelling.{knownKind}
-use Rattle.blocks.proofs.known.Statement.{statement}
-use Rattle.blocks.proofs.known.Tie as tie
+use Rattle.spelling.specs.Spelling.{knownKind}
+use Rattle.spelling.proofs.known.Statement.{statement}
+use Rattle.spelling.proofs.known.Tie as tie
 
 returns : tie.Need-returns
 unfolding knownKind

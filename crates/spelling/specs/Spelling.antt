@@ -10,8 +10,8 @@ use Rattle.semantics.specs.Form.{Way, along, against, every}
 use Rattle.semantics.specs.Edit.{Edit, CN1, CN2, AP, DP, AT, DT1, DT2, AS, DS}
 use Rattle.semantics.specs.Table.{kindOf, wayOf, Node}
 use Rattle.semantics.specs.Block.{Block, old, size, block}
-use Rattle.blocks.specs.declared.Spelling.{Spelling}
-use Rattle.blocks.specs.Rows.{copyCount, rowCount, copies, rows}
+use Rattle.spelling.specs.declared.Spelling.{Spelling}
+use Rattle.spelling.specs.Rows.{copyCount, rowCount, copies, rows}
 
 -- the numbers a and b of an edit's rows
 abbrev pub firstOf : Edit → ℕ

@@ -1,9 +1,9 @@
 -- The row for DS.
 use Rattle.finite.specs.Tests.{same, below}
 use Rattle.finite.specs.Laws.Below.{eq-same, ne-same}
-use Rattle.blocks.specs.Spelling.{dsRow}
-use Rattle.blocks.proofs.ds_row.Statement.{statement}
-use Rattle.blocks.proofs.ds_row.Tie as tie
+use Rattle.spelling.specs.Spelling.{dsRow}
+use Rattle.spelling.proofs.ds_row.Statement.{statement}
+use Rattle.spelling.proofs.ds_row.Tie as tie
 
 returns : tie.Need-returns
 unfolding dsRow

@@ -1,8 +1,8 @@
 -- The row for AS.
 use Rattle.finite.specs.Laws.Below.{eq-same, ne-same}
-use Rattle.blocks.specs.Spelling.{asRow}
-use Rattle.blocks.proofs.as_row.Statement.{statement}
-use Rattle.blocks.proofs.as_row.Tie as tie
+use Rattle.spelling.specs.Spelling.{asRow}
+use Rattle.spelling.proofs.as_row.Statement.{statement}
+use Rattle.spelling.proofs.as_row.Tie as tie
 
 returns : tie.Need-returns
 unfolding asRow

@@ -1,10 +1,10 @@
 -- A row on a way and on its reverse.
 use Rattle.finite.specs.Laws.Below.{eq-same, ne-same}
 use Rattle.semantics.specs.Laws.Ways.{way-along}
-use Rattle.blocks.specs.Spelling.{onWay}
-use Rattle.blocks.specs.Laws.Spelling.{way-reverse, way-every}
-use Rattle.blocks.proofs.on_way.Statement.{statement}
-use Rattle.blocks.proofs.on_way.Tie as tie
+use Rattle.spelling.specs.Spelling.{onWay}
+use Rattle.spelling.specs.Laws.Spelling.{way-reverse, way-every}
+use Rattle.spelling.proofs.on_way.Statement.{statement}
+use Rattle.spelling.proofs.on_way.Tie as tie
 
 returns : tie.Need-returns
 unfolding onWay

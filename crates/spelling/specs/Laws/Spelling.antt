@@ -18,9 +18,9 @@ use Rattle.semantics.specs.Laws.Ways.{way-along}
 use Rattle.condition.specs.Laws.Limits.{each-kind, kind-past}
 use Rattle.sheet.specs.declared.Op.{Op}
 use Rattle.sheet.specs.Bytes.{editOf}
-use Rattle.blocks.specs.declared.Spelling.{Spelling}
-use Rattle.blocks.specs.Rows.{copyCount, rowCount, copies, rows}
-use Rattle.blocks.specs.Spelling.{spelled, Spells, knownKind, onWay, leafRow, wayRow, asRow, dsRow, rowOf, firstOf, secondOf}
+use Rattle.spelling.specs.declared.Spelling.{Spelling}
+use Rattle.spelling.specs.Rows.{copyCount, rowCount, copies, rows}
+use Rattle.spelling.specs.Spelling.{spelled, Spells, knownKind, onWay, leafRow, wayRow, asRow, dsRow, rowOf, firstOf, secondOf}
 
 -- ---- ways by their numbers, and what an edit does by each
 
