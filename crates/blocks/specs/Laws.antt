@@ -2,4 +2,3 @@
 pub mod Keys
 pub mod Write
 pub mod Rows
-pub mod Spelling

@@ -1,6 +1,5 @@
--- Blocks as rows, written into the buffer of a rewritten table.
-pub mod Rows
-pub mod Spelling
+-- The rows of blocks as texts, written into the buffer of a rewritten table.
+pub mod Texts
 pub mod Write
 -- what is proved of them
 pub mod Laws

@@ -10,15 +10,15 @@ use Rattle.limits.specs.Limits.{nodeSize}
 use Rattle.semantics.specs.Table.{Node}
 use Rattle.condition.specs.Bytes.{nodeBytes, bytesOf}
 
--- the node x written at place i
+-- the node x written at number i
 unfoldable pub put : List ℕ → ℕ → Node → List ℕ
 put o i x = cond (below (length o) (nodeSize * i + nodeSize)) o (sets o (nodeSize * i) (nodeBytes x))
 
--- nodes written from place at + j on
+-- nodes written from number at + j on
 unfoldable pub puts : List ℕ → ℕ → ℕ → List Node → List ℕ
 puts o at j [] = o
 puts o at j (x ∷ xs) = puts (put o (at + j) x) at (suc j) xs
 
 -- the buffer starts with these nodes, where there is room for them
-unfoldable pub Written : List ℕ → List Node → Type 0
-Written o xs = nodeSize * length xs ≤ length o → take (nodeSize * length xs) o ≡ bytesOf xs
+unfoldable pub TableWritten : List ℕ → List Node → Type 0
+TableWritten o xs = nodeSize * length xs ≤ length o → take (nodeSize * length xs) o ≡ bytesOf xs

@@ -1,176 +1,24 @@
-// Blocks as rows: a node's block is spelled first, as a row of a table and the numbers that the row refers to, and then written. Document 01,
-// "Rewriting".
+// Blocks by their spellings: how many nodes one has, and its nodes written into a table. docs/SPEC.md, "Rewriting".
 use buffer::wide;
-use limits::BOX;
 use limits::DIA;
 use limits::EVERY;
-use limits::HERE;
-use limits::LABEL;
 use limits::LINKS;
-use limits::NAME;
 use limits::NODE_BYTES;
 use limits::NOT;
 use limits::OR;
 use limits::SLOT;
-use sheet::Op;
+use spelling::AT_WAYS;
+use spelling::Spelling;
 ghost use mathlib.Core.Path.{_≡_};
-ghost use mathlib.Core.Bool.{true};
 ghost use Prim.Native.Nat.{_/_, _%_, _≤_, _<_};
-ghost use Rattle.semantics.specs.Edit.{legal};
-ghost use Rattle.semantics.specs.Table.{wayOf};
 ghost use Rattle.semantics.specs.Block.{emit};
-ghost use Rattle.sheet.specs.Bytes.{editOf};
-ghost use Rattle.blocks.specs.Rows.{copyCount, rowCount, textAt, groupIn, nodeOf, childOf, decode};
-ghost use Rattle.blocks.specs.Spelling.{paramsOf, rowSpelled, spelled, Spells, Sized, keptBy, usedBy, copyOf, knownKind, onWay, leafRow, wayRow, asRow, dsRow};
+ghost use Rattle.spelling.specs.Rows.{copyCount, rowCount};
+ghost use Rattle.spelling.specs.Spelling.{paramsOf, rowSpelled, spelled, Sized, keptBy, usedBy, copyOf};
+ghost use Rattle.blocks.specs.Texts.{textAt, groupIn, nodeOf, childOf, decode};
 ghost use Rattle.blocks.specs.Write.{put, puts};
-
-// The spelling of a block: a row of the table, the old node's parameter w, and the numbers a and b, which the edit gives.
-pub struct Spelling {
-    pub row: u8,
-    pub w: u8,
-    pub a: u8,
-    pub b: u8,
-}
 
 // How many rows copy a node: one for each kind, which has the kind's number.
 const COPIES: u8 = SLOT + 1;
-
-// The rows that edits choose. Of the rows for ways the first is given; then come the box, and the two for the reverse way.
-const CN1_NAME: u8 = 13;
-
-const AS_NAME: u8 = 14;
-
-const CN2_NAME: u8 = 15;
-
-const AP_LABEL: u8 = 16;
-
-const DP_LABEL: u8 = 17;
-
-const AS_HERE: u8 = 18;
-
-const DS_HERE: u8 = 19;
-
-const DS_NAME: u8 = 20;
-
-const AT_WAYS: u8 = 21;
-
-const DT1_WAYS: u8 = 25;
-
-const DT2_WAYS: u8 = 29;
-
-const DS_DIA: u8 = 33;
-
-const DS_BOX: u8 = 34;
-
-// A kind that is known: one above 12 is read as 12. Its row is the one that copies the node.
-fn known(kind: u8) -> u8
-    ensures { λ r. ⌜ r ≡ knownKind kind ⌝ }
-{
-    if kind < SLOT {
-        return kind;
-    }
-    SLOT
-}
-
-// The row x on way m, y on its reverse, and z on any other way.
-fn on_way(w: u8, m: u8, x: u8, y: u8, z: u8) -> u8
-    ensures { λ r. ⌜ r ≡ onWay (wayOf w) m x y z ⌝ }
-{
-    if w < LINKS {
-        if w == m {
-            return x;
-        }
-        return z;
-    }
-    if w < EVERY {
-        if w - LINKS == m {
-            return y;
-        }
-    }
-    z
-}
-
-// The row of a node of this kind and parameter: of an edit that changes the leaf k with parameter n,
-fn leaf_row(kind: u8, param: u8, k: u8, n: u8, row: u8) -> u8
-    ensures { λ r. ⌜ r ≡ leafRow kind param k n row ⌝ }
-{
-    if (kind == k) & (param == n) {
-        return row;
-    }
-    kind
-}
-
-// of an edit that changes way m,
-fn way_row(kind: u8, param: u8, m: u8, first: u8) -> u8
-    requires { ⌜ first < 240 ⌝ }
-    ensures { λ r. ⌜ r ≡ wayRow kind param m first ⌝ }
-{
-    if kind == DIA {
-        return on_way(param, m, first, first + 2, DIA);
-    }
-    if kind == BOX {
-        return on_way(param, m, first + 1, first + 3, BOX);
-    }
-    kind
-}
-
-// of AS,
-fn as_row(kind: u8, param: u8, n: u8) -> u8
-    ensures { λ r. ⌜ r ≡ asRow kind param n ⌝ }
-{
-    if kind == HERE {
-        return AS_HERE;
-    }
-    leaf_row(kind, param, NAME, n, AS_NAME)
-}
-
-// and of DS.
-fn ds_row(kind: u8, param: u8) -> u8
-    ensures { λ r. ⌜ r ≡ dsRow kind param ⌝ }
-{
-    if kind == HERE {
-        return DS_HERE;
-    }
-    if kind == LABEL {
-        return DP_LABEL;
-    }
-    if (kind == NAME) & (param != 0) {
-        return DS_NAME;
-    }
-    if (kind == DIA) & (param < EVERY) {
-        return DS_DIA;
-    }
-    if (kind == BOX) & (param < EVERY) {
-        return DS_BOX;
-    }
-    kind
-}
-
-// A row, with the numbers that it refers to.
-fn by_row(row: u8, w: u8, a: u8, b: u8) -> Spelling
-    ensures { λ r. ⌜ r ≡ record { row = row; w = w; a = a; b = b } ⌝ }
-{
-    Spelling { row, w, a, b }
-}
-
-// The spelling of the block of a node with this kind and parameter, whatever its children. Each edit has rows of its own, and gives a and b.
-pub fn spell(e: Op, kind: u8, param: u8) -> Spelling
-    requires { ⌜ legal (editOf e) ≡ true ⌝ }
-    ensures { λ r. ⌜ Spells (editOf e) kind param r ⌝ }
-{
-    let k = known(kind);
-    match e {
-        Op::Cn1(n1, n2) => by_row(leaf_row(k, param, NAME, n1, CN1_NAME), param, n2, 0),
-        Op::Cn2(n1, n2, f) => by_row(leaf_row(k, param, NAME, n1, CN2_NAME), param, n2, f),
-        Op::Ap(n, p) => by_row(leaf_row(k, param, LABEL, p, AP_LABEL), param, n, 0),
-        Op::Dp(n, p) => by_row(leaf_row(k, param, LABEL, p, DP_LABEL), param, n, 0),
-        Op::At(m, n1, n2) => by_row(way_row(k, param, m, AT_WAYS), param, n1, n2),
-        Op::Dt1(m, n1, n2) => by_row(way_row(k, param, m, DT1_WAYS), param, n1, n2),
-        Op::Dt2(f, n) => by_row(way_row(k, param, f, DT2_WAYS), param, n, 0),
-        Op::As(n, slot) => by_row(as_row(k, param, n), param, slot, 0),
-        Op::Ds(n) => by_row(ds_row(k, param), param, n, 0),
-    }
-}
 
 // The texts of the rows that do not copy, twelve groups of four hexadecimal digits: how many nodes there are, and then for each node its kind, its
 // parameter, its left child and its right child. Parameters: 1 is w, 2 is a, 3 is b, 4 is the reverse of the way b, 5 is E. Children: 1 is the first
@@ -331,7 +179,7 @@ fn high(x: usize) -> u8
     (x / 256) as u8
 }
 
-// Writes one node at place i, where there is room for it.
+// Writes one node at number i, where there is room for it.
 pub fn put_node(out: &mut [u8], i: usize, kind: u8, param: u8, left: usize, right: usize)
     requires { ⌜ (i < 65536) × (left < 65536) × (right < 65536) ⌝ }
     ensures { λ _. ⌜ now (out .exit) ≡ put (now (out .entry)) i (record { kind = kind; param = param; left = left; right = right }) ⌝ }
@@ -378,7 +226,7 @@ fn within(kind: u8, lo: u8, hi: u8, x: usize) -> usize
     0
 }
 
-// Writes a copy of a node at place i.
+// Writes a copy of a node at number i.
 fn write_copy(out: &mut [u8], i: usize, kind: u8, param: u8, t: usize, u: usize)
     requires { ⌜ (kind < copyCount) × (i < 65536) × (t < 65536) × (u < 65536) ⌝ }
     ensures { λ _. ⌜ now (out .exit) ≡ put (now (out .entry)) i (copyOf kind param t u) ⌝ }
@@ -411,7 +259,7 @@ fn child(c: usize, at: usize, t: usize) -> usize
     t
 }
 
-// Writes the node of group g at place i, where the block begins at number at.
+// Writes the node of group g at number i, where the block begins at number at.
 fn put_group(out: &mut [u8], i: usize, g: usize, ps: [u8; 8], at: usize, t: usize)
     requires { ⌜ (i < 65536) × (g < 65536) × (at < 60000) × (t < 60000) ⌝ }
     ensures { λ _. ⌜ now (out .exit) ≡ put (now (out .entry)) i (decode ps at t (nodeOf g)) ⌝ }

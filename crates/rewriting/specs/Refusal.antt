@@ -1,4 +1,4 @@
--- Item 14 of document 01, "Reasons for sending a job back".
+-- Item 14 of docs/SPEC.md, "Reasons".
 use mathlib.Core.List.{List, [], _∷_}
 use mathlib.Core.Bool.{Bool, false, _||_, cond}
 use lib.ListN.{length}

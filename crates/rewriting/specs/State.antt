@@ -1,10 +1,12 @@
 -- How far rewriting through a sheet has come.
 use mathlib.Core.Path.{_≡_}
-use mathlib.Core.List.{List}
+use mathlib.Core.List.{List, _++_}
 use mathlib.Core.Bool.{true, false}
-use Prim.Native.Nat.{ℕ, _*_, _≤_, _<_}
-use lib.ListN.{length, take}
-use Rattle.limits.specs.Limits.{tableNodes}
+use Prim.Native.Nat.{ℕ, _*_, _-_, _≤_, _<_}
+use lib.ListN.{length, take, replicate}
+use Rattle.limits.specs.Limits.{tableNodes, tableBytes}
+use Rattle.verdict.specs.declared.Verdict.{Verdict}
+use Rattle.verdict.specs.declared.Verdict.the-variants.{Accepted, Refused}
 use Rattle.semantics.specs.Table.{Node}
 use Rattle.semantics.specs.Edit.{Edit}
 use Rattle.semantics.specs.Block.{rewriteSheet}
@@ -16,3 +18,8 @@ pub record Passed (es : List Edit) (xs : List Node) (o : List ℕ) (r : ℕ) : T
   pub right : tooLong es xs ≡ false
       → (r ≡ length (rewriteSheet es xs)) × (r ≤ tableNodes) × (take (6 * length (rewriteSheet es xs)) o ≡ bytesOf (rewriteSheet es xs))
   pub long : tooLong es xs ≡ true → tableNodes < r
+
+-- the verdict v, the node count n and the result (as it was, and as it is: ′) after edits that made a table of so many nodes
+pub record Finished (work : List ℕ) (made : ℕ) (result result′ : List ℕ) (v : Verdict) (n : ℕ) : Type 0 where
+  pub long : tableNodes < made → (v ≡ Refused 14 0) × (n ≡ 0) × (result′ ≡ replicate (length result) 0)
+  pub short : made ≤ tableNodes → (v ≡ Accepted) × (n ≡ made) × (result′ ≡ take (6 * made) work ++ replicate (tableBytes - 6 * made) 0)

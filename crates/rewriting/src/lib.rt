@@ -1,4 +1,4 @@
-// A table of nodes rewritten through a sheet of edits, the last one first. Document 01, "Rewriting", and item 14.
+// A table of nodes rewritten through a sheet of edits, the last one first. docs/SPEC.md, "Rewriting", and item 14 of "Reasons".
 use buffer::copy;
 use limits::NODE_BYTES;
 use limits::TABLE_BYTES;
@@ -14,7 +14,7 @@ ghost use Rattle.semantics.specs.Edit.{sheetLegal};
 ghost use Rattle.condition.specs.Bytes.{nodes};
 ghost use Rattle.sheet.specs.Bytes.{editsOf};
 ghost use Rattle.limits.specs.Limits.{tableNodes, tableBytes};
-ghost use Rattle.rewriting.specs.State.{Passed};
+ghost use Rattle.rewriting.specs.State.{Passed, Finished};
 ghost use Rattle.rewriting.specs.Answer.{verdictOf, nodesOf};
 ghost use Rattle.rewriting.specs.Rewriting.{Rewrote};
 
@@ -49,7 +49,7 @@ fn passes(
         let next = done + 1;
         let last = edits - next;
         let e = sheet::edit_at(sheet, last);
-        let made = placing::rewrite(table, count, e, images, rows, spare);
+        let made = emitting::rewrite(table, count, e, images, rows, spare);
         if TABLE_NODES < made {
             return made;
         }
@@ -64,6 +64,20 @@ fn passes(
 pub enum Rewriting {
     Rewritten(u32),
     Refused(u8, u16),
+}
+
+// The answer after all edits: a table of so many nodes, copied into result with zeros after it; or zeros alone where it is too long.
+fn finish(result: &mut [u8], work: &[u8; TABLE_BYTES], made: usize) -> Rewriting
+    requires { ⌜ (length (now result) ≡ tableBytes) × (length (now work) ≡ tableBytes) ⌝ }
+    ensures { λ r. ⌜ Finished (now (work .entry)) made (now (result .entry)) (now (result .exit)) (verdictOf r) (nodesOf r) ⌝ }
+{
+    if TABLE_NODES < made {
+        buffer::zero(result);
+        return Rewriting::Refused(14, 0);
+    }
+    copy(result, work, NODE_BYTES * made);
+    clear_from(result, NODE_BYTES * made);
+    Rewriting::Rewritten(made as u32)
 }
 
 // A table rewritten for a sheet, with two tables, images and rows to work on, whatever they hold.
@@ -84,13 +98,7 @@ fn rewrite_with(
     copy(work, table, table.len());
     let n = table.len() / NODE_BYTES;
     let made = passes(sheet, n, work, spare, images, rows);
-    if TABLE_NODES < made {
-        buffer::zero(result);
-        return Rewriting::Refused(14, 0);
-    }
-    copy(result, work, NODE_BYTES * made);
-    clear_from(result, NODE_BYTES * made);
-    Rewriting::Rewritten(made as u32)
+    finish(result, work, made)
 }
 
 fn no_table() -> [u8; TABLE_BYTES]

@@ -1,7 +1,7 @@
 -- A child by its digit.
 use native.Mathlib.Omega.{arith}
 use Rattle.finite.specs.Laws.Below.{eq-same, ne-same, below-in, below-not}
-use Rattle.blocks.specs.Rows.{childOf}
+use Rattle.blocks.specs.Texts.{childOf}
 use Rattle.blocks.proofs.child.Statement.{statement}
 use Rattle.blocks.proofs.child.Tie as tie
 

@@ -1,7 +1,7 @@
 -- A group of a text.
 use mathlib.Core.Path.{refl}
 use native.Mathlib.Omega.{arith}
-use Rattle.blocks.specs.Rows.{groupIn}
+use Rattle.blocks.specs.Texts.{groupIn}
 use Rattle.blocks.proofs.group.Statement.{statement}
 use Rattle.blocks.proofs.group.Tie as tie
 

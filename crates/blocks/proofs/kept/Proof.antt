@@ -1,6 +1,6 @@
 -- The parameter of a copy.
 use Rattle.finite.specs.Laws.Below.{below-in, below-not}
-use Rattle.blocks.specs.Spelling.{keptBy}
+use Rattle.spelling.specs.Spelling.{keptBy}
 use Rattle.blocks.proofs.kept.Statement.{statement}
 use Rattle.blocks.proofs.kept.Tie as tie
 

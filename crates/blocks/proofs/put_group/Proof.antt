@@ -1,7 +1,7 @@
 -- The node of a group.
 use mathlib.Core.Path.{refl, _∙_}
 use native.Mathlib.Omega.{arith}
-use Rattle.blocks.specs.Rows.{nodeOf, decode}
+use Rattle.blocks.specs.Texts.{nodeOf, decode}
 use Rattle.blocks.proofs.put_group.Statement.{statement}
 use Rattle.blocks.proofs.put_group.Tie as tie
 

@@ -3,7 +3,8 @@ use mathlib.Core.Path.{refl}
 use native.Mathlib.Omega.{arith}
 use Rattle.semantics.specs.Table.{kindNo}
 use Rattle.semantics.specs.Block.{size, root, emit}
-use Rattle.blocks.specs.Rows.{rows, coded, codedAt, groupOf, groupsOf, wordOf, textOf, textAt}
+use Rattle.spelling.specs.Rows.{rows}
+use Rattle.blocks.specs.Texts.{coded, codedAt, groupOf, groupsOf, wordOf, textOf, textAt}
 use Rattle.blocks.specs.Laws.Keys.{Others, last-key}
 use Rattle.blocks.proofs.text.Statement.{statement}
 use Rattle.blocks.proofs.text.Tie as tie

@@ -1,7 +1,7 @@
 -- A field that some kinds use.
 use native.Mathlib.Omega.{arith}
 use Rattle.finite.specs.Laws.Below.{below-in, below-not}
-use Rattle.blocks.specs.Spelling.{usedBy}
+use Rattle.spelling.specs.Spelling.{usedBy}
 use Rattle.blocks.proofs.within.Statement.{statement}
 use Rattle.blocks.proofs.within.Tie as tie
 

@@ -15,9 +15,10 @@ use Rattle.semantics.specs.Table.{Node, kindNo}
 use Rattle.semantics.specs.Block.{Block, old, end, on, join, root, size, emit}
 use Rattle.semantics.specs.Laws.Emit.{emit-length}
 use Rattle.condition.specs.Laws.Limits.{each-kind}
-use Rattle.blocks.specs.declared.Spelling.{Spelling}
-use Rattle.blocks.specs.Rows.{copyCount, rowCount, copies, rows, coded, codedAt, groupOf, nodeOf, groupsOf, wordOf, textOf, textAt, groupIn, childOf, decode}
-use Rattle.blocks.specs.Spelling.{reverseOf, paramsOf, rowSpelled, spelled, Sized, usedBy, keptBy, copyOf}
+use Rattle.spelling.specs.declared.Spelling.{Spelling}
+use Rattle.spelling.specs.Rows.{copyCount, rowCount, copies, rows}
+use Rattle.blocks.specs.Texts.{coded, codedAt, groupOf, nodeOf, groupsOf, wordOf, textOf, textAt, groupIn, childOf, decode}
+use Rattle.spelling.specs.Spelling.{reverseOf, paramsOf, rowSpelled, spelled, Sized, usedBy, keptBy, copyOf}
 use Rattle.blocks.specs.Write.{put, puts}
 use Rattle.blocks.specs.Laws.Write.{firsts, firsts-map, Put}
 

@@ -12,7 +12,7 @@ use Rattle.semantics.specs.Table.{kindOf, Node}
 use Rattle.semantics.specs.Block.{old, root, emit, block, rewrite, rewriteTable, rewriteSheet}
 use Rattle.semantics.specs.Laws.Emit.{emit-length}
 use Rattle.limits.specs.Limits.{tableNodes}
-use Rattle.placing.specs.Laws.Sizes.{block-some}
+use Rattle.emitting.specs.Laws.Sizes.{block-some}
 use Rattle.rewriting.specs.Refusal.{tooLong}
 
 rewrite-grows : (e : Edit) (images : List ℕ) (out xs : List Node) → length out + length xs ≤ length (rewrite e images out xs)

@@ -9,7 +9,8 @@ use lib.ListN.{length, getD, take, drop, replicate, drop-of-length-le}
 use lib.Seq.{length-take-le, take-at}
 use Rattle.finite.specs.Tests.{below, all}
 use Rattle.finite.specs.Laws.Bools.{either, look, clash, and-l, and-r, or-none}
-use Rattle.finite.specs.Laws.Below.{below-in, below-not}
+use Rattle.finite.specs.Laws.Below.{below-in, below-out, below-not, not-below}
+use Rattle.verdict.specs.declared.Verdict.{Verdict}
 use Rattle.verdict.specs.declared.Verdict.the-variants.{Accepted, Refused}
 use Rattle.semantics.specs.Edit.{Edit, DS, legal, sheetLegal}
 use Rattle.semantics.specs.Table.{Node}
@@ -19,10 +20,10 @@ use Rattle.condition.specs.Laws.Bytes.{length-nodes}
 use Rattle.sheet.specs.Bytes.{editAt, editsOf}
 use Rattle.sheet.specs.Laws.Read.{edits-length, edits-at, edits-drop}
 use Rattle.limits.specs.Limits.{tableNodes, tableBytes}
-use Rattle.blocks.specs.Write.{Written}
+use Rattle.blocks.specs.Write.{TableWritten}
 use Rattle.rewriting.specs.Refusal.{tooLong, lengthVerdict}
 use Rattle.rewriting.specs.Rewriting.{rewritten, TableAfter, Rewrote}
-use Rattle.rewriting.specs.State.{Passed}
+use Rattle.rewriting.specs.State.{Passed, Finished}
 use Rattle.rewriting.specs.Laws.Buffers.{read-table, take-table, copied}
 
 -- each edit of a legal sheet is legal
@@ -83,9 +84,9 @@ module _ {sheet : List ℕ} {xs : List Node} {o : List ℕ} {count j k : ℕ} {e
   next-long = rw (edits-drop sheet k in-sheet) (rw (rw d at (P .short)) refl)
 
   pub passing-more : (spare : List ℕ) {made : ℕ} {o′ : List ℕ} → made ≡ length (rewriteTable e (nodes o count))
-      → Written spare (rewriteTable e (nodes o count)) → made ≤ tableNodes → length spare ≡ tableBytes
+      → TableWritten spare (rewriteTable e (nodes o count)) → made ≤ tableNodes → length spare ≡ tableBytes
       → o′ ≡ take (6 * made) spare ++ drop (6 * made) o → Passing sheet xs o′ made k
-  unfolding Written
+  unfolding TableWritten
   passing-more spare {made} {o′} em w f l eo =
       let n : made ≡ length (rewriteSheet (drop k (editsOf sheet)) xs) = em ∙ ap length next-table in
       let b : take (6 * made) spare ≡ bytesOf (rewriteSheet (drop k (editsOf sheet)) xs) =
@@ -123,24 +124,34 @@ module _ {es : List Edit} {xs : List Node} {o : List ℕ} {r : ℕ} (P : Passed 
   is-short : r ≤ tableNodes → tooLong es xs ≡ false
   is-short h = either (look (tooLong es xs)) (λ t. let g = P .long t in absurd (omega arith)) (λ f. f)
 
-module _ (table sheet result : List ℕ) {o o′ : List ℕ} {r : ℕ} (P : Passed (editsOf sheet) (tableOf table) o r) where
-  pub too-long : tableNodes < r → o′ ≡ replicate (length result) 0 → Rewrote table sheet result o′ (Refused 14 0) 0
-  unfolding lengthVerdict TableAfter
-  too-long h e = record { verdict = rw (is-long P h); table-after = (refl, e) }
+-- zeros, where the table is too long
+pub finished-long : {o result result′ : List ℕ} {r : ℕ} → tableNodes < r → result′ ≡ replicate (length result) 0 → Finished o r result result′ (Refused 14 0) 0
+finished-long h e = record { long = λ _. (refl, refl, e); short = λ g. absurd (omega arith) }
 
-  -- the table is copied into the result, o₁, and zeros follow it
-  pub a-table : (o₁ : List ℕ) → r ≤ tableNodes → length o ≡ tableBytes → length o₁ ≡ tableBytes → o₁ ≡ take (6 * r) o ++ drop (6 * r) result
-      → o′ ≡ take (6 * r) o₁ ++ replicate (length o₁ - 6 * r) 0 → Rewrote table sheet result o′ Accepted r
+-- the table is copied into the result, o₁, and zeros follow it
+pub finished-short : {o result result′ : List ℕ} {r : ℕ} (o₁ : List ℕ) → r ≤ tableNodes → length o ≡ tableBytes → length o₁ ≡ tableBytes
+    → o₁ ≡ take (6 * r) o ++ drop (6 * r) result → result′ ≡ take (6 * r) o₁ ++ replicate (length o₁ - 6 * r) 0 → Finished o r result result′ Accepted r
+finished-short {o} {result} {result′} {r} o₁ h l l₁ e₁ e =
+    let c : take (6 * r) o₁ ≡ take (6 * r) o = ap (take (6 * r)) e₁ ∙ take-at (take (6 * r) o) (drop (6 * r) result) (6 * r) (length-take-le (6 * r) o (omega arith)) in
+    record { long = λ g. absurd (omega arith); short = λ _. (refl, refl, e ∙ rw (l₁, c) refl) }
+
+module _ (table sheet : List ℕ) {o result result′ : List ℕ} {r n : ℕ} {v : Verdict} (P : Passed (editsOf sheet) (tableOf table) o r)
+    (F : Finished o r result result′ v n) where
+  too-long : tableNodes < r → Rewrote table sheet result result′ v n
   unfolding lengthVerdict TableAfter
-  a-table o₁ h l l₁ e₁ e =
-      let t = is-short P h in
-      let n = P .right t .0 in
-      let b = P .right t .2 in
-      let c : take (6 * r) o₁ ≡ take (6 * r) o = ap (take (6 * r)) e₁ ∙ take-at (take (6 * r) o) (drop (6 * r) result) (6 * r) (length-take-le (6 * r) o (omega arith)) in
-      record {
+  too-long h = let x = F .long h in rw (x .0, x .1) (record { verdict = rw (is-long P h); table-after = (refl, x .2) })
+
+  a-table : r ≤ tableNodes → Rewrote table sheet result result′ v n
+  unfolding lengthVerdict TableAfter
+  a-table h =
+      let x = F .short h in let t = is-short P h in let p = P .right t in
+      rw (x .0, x .1) (record {
         verdict = rw t;
-        table-after = (n, e ∙ rw (l₁, c, n) (ap (λ (s : List ℕ). s ++ replicate (tableBytes - 6 * length (rewritten table sheet)) 0) b));
-      }
+        table-after = (p .0, x .2 ∙ rw (p .0) (ap (λ (s : List ℕ). s ++ replicate (tableBytes - 6 * length (rewritten table sheet)) 0) (p .2)));
+      })
+
+  pub rewrote : Rewrote table sheet result result′ v n
+  rewrote = either (look (below tableNodes r)) (λ q. too-long (below-out tableNodes r q)) (λ q. a-table (not-below tableNodes r q))
 
 pub passed-copied : (es : List Edit) (t d o o₂ : List ℕ) (r : ℕ) → o ≡ take (length t) t ++ drop (length t) d
     → Passed es (nodes o (length t / 6)) o₂ r → Passed es (tableOf t) o₂ r

@@ -1,0 +1,13 @@
+-- Laws of one edit, by topic.
+-- a block has a node
+pub mod Sizes
+-- images and starts; bytes written; blocks emitted
+pub mod State
+pub mod Copied
+-- a copy of a node has the children of the node
+pub mod Shapes
+pub mod Numbered
+pub mod Puts
+pub mod Emitted
+-- emitting goes down
+pub mod Deep

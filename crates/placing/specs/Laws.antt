@@ -1,9 +1,0 @@
--- Laws of one edit, by topic.
--- a block has a node
-pub mod Sizes
--- images and starts; bytes written; blocks placed
-pub mod State
-pub mod Copied
-pub mod Numbered
-pub mod Puts
-pub mod Placed

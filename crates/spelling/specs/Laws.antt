@@ -1,0 +1,2 @@
+-- Laws of spellings.
+pub mod Spelling
