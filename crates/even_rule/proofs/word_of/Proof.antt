@@ -86,15 +86,18 @@ number-requires-2 c κs = let p = c .before .before .before .before .before .bef
 
 without-requires : tie.Need-without-requires
 without-requires c κs =
-    let few = loop-few (c .before .before .before .before .before .before .before .before .before .kind .ensures) (c .before .if6 .left) (c .before .before .before .before .before .before .if3 .left) (c .number2 .ensures .1) in omega (arith, few)
+    let e = c .before .before .before .before .before .before .before .before .before .kind .ensures in
+    let few = loop-few e (c .before .if6 .left) (c .before .before .before .before .before .before .if3 .left) (c .number2 .ensures .1) in omega (arith, few)
 
 add-without : tie.Need-add-without
 add-without c =
-    let few = loop-few (c .before .before .before .before .before .before .before .before .before .before .kind .ensures) (c .before .before .if6 .left) (c .before .before .before .before .before .before .before .if3 .left) (c .before .number2 .ensures .1) in omega (arith, few)
+    let e = c .before .before .before .before .before .before .before .before .before .before .kind .ensures in
+    let few = loop-few e (c .before .before .if6 .left) (c .before .before .before .before .before .before .before .if3 .left) (c .before .number2 .ensures .1) in omega (arith, few)
 
 without-requires-2 : tie.Need-without-requires-2
 without-requires-2 c κs =
-    let few = loop-few (c .before .before .before .before .before .before .before .before .before .before .kind .ensures) (c .before .before .if6 .left) (c .before .before .before .before .before .before .before .if3 .left) (c .before .number2 .ensures .1) in omega (arith, few)
+    let e = c .before .before .before .before .before .before .before .before .before .before .kind .ensures in
+    let few = loop-few e (c .before .before .if6 .left) (c .before .before .before .before .before .before .before .if3 .left) (c .before .number2 .ensures .1) in omega (arith, few)
 
 returns-7 : tie.Need-returns-7
 returns-7 c =
