@@ -1,4 +1,4 @@
--- Tables of nodes as bytes: six to a node, numbers low byte first. Document 01, "The condition".
+-- Tables of nodes as bytes: six to a node, numbers low byte first. docs/SPEC.md, "The condition".
 use mathlib.Core.List.{List, [], _∷_, _++_}
 use Prim.Native.Nat.{ℕ, zero, suc, _+_, _*_, _/_, _%_}
 use lib.ListN.{length, getD, drop}

@@ -1,4 +1,4 @@
--- Items 7 to 10 of document 01, "Reasons for sending a job back", with W.
+-- Items 7 to 10 with W. docs/SPEC.md, "Reasons".
 use mathlib.Core.List.{List}
 use mathlib.Core.Bool.{Bool, not, _&&_, cond}
 use Prim.Native.Nat.{ℕ, _-_, _%_}
@@ -23,7 +23,7 @@ firstUnfit S = first (length (tableOf S)) (λ i. not (nodeFits i (nodeAt S i)))
 unfoldable pub firstUneven : List ℕ → ℕ
 firstUneven S = first (length (tableOf S)) (λ i. not (even (treeAt (tableOf S) i)))
 
--- the first item met, in document 01's order, and its W
+-- the first item met, in the order of their numbers, and its W
 unfoldable pub conditionVerdict : List ℕ → Verdict
 conditionVerdict S =
     let n = length (tableOf S) in

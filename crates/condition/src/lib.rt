@@ -2,14 +2,10 @@
 use buffer::wide;
 use limits::DIA;
 use limits::KINDS;
-use limits::LABEL;
-use limits::MU;
-use limits::NAME;
 use limits::NOT;
 use limits::OR;
 use limits::SLOT;
 use limits::TABLE_BYTES;
-use limits::VAR;
 ghost use mathlib.Core.Path.{_≡_};
 ghost use mathlib.Core.Bool.{true};
 ghost use Prim.Native.Nat.{_+_, _*_, _≤_, _<_};
@@ -108,32 +104,25 @@ pub fn right_child(table: &[u8], i: usize) -> usize
     right(table, i)
 }
 
-// The bounds of item 8 by kind. A field that is not used is below 1.
+// The bounds of item 8 by kind. A field that is not used is below 1. The arms are constants, so that the compiler makes a table of them.
 fn param_limit(k: u8) -> usize
     ensures { λ r. ⌜ r ≡ paramLimit (kindOf k) ⌝ }
 {
-    if k < LABEL {
-        return 1;
+    match k {
+        limits::TRUE => 1,
+        limits::HERE => 1,
+        limits::LABEL => LABEL_LIMIT,
+        limits::NAME => NAME_LIMIT,
+        limits::VAR => VARIABLE_LIMIT,
+        NOT => 1,
+        OR => 1,
+        limits::AND => 1,
+        DIA => WAY_LIMIT,
+        limits::BOX => WAY_LIMIT,
+        limits::MU => VARIABLE_LIMIT,
+        limits::NU => VARIABLE_LIMIT,
+        _ => 256,
     }
-    if k < NAME {
-        return LABEL_LIMIT;
-    }
-    if k < VAR {
-        return NAME_LIMIT;
-    }
-    if k < NOT {
-        return VARIABLE_LIMIT;
-    }
-    if k < DIA {
-        return 1;
-    }
-    if k < MU {
-        return WAY_LIMIT;
-    }
-    if k < SLOT {
-        return VARIABLE_LIMIT;
-    }
-    256
 }
 
 fn child_limit(k: u8, lo: u8, hi: u8, i: usize) -> usize
@@ -148,22 +137,16 @@ fn child_limit(k: u8, lo: u8, hi: u8, i: usize) -> usize
     1
 }
 
-// Item 8 is not met by node i.
+// Item 8 is not met by node i. All is compared before anything branches: kinds follow no pattern.
 fn node_fits(table: &[u8], i: usize) -> bool
     requires { ⌜ 6 * i + 6 ≤ length (now table) ⌝ }
     ensures { λ r. ⌜ r ≡ nodeFits i (nodeAt (now (table .entry)) i) ⌝ }
 {
     let k = kind(table, i);
-    if KINDS <= k {
-        return false;
-    }
-    if param_limit(k) <= wide(param(table, i)) {
-        return false;
-    }
-    if child_limit(k, NOT, SLOT, i) <= left(table, i) {
-        return false;
-    }
-    right(table, i) < child_limit(k, OR, DIA, i)
+    let p = wide(param(table, i)) < param_limit(k);
+    let l = left(table, i) < child_limit(k, NOT, SLOT, i);
+    let r = right(table, i) < child_limit(k, OR, DIA, i);
+    (k < KINDS) & p & l & r
 }
 
 // The lowest node that meets item 8, and the number of nodes where none does.

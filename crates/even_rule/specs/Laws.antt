@@ -1,4 +1,5 @@
 -- Laws of the pass, by topic.
+pub mod Words
 pub mod Shows
 pub mod Pass
 pub mod Check

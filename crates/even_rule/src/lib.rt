@@ -1,6 +1,5 @@
-// The check of a condition's table. Items 9 and 10 go by two masks for each node: the variables that occur free in it under an
-// even and under an odd number of nots.
-use limits::AND;
+// The check of a condition's table. Items 9 and 10 go by a word for each node: bit v for the variable v where it occurs free under an even
+// number of nots, bit v + 16 where it does under an odd number.
 use limits::DIA;
 use limits::MU;
 use limits::NOT;
@@ -10,144 +9,146 @@ use limits::TABLE_NODES;
 use limits::VAR;
 use verdict::Verdict;
 ghost use mathlib.Core.Path.{_≡_};
-ghost use mathlib.Core.Bool.{true, not, _||_, cond};
+ghost use mathlib.Core.Bool.{true, not};
 ghost use Prim.Native.Nat.{_+_, _*_, _-_, _^_, _≤_, _<_};
 ghost use lib.ListN.{length, replicate};
 ghost use lib.Bits.{bitAnd};
-ghost use Rattle.finite.specs.Tests.{all, bit};
-ghost use Rattle.limits.specs.Limits.{variables, tableNodes};
+ghost use Rattle.finite.specs.Tests.{bit};
+ghost use Rattle.limits.specs.Limits.{tableNodes};
 ghost use Rattle.semantics.specs.Form.{even};
 ghost use Rattle.semantics.specs.Table.{treeAt, nodesFit};
 ghost use Rattle.condition.specs.Bytes.{tableOf};
 ghost use Rattle.condition.specs.Refusal.{sizeFits, firstUneven};
 ghost use Rattle.even_rule.specs.Free.{noMasks, Checked};
-ghost use Rattle.even_rule.specs.Masks.{fullMask, Shows, Children, Rows, Odds, Fit, Ready, Visited, ChildrenVisited, United};
+ghost use Rattle.even_rule.specs.Masks.{wordBits, fullWord, swap, freeBits, Shows, Children, Rows, Fit, Visitable, Visited, United};
 
-// The mask of the variable v alone.
-fn single(v: usize) -> u16
-    requires { ⌜ v < variables ⌝ }
+// Set in the word of each node that is done, so that no such word is 0.
+const DONE: u64 = 4294967296;
+
+// The word of bit v alone.
+fn single(v: usize) -> u64
+    requires { ⌜ v < wordBits ⌝ }
     ensures { λ r. ⌜ r ≡ 2 ^ v ⌝ }
 {
-    1u16 << v
+    1u64 << v
 }
 
-fn without(mask: u16, v: usize) -> u16
-    requires { ⌜ v < variables ⌝ }
-    ensures { λ r. ⌜ r ≡ bitAnd mask (fullMask - 2 ^ v) ⌝ }
+fn without(word: u64, v: usize) -> u64
+    requires { ⌜ v < wordBits ⌝ }
+    ensures { λ r. ⌜ r ≡ bitAnd word (fullWord - 2 ^ v) ⌝ }
 {
-    mask & !single(v)
+    word & !single(v)
 }
 
-fn has(mask: u16, v: usize) -> bool
-    requires { ⌜ v < variables ⌝ }
-    ensures { λ r. ⌜ r ≡ bit mask v ⌝ }
+fn has(word: u64, v: usize) -> bool
+    requires { ⌜ v < wordBits ⌝ }
+    ensures { λ r. ⌜ r ≡ bit word v ⌝ }
 {
-    (mask >> v) % 2 == 1
+    (word >> v) % 2 == 1
 }
 
-// The mask of node i for one parity, from its children's masks for that parity and for the other.
-fn mask(table: &[u8], own: &[u16], other: &[u16], parity: bool, i: usize) -> u16
+// Under one not more, even and odd are exchanged.
+fn swapped(word: u64) -> u64
+    ensures { λ r. ⌜ r ≡ swap word ⌝ }
+{
+    word / 65536 % 65536 + 65536 * (word % 65536)
+}
+
+// The variables that are free, under whatever number of nots.
+fn free_in(word: u64) -> u16
+    ensures { λ r. ⌜ r ≡ freeBits word ⌝ }
+{
+    (word % 65536 | word / 65536 % 65536) as u16
+}
+
+// The word of node i, from its children's words.
+fn word_of(table: &[u8], words: &[u64; TABLE_NODES], i: usize) -> u64
     requires { ⌜ Fit (now table) ⌝ }
     requires { ⌜ 6 * i + 6 ≤ length (now table) ⌝ }
-    requires { ⌜ (length (now own) ≡ tableNodes) × (length (now other) ≡ tableNodes) ⌝ }
-    requires { ⌜ Children parity (now table) (now own) (now other) i ⌝ }
-    ensures { λ r. ⌜ Shows parity (treeAt (tableOf (now (table .entry))) i) r ⌝ }
+    requires { ⌜ Children (now table) (now words) i ⌝ }
+    ensures { λ r. ⌜ Shows (treeAt (tableOf (now (table .entry))) i) r ⌝ }
 {
     let k = condition::kind(table, i);
     if k < VAR {
         return 0;
     }
     if k < NOT {
-        return variable(condition::number(table, i), parity);
+        return single(condition::number(table, i));
     }
     if NU < k {
         return 0;
     }
-    let l = condition::left_child(table, i);
+    let w = words[condition::left_child(table, i)];
     if k < OR {
-        return other[l];
+        return swapped(w);
     }
-    let m = own[l];
     if k < DIA {
-        return m | own[condition::right_child(table, i)];
+        return w | words[condition::right_child(table, i)];
     }
     if k < MU {
-        return m;
+        return w;
     }
-    without(m, condition::number(table, i))
+    let v = condition::number(table, i);
+    without(without(w, v), v + 16)
 }
 
-// A variable stands under no not, so the odd mask is empty.
-fn variable(v: usize, parity: bool) -> u16
-    requires { ⌜ v < variables ⌝ }
-    ensures { λ r. ⌜ r ≡ cond parity (2 ^ v) 0 ⌝ }
+// Node c gets its word, after its children, where it is below i and not done. A field that c does not use is 0: node 0 is visited then, which
+// has no child.
+fn visit(table: &[u8], words: &mut [u64; TABLE_NODES], i: usize, c: usize)
+    requires { ⌜ Visitable (now table) (now words) i ⌝ }
+    ensures { λ _. ⌜ Visited (now (table .entry)) (now (words .entry)) (now (words .exit)) i c ⌝ }
 {
-    if parity {
-        return single(v);
+    if i <= c {
+        return;
     }
-    0
+    if 0 < words[c] {
+        return;
+    }
+    let l = condition::left(table, c);
+    visit_child(table, words, c, l);
+    let r = condition::right(table, c);
+    visit_child(table, words, c, r);
+    let w = word_of(table, words, c);
+    words[c] = w | DONE;
 }
 
-// The masks of node i, unless it is done. A shared node is done once.
-fn visit(table: &[u8], done: &mut [u8], evens: &mut [u16], odds: &mut [u16], i: usize)
-    requires { ⌜ Ready (now table) (now done) (now evens) (now odds) ⌝ }
-    requires { ⌜ 6 * i + 6 ≤ length (now table) ⌝ }
-    ensures { λ _. ⌜ Visited (now (table .entry)) (now (done .entry)) (now (done .exit)) (now (evens .exit)) (now (odds .exit)) i ⌝ }
+// As `visit`, which the compiler puts it into: a call is a node and its children, and of deep calls the returns cost the most.
+fn visit_child(table: &[u8], words: &mut [u64; TABLE_NODES], i: usize, c: usize)
+    requires { ⌜ Visitable (now table) (now words) i ⌝ }
+    ensures { λ _. ⌜ Visited (now (table .entry)) (now (words .entry)) (now (words .exit)) i c ⌝ }
 {
-    if done[i] == 1 {
+    if i <= c {
         return;
     }
-    descend(table, done, evens, odds, i);
-    let e = mask(table, evens, odds, true, i);
-    let o = mask(table, odds, evens, false, i);
-    evens[i] = e;
-    odds[i] = o;
-    done[i] = 1;
+    if 0 < words[c] {
+        return;
+    }
+    let l = condition::left(table, c);
+    visit(table, words, c, l);
+    let r = condition::right(table, c);
+    visit(table, words, c, r);
+    let w = word_of(table, words, c);
+    words[c] = w | DONE;
 }
 
-// The kinds from NOT to NU have a left child, OR and AND a right one too.
-fn descend(table: &[u8], done: &mut [u8], evens: &mut [u16], odds: &mut [u16], i: usize)
-    requires { ⌜ Ready (now table) (now done) (now evens) (now odds) ⌝ }
-    requires { ⌜ 6 * i + 6 ≤ length (now table) ⌝ }
-    ensures { λ _. ⌜ ChildrenVisited (now (table .entry)) (now (done .entry)) (now (done .exit)) (now (evens .exit)) (now (odds .exit)) i ⌝ }
+// The words of all n nodes, from the last one down: the visit of a node goes on to its children, and one that is done is passed by.
+fn visit_all(table: &[u8], words: &mut [u64; TABLE_NODES], n: usize)
+    requires { ⌜ Visitable (now table) (now words) n ⌝ }
+    requires { ⌜ length (now table) ≡ 6 * n ⌝ }
+    ensures { λ _. ⌜ Rows (now (table .entry)) (now (words .exit)) ⌝ }
 {
-    let k = condition::kind(table, i);
-    if k < NOT {
-        return;
-    }
-    if NU < k {
-        return;
-    }
-    let l = condition::left_child(table, i);
-    visit(table, done, evens, odds, l);
-    if k < OR {
-        return;
-    }
-    if AND < k {
-        return;
-    }
-    let r = condition::right_child(table, i);
-    visit(table, done, evens, odds, r);
-}
-
-// The masks of every node, from the last one down: the visit of a node goes on to its children, and one that is done is passed by.
-fn visit_all(table: &[u8], done: &mut [u8], evens: &mut [u16], odds: &mut [u16])
-    requires { ⌜ Ready (now table) (now done) (now evens) (now odds) ⌝ }
-    ensures { λ _. ⌜ Rows (now (table .entry)) (now (evens .exit)) (now (odds .exit)) ⌝ }
-{
-    let mut i = table.len() / 6;
+    let mut i = n;
     while 0 < i {
         i -= 1;
-        visit(table, done, evens, odds, i);
+        visit(table, words, n, i);
     }
 }
 
 // Node i is a mu or nu that breaks the even rule.
-fn uneven(table: &[u8], odds: &[u16], i: usize) -> bool
+fn uneven(table: &[u8], words: &[u64; TABLE_NODES], i: usize) -> bool
     requires { ⌜ Fit (now table) ⌝ }
     requires { ⌜ 6 * i + 6 ≤ length (now table) ⌝ }
-    requires { ⌜ length (now odds) ≡ tableNodes ⌝ }
-    requires { ⌜ Odds (now table) (now odds) ⌝ }
+    requires { ⌜ Rows (now table) (now words) ⌝ }
     ensures { λ r. ⌜ r ≡ not (even (treeAt (tableOf (now (table .entry))) i)) ⌝ }
 {
     let k = condition::kind(table, i);
@@ -158,22 +159,21 @@ fn uneven(table: &[u8], odds: &[u16], i: usize) -> bool
         return false;
     }
     has(
-        odds[condition::left_child(table, i)],
-        condition::number(table, i),
+        words[condition::left_child(table, i)],
+        condition::number(table, i) + 16,
     )
 }
 
 // Item 9: the lowest node that breaks the even rule, and the number of nodes where none does.
-fn first_uneven(table: &[u8], odds: &[u16]) -> usize
+fn first_uneven(table: &[u8], words: &[u64; TABLE_NODES]) -> usize
     requires { ⌜ Fit (now table) ⌝ }
-    requires { ⌜ length (now odds) ≡ tableNodes ⌝ }
-    requires { ⌜ Odds (now table) (now odds) ⌝ }
+    requires { ⌜ Rows (now table) (now words) ⌝ }
     ensures { λ r. ⌜ r ≡ firstUneven (now (table .entry)) ⌝ }
 {
     let n = table.len() / 6;
     let mut i = 0;
     while i < n {
-        if uneven(table, odds, i) {
+        if uneven(table, words, i) {
             return i;
         }
         i += 1;
@@ -181,21 +181,14 @@ fn first_uneven(table: &[u8], odds: &[u16]) -> usize
     i
 }
 
-// Item 10 is not met by a node with these masks: they are empty.
-fn no_free(e: u16, o: u16) -> bool
-    ensures { λ r. ⌜ r ≡ all variables (λ v. not (bit e v || bit o v)) ⌝ }
-{
-    (e | o) == 0
-}
-
-// The free variables of the first n nodes: those of either parity.
-fn unite(evens: &[u16], odds: &[u16], free: &mut [u16], n: usize)
-    requires { ⌜ (n ≤ tableNodes) × (length (now evens) ≡ tableNodes) × (length (now odds) ≡ tableNodes) × (length (now free) ≡ tableNodes) ⌝ }
-    ensures { λ _. ⌜ United (now (evens .entry)) (now (odds .entry)) (now (free .entry)) (now (free .exit)) n ⌝ }
+// The free variables of the first n nodes.
+fn unite(words: &[u64; TABLE_NODES], free: &mut [u16], n: usize)
+    requires { ⌜ (n ≤ tableNodes) × (length (now free) ≡ tableNodes) ⌝ }
+    ensures { λ _. ⌜ United (now (words .entry)) (now (free .entry)) (now (free .exit)) n ⌝ }
 {
     let mut i = 0;
     while i < n {
-        free[i] = evens[i] | odds[i];
+        free[i] = free_in(words[i]);
         i += 1;
     }
 }
@@ -210,10 +203,10 @@ fn zero(rows: &mut [u16])
     }
 }
 
-fn no_flags() -> [u8; TABLE_NODES]
-    ensures { λ r. ⌜ r ≡ replicate tableNodes 0 ⌝ }
+fn no_words() -> [u64; TABLE_NODES]
+    ensures { λ r. ⌜ r ≡ noMasks ⌝ }
 {
-    [0; TABLE_NODES]
+    [0u64; TABLE_NODES]
 }
 
 // Room for the masks of a table's free variables.
@@ -230,20 +223,18 @@ fn check_rules(table: &[u8], free: &mut [u16]) -> Verdict
     requires { ⌜ now free ≡ noMasks ⌝ }
     ensures { λ r. ⌜ Checked (now (table .entry)) (now (free .exit)) r ⌝ }
 {
-    let mut done = no_flags();
-    let mut evens = no_masks();
-    let mut odds = no_masks();
-    visit_all(table, &mut done, &mut evens, &mut odds);
     let n = table.len() / 6;
-    let w = first_uneven(table, &odds);
+    let mut words = no_words();
+    visit_all(table, &mut words, n);
+    let w = first_uneven(table, &words);
     if w < n {
         return Verdict::Refused(9, w as u16);
     }
     let last = n - 1;
-    if !no_free(evens[last], odds[last]) {
+    if 0 < free_in(words[last]) {
         return Verdict::Refused(10, last as u16);
     }
-    unite(&evens, &odds, free, n);
+    unite(&words, free, n);
     Verdict::Accepted
 }
 

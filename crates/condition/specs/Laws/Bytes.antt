@@ -77,15 +77,15 @@ table-back xs =
 
 -- ---- what was read is written back
 
-six : (S : List ℕ) → 6 ≤ length S
+six-bytes : (S : List ℕ) → 6 ≤ length S
     → S ≡ getD S 0 0 ∷ getD S 1 0 ∷ getD S 2 0 ∷ getD S 3 0 ∷ getD S 4 0 ∷ getD S 5 0 ∷ drop 6 S
-six [] h = absurd (omega arith)
-six (a ∷ []) h = absurd (omega arith)
-six (a ∷ b ∷ []) h = absurd (omega arith)
-six (a ∷ b ∷ c ∷ []) h = absurd (omega arith)
-six (a ∷ b ∷ c ∷ d ∷ []) h = absurd (omega arith)
-six (a ∷ b ∷ c ∷ d ∷ e ∷ []) h = absurd (omega arith)
-six (a ∷ b ∷ c ∷ d ∷ e ∷ f ∷ S) h = refl
+six-bytes [] h = absurd (omega arith)
+six-bytes (a ∷ []) h = absurd (omega arith)
+six-bytes (a ∷ b ∷ []) h = absurd (omega arith)
+six-bytes (a ∷ b ∷ c ∷ []) h = absurd (omega arith)
+six-bytes (a ∷ b ∷ c ∷ d ∷ []) h = absurd (omega arith)
+six-bytes (a ∷ b ∷ c ∷ d ∷ e ∷ []) h = absurd (omega arith)
+six-bytes (a ∷ b ∷ c ∷ d ∷ e ∷ f ∷ S) h = refl
 
 low : (a b : ℕ) → a < 256 → (a + 256 * b) % 256 ≡ a
 low a b h = omega arith
@@ -98,7 +98,7 @@ pub first-node : (S : List ℕ) → ((i : ℕ) → getD S i 0 < 256) → 6 ≤ l
 unfolding nodeAt nodeBytes
 first-node S h g =
     rw (low (getD S 2 0) (getD S 3 0) (h 2), high (getD S 2 0) (getD S 3 0) (h 2), low (getD S 4 0) (getD S 5 0) (h 4), high (getD S 4 0) (getD S 5 0) (h 4))
-    (sym (six S g))
+    (sym (six-bytes S g))
 
 pub write-back : (S : List ℕ) (n : ℕ) → ((i : ℕ) → getD S i 0 < 256) → 6 * n ≤ length S → bytesOf (nodes S n) ++ drop (6 * n) S ≡ S
 unfolding bytesOf nodes

@@ -1,14 +1,14 @@
 -- Item 8 and the bounds on a node's fields are one.
 use mathlib.Core.Path.{_≡_, refl, sym, _∙_, ap, ap₂, subst}
-use mathlib.Core.Bool.{Bool, true, false, _&&_, cond}
+use mathlib.Core.Bool.{Bool, true, false, _&&_}
 use Prim.Native.Nat.{ℕ, zero, suc, _-_, _≤_, _<_}
 use native.Mathlib.Omega.{arith}
 use lib.Dec.{ltb}
 use borrow.Author.Tests.{lt-ltb, le-ltb}
 use Rattle.finite.specs.Tests.{same, below}
-use Rattle.finite.specs.Laws.Bools.{and-l, and-r, both}
-use Rattle.finite.specs.Laws.Below.{same-eq, eq-same, below-in, below-out, below-not}
-use Rattle.limits.specs.Limits.{slots, labels, names, variables, everyWay, labelNo, nameNo, varNo, notNo, orNo, andNo, diaNo, muNo, nuNo, slotNo, kinds}
+use Rattle.finite.specs.Laws.Bools.{either, and-l, and-r, both}
+use Rattle.finite.specs.Laws.Below.{equal?, same-eq, eq-same, below-in, below-out}
+use Rattle.limits.specs.Limits.{slots, labels, names, variables, labelNo, nameNo, varNo, notNo, orNo, andNo, diaNo, muNo, nuNo, slotNo, kinds}
 use Rattle.semantics.specs.Table.{Leaf, kTrue, kHere, kLabel, kName, kVar, kSlot, Unary, kNot, kDia, kBox, kMu, kNu, Kind, leaf, unary, binary, kindOf, Node, leafFits, unaryFits, kindFits, nodeFits}
 use Rattle.condition.specs.Limits.{paramLimit, childLimit}
 
@@ -88,13 +88,19 @@ kind-past k h =
     let e : suc (suc (suc (suc (suc (suc (suc (suc (suc (suc (suc (suc (k - 12)))))))))))) ≡ k = omega arith in
     subst (λ (j : ℕ). kindOf j ≡ leaf kSlot) e refl
 
--- the bound by ranges of the kinds' numbers, as the code asks for them
-pub number-limit : (k : ℕ) → paramLimit (kindOf k)
-    ≡ cond (ltb k labelNo) 1 (cond (ltb k nameNo) labels (cond (ltb k varNo) names (cond (ltb k notNo) variables (cond (ltb k diaNo) 1 (cond (ltb k muNo) (suc everyWay) (cond (ltb k slotNo) variables 256))))))
-unfolding kindOf paramLimit
-number-limit =
-    each-kind _ refl refl refl refl refl refl refl refl refl refl refl refl
-    (λ k h. rw (kind-past k h, le-ltb k labelNo (omega arith), le-ltb k nameNo (omega arith), le-ltb k varNo (omega arith), le-ltb k notNo (omega arith), le-ltb k diaNo (omega arith), le-ltb k muNo (omega arith), le-ltb k slotNo h) refl)
+-- k is none of the n lowest numbers, as the last arm of a match says it
+unfoldable pub NoneOf : (k n : ℕ) → Type 0
+NoneOf k zero = Unit {0}
+NoneOf k (suc n) = NoneOf k n × (k ≡ n → ⊥)
+
+none-past : (k n : ℕ) → NoneOf k n → n ≤ k
+unfolding NoneOf
+none-past k zero o = omega arith
+none-past k (suc n) o = either (equal? k n) (λ e. absurd (o .1 e)) (λ e. let h = none-past k n (o .0) in omega arith)
+
+pub limit-slot : (k : ℕ) → NoneOf k slotNo → paramLimit (kindOf k) ≡ 256
+unfolding paramLimit
+limit-slot k o = rw (kind-past k (none-past k slotNo o)) refl
 
 -- the bounds of the kinds whose parameter is a number of its own: a label, a name, a variable, and the variable of a loop
 pub limit-label : {k : ℕ} → k ≡ labelNo → paramLimit (kindOf k) ≡ labels
@@ -110,8 +116,8 @@ unfolding kindOf paramLimit
 limit-variable e = rw e refl
 
 pub limit-loop : (k : ℕ) → muNo ≤ k → k ≤ nuNo → paramLimit (kindOf k) ≡ variables
-limit-loop k h l =
-    rw (number-limit k, le-ltb k labelNo (omega arith), le-ltb k nameNo (omega arith), le-ltb k varNo (omega arith), le-ltb k notNo (omega arith), le-ltb k diaNo (omega arith), le-ltb k muNo h, lt-ltb k slotNo (omega arith)) refl
+unfolding kindOf paramLimit
+limit-loop k h l = either (equal? k muNo) (λ e. rw e refl) (λ e. rw (let r : k ≡ nuNo = omega arith in r) refl)
 
 pub left-limit : (i k : ℕ) → leftLimit (kindOf k) i ≡ childLimit notNo slotNo k i
 unfolding kindOf leftLimit
@@ -148,31 +154,18 @@ module _ (i : ℕ) (x : Node) (f : nodeFits i x ≡ true) where
       and-r (below (x .left) _) _ (and-r (below (x .param) _) _ inside) in
       below-out (x .right) i (rw (right-limit i (x .kind), le-ltb (x .kind) orNo h, lt-ltb (x .kind) diaNo (omega arith)) at b)
 
--- ---- the test of a node, field by field
+-- ---- the test of a node, all fields at once
 
-module _ (i k : ℕ) (x : Node) (e : k ≡ x .kind) where
-  pub unfit-kind : kinds ≤ k → nodeFits i x ≡ false
-  unfit-kind h = rw (node-limits i x, below-not (x .kind) kinds (omega arith)) refl
+four : (a b c d : Bool) → (((a && b) && c) && d) ≡ (a && (b && (c && d)))
+four true true c d = refl
+four true false c d = refl
+four false b c d = refl
 
-  module _ (h : k < kinds) where
-    known : below (x .kind) kinds ≡ true
-    known = below-in (x .kind) kinds (omega arith)
-
-    module _ (p m : ℕ) (ep : p ≡ x .param) (em : m ≡ paramLimit (kindOf k)) where
-      pub unfit-param : m ≤ p → nodeFits i x ≡ false
-      unfolding within
-      unfit-param g = rw (node-limits i x, known, ← e, ← em, ← ep, below-not p m g) refl
-
-      module _ (hp : p < m) (l n : ℕ) (el : l ≡ x .left) (cn : n ≡ childLimit notNo slotNo k i) where
-        en : n ≡ leftLimit (kindOf k) i
-        en = cn ∙ sym (left-limit i k)
-
-        pub unfit-left : n ≤ l → nodeFits i x ≡ false
-        unfolding within
-        unfit-left g = rw (node-limits i x, known, ← e, ← em, ← ep, below-in p m hp, ← en, ← el, below-not l n g) refl
-
-        pub fits-right : (r o : ℕ) → r ≡ x .right → o ≡ childLimit orNo diaNo k i → l < n → ltb r o ≡ nodeFits i x
-        unfolding within below
-        fits-right r o er co g =
-            let eo : o ≡ rightLimit (kindOf k) i = co ∙ sym (right-limit i k) in
-            rw (node-limits i x, known, ← e, ← em, ← ep, below-in p m hp, ← en, ← el, below-in l n g, ← eo, ← er) refl
+pub all-fields : (i : ℕ) (x : Node) {k p m l n r o : ℕ} → k ≡ x .kind → p ≡ x .param → m ≡ paramLimit (kindOf k) → l ≡ x .left
+    → n ≡ childLimit notNo slotNo k i → r ≡ x .right → o ≡ childLimit orNo diaNo k i
+    → (((ltb k kinds && ltb p m) && ltb l n) && ltb r o) ≡ nodeFits i x
+unfolding within below
+all-fields i x {k} {p} {m} {l} {n} {r} {o} e ep em el cn er co =
+    let en : n ≡ leftLimit (kindOf k) i = cn ∙ sym (left-limit i k) in
+    let eo : o ≡ rightLimit (kindOf k) i = co ∙ sym (right-limit i k) in
+    rw (node-limits i x, ← e, ← em, ← ep, ← en, ← el, ← eo, ← er) (four (ltb k kinds) (ltb p m) (ltb l n) (ltb r o))

@@ -15,19 +15,19 @@ use Rattle.even_rule.proofs.first_uneven.Statement.{statement}
 use Rattle.even_rule.proofs.first_uneven.Tie as tie
 
 abbrev Inv-loop : tie.InvT-loop
-Inv-loop table odds n i₀ i = (i ≤ n) × (n ≡ length (tableOf table)) × (any i (λ j. not (even (treeAt (tableOf table) j))) ≡ false)
+Inv-loop table words n i₀ i = (i ≤ n) × (n ≡ length (tableOf table)) × (any i (λ j. not (even (treeAt (tableOf table) j))) ≡ false)
 
 abbrev μ-loop : tie.MeasureT-loop
-μ-loop table odds n i₀ i = n - i
+μ-loop table words n i₀ i = n - i
 
 loop-holds : tie.Need-loop-holds Inv-loop μ-loop
-loop-holds c = (omega arith, sym (length-table (c .before .before .args .table .now)), none-start _)
+loop-holds c = (omega arith, sym (length-table (c .before .args .table .now)), none-start _)
 
 uneven-requires : tie.Need-uneven-requires Inv-loop μ-loop
 uneven-requires c κs =
-    let a = c .before .before .before .before .args in
-    let p = c .before .before .before .before .pre in
-    (p .0, (omega (arith, length-table (a .table .now)), (p .1 .0, p .1 .1)))
+    let a = c .before .before .before .args in
+    let p = c .before .before .before .pre in
+    (p .0, (omega (arith, length-table (a .table .now)), p .1))
 
 returns : tie.Need-returns Inv-loop μ-loop
 unfolding firstUneven

@@ -5,9 +5,6 @@ use borrow.Author.Needs.{needs}
 use Rattle.even_rule.proofs.has.Statement.{statement}
 use Rattle.even_rule.proofs.has.Tie as tie
 
-cast-result : tie.Need-cast-result
-cast-result c = search needs
-
 shr-result : tie.Need-shr-result
 shr-result c = search needs
 
@@ -16,4 +13,4 @@ unfolding bit
 returns c = refl
 
 pub has-spec : {M : Type 1} → statement M
-has-spec = tie.close (tie.spec cast-result shr-result returns)
+has-spec = tie.close (tie.spec shr-result returns)

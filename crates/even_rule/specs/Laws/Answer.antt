@@ -1,25 +1,22 @@
 -- The answers of the check, item by item.
 use mathlib.Core.Path.{_≡_, sym, _∙_}
 use mathlib.Core.List.{List}
-use mathlib.Core.Bool.{Bool, true, false, not, _||_}
+use mathlib.Core.Bool.{true, false}
 use Prim.Native.Nat.{ℕ, _-_, _/_, _≤_, _<_}
 use native.Mathlib.Omega.{arith}
 use lib.ListN.{length, getD}
-use borrow.Author.Tests.{not-true, not-false}
-use Rattle.finite.specs.Tests.{below, all, bit}
+use Rattle.finite.specs.Tests.{below}
 use Rattle.finite.specs.Laws.Below.{below-in, below-not}
 use Rattle.verdict.specs.declared.Verdict.the-variants.{Accepted, Refused}
-use Rattle.limits.specs.Limits.{variables}
-use Rattle.semantics.specs.Form.{closed}
-use Rattle.semantics.specs.Table.{formOf, nodesFit}
+use Rattle.semantics.specs.Table.{nodesFit}
 use Rattle.condition.specs.Bytes.{tableOf}
 use Rattle.condition.specs.Refusal.{sizeFits, firstUnfit, firstUneven, conditionVerdict}
 use Rattle.condition.specs.Laws.Bytes.{length-table}
 use Rattle.condition.specs.Laws.Fits.{none-unfit, fit-none}
 use Rattle.condition.specs.Laws.Verdict.{size-out, item-7, item-8, item-9, item-10, no-item}
 use Rattle.even_rule.specs.Free.{noMasks, FreeAfter, Checked}
-use Rattle.even_rule.specs.Masks.{Rows, Fit, United}
-use Rattle.even_rule.specs.Laws.Check.{last-closed, free-rows}
+use Rattle.even_rule.specs.Masks.{freeBits, Rows, Fit, United}
+use Rattle.even_rule.specs.Laws.Check.{last-closed, last-open, free-rows}
 
 module _ (S rows : List ℕ) (zeros : rows ≡ noMasks) where
   refused : (n w : ℕ) → conditionVerdict S ≡ Refused n w → Checked S rows (Refused n w)
@@ -41,25 +38,26 @@ module _ (S rows : List ℕ) (zeros : rows ≡ noMasks) where
           let n = length-table S in
           rw e (refused 9 (firstUneven S) (item-9 S e₇ (fit-none S f) (below-in (firstUneven S) (length (tableOf S)) (omega arith))))
 
-      module _ (h : length S / 6 ≤ w) (evens odds : List ℕ) (r : Rows S evens odds) (b : Bool)
-          (eb : b ≡ all variables (λ v. not (bit (getD evens (length S / 6 - 1) 0) v || bit (getD odds (length S / 6 - 1) 0) v))) where
+      module _ (h : length S / 6 ≤ w) {words : List ℕ} (r : Rows S words) where
         keeps : below (firstUneven S) (length (tableOf S)) ≡ false
         keeps = let n = length-table S in below-not (firstUneven S) (length (tableOf S)) (omega arith)
 
-        is-closed : closed (formOf (tableOf S)) ≡ b
-        is-closed = sym (eb ∙ last-closed S evens odds r (size-out (length S) e₇ .1))
+        some : 6 ≤ length S
+        some = size-out (length S) e₇ .1
 
-        pub answer-10 : not b ≡ true → Checked S rows (Refused 10 (length S / 6 - 1))
-        answer-10 o =
-            rw (sym (length-table S)) (refused 10 (length (tableOf S) - 1) (item-10 S e₇ (fit-none S f) keeps (is-closed ∙ not-true b o)))
+        module _ {m : ℕ} (em : m ≡ freeBits (getD words (length S / 6 - 1) 0)) where
+          pub answer-10 : 0 < m → Checked S rows (Refused 10 (length S / 6 - 1))
+          answer-10 o =
+              rw (sym (length-table S)) (refused 10 (length (tableOf S) - 1) (item-10 S e₇ (fit-none S f) keeps (last-open r some (rw em at o))))
 
-        pub answer-none : not b ≡ false → (rows′ : List ℕ) → United evens odds rows rows′ (length S / 6) → Checked S rows′ Accepted
-        unfolding FreeAfter
-        answer-none o rows′ u =
-            record {
-              verdict = sym (no-item S e₇ (fit-none S f) keeps (is-closed ∙ not-false b o));
-              masks = free-rows S evens odds r rows′ (rw zeros at u);
-            }
+          pub answer-none : m ≤ 0 → {rows′ : List ℕ} → United words rows rows′ (length S / 6) → Checked S rows′ Accepted
+          unfolding FreeAfter
+          answer-none o u =
+              let z : m ≡ 0 = omega arith in
+              record {
+                verdict = sym (no-item S e₇ (fit-none S f) keeps (last-closed r some (sym em ∙ z)));
+                masks = free-rows r (rw zeros at u);
+              }
 
 -- what the pass asks of a table that meets neither item 7 nor item 8
 pub fit : (S : List ℕ) → sizeFits (length S) ≡ true → nodesFit 0 (tableOf S) ≡ true → Fit S

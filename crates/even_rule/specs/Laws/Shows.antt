@@ -1,81 +1,76 @@
--- The masks of a node from its children's, kind by kind.
+-- The word of a node from its children's, kind by kind.
 use mathlib.Core.Path.{_≡_, refl, _∙_, ap, ap₂}
 use mathlib.Core.List.{List}
-use mathlib.Core.Bool.{Bool, true, false, not, _&&_, _||_, cond, and-comm}
-use Prim.Native.Nat.{ℕ, zero, suc, _+_, _*_, _-_, _%_, _^_, _≤_, _<_}
-use native.Mathlib.Nat.{one-mul, mod-eq-of-lt}
+use mathlib.Core.Bool.{Bool, true, false, not, _&&_, _||_}
+use Prim.Native.Nat.{ℕ, zero, suc, _+_, _*_, _-_, _^_, _≤_, _<_}
 use native.Mathlib.Omega.{arith}
 use lib.ListN.{length, getD}
 use lib.Bits.{bitAnd, bitOr}
-use lib.Pow.{pow-lt}
 use Rattle.finite.specs.Tests.{same, bit}
 use Rattle.finite.specs.Laws.Bools.{either}
 use Rattle.finite.specs.Laws.Below.{equal?}
-use Rattle.finite.specs.Laws.Bits.{bit-or, bit-and, bit-not}
-use Rattle.finite.specs.Laws.Weights.{bit-zero, bit-weight}
+use Rattle.finite.specs.Laws.Bits.{bit-or}
+use Rattle.finite.specs.Laws.Weights.{bit-zero}
 use Rattle.limits.specs.Limits.{variables, varNo, notNo, orNo, andNo, diaNo, boxNo, muNo, nuNo, slotNo}
 use Rattle.semantics.specs.Form.{Form, occ, even}
 use Rattle.semantics.specs.Table.{kindOf, build, atom, one, two, treeAt}
 use Rattle.condition.specs.Bytes.{nodeAt, tableOf}
 use Rattle.condition.specs.Limits.{paramLimit}
-use Rattle.condition.specs.Laws.Limits.{each-kind, kind-past, limit-loop}
+use Rattle.condition.specs.Laws.Limits.{each-kind, kind-past, limit-variable, limit-loop}
 use Rattle.condition.specs.Laws.Fits.{node-tree}
-use Rattle.even_rule.specs.Masks.{maskBits, fullMask, Shows, Row, Children, Fit}
+use Rattle.even_rule.specs.Masks.{maskBits, fullWord, bitOf, swap, Shows, Row, Children, Fit}
+use Rattle.even_rule.specs.Laws.Words.{bit-one, bit-swap, bit-rid}
 
--- ---- masks
+-- ---- the word of a tree, from those of the trees below it
 
--- the mask of one variable, as the code computes it
-pub weight : (v : ℕ) → v < variables → (1 * 2 ^ v) % 2 ^ maskBits ≡ 2 ^ v
-weight v h = rw one-mul (mod-eq-of-lt (pow-lt h))
+module _ (p : ℕ) (φ ψ : Form) where
+  pub shows-none : (k : ℕ) → (k < varNo) → Shows (build (kindOf k) p φ ψ) 0
+  unfolding kindOf build atom occ
+  shows-none zero h = record { bits = λ b v l. bit-zero (bitOf b v) }
+  shows-none (suc zero) h = record { bits = λ b v l. bit-zero (bitOf b v) }
+  shows-none (suc (suc zero)) h = record { bits = λ b v l. bit-zero (bitOf b v) }
+  shows-none (suc (suc (suc zero))) h = record { bits = λ b v l. bit-zero (bitOf b v) }
+  shows-none (suc (suc (suc (suc k)))) h = absurd (omega arith)
 
-pub bit-without : (m u v : ℕ) → u < variables → v < variables → bit (bitAnd m (fullMask - 2 ^ u)) v ≡ (not (same u v) && bit m v)
-bit-without m u v hu hv =
-    bit-and m (fullMask - 2 ^ u) v
-    ∙ ap (λ (b : Bool). bit m v && b) (bit-not maskBits (2 ^ u) v (pow-lt hu) hv ∙ ap not (bit-weight u v))
-    ∙ and-comm (bit m v) (not (same u v))
+  pub shows-slot : (k : ℕ) → slotNo ≤ k → Shows (build (kindOf k) p φ ψ) 0
+  unfolding build atom occ
+  shows-slot k h = record { bits = λ b v l. rw (kind-past k h) (bit-zero (bitOf b v)) }
 
--- ---- the mask of a tree, from those of the trees below it
+  pub shows-var : p < variables → Shows (build (kindOf varNo) p φ ψ) (2 ^ p)
+  unfolding kindOf build atom occ
+  shows-var h = record { bits = λ b v l. bit-one p b v h l }
 
-module _ (b : Bool) (p : ℕ) (φ ψ : Form) where
-  pub shows-none : (k : ℕ) → (k < varNo) → Shows b (build (kindOf k) p φ ψ) 0
-  unfolding Shows kindOf build atom occ
-  shows-none zero h v l = bit-zero v
-  shows-none (suc zero) h v l = bit-zero v
-  shows-none (suc (suc zero)) h v l = bit-zero v
-  shows-none (suc (suc (suc zero))) h v l = bit-zero v
-  shows-none (suc (suc (suc (suc k)))) h v l = absurd (omega arith)
+  pub shows-not : (m : ℕ) → Shows φ m → Shows (build (kindOf notNo) p φ ψ) (swap m)
+  unfolding kindOf build one occ
+  shows-not m s = record { bits = λ b v l. bit-swap m b v l ∙ s .bits (not b) v l }
 
-  pub shows-slot : (k : ℕ) → slotNo ≤ k → Shows b (build (kindOf k) p φ ψ) 0
-  unfolding Shows build atom occ
-  shows-slot k h v l = rw (kind-past k h) (bit-zero v)
+  pub shows-two : (k m n : ℕ) → orNo ≤ k → k ≤ andNo → Shows φ m → Shows ψ n → Shows (build (kindOf k) p φ ψ) (bitOr m n)
+  unfolding kindOf build two occ
+  shows-two k m n h g s t =
+      record {
+        bits = λ b v l.
+            let e = bit-or m n (bitOf b v) ∙ ap₂ _||_ (s .bits b v l) (t .bits b v l) in
+            either (equal? k orNo) (λ q. rw q e) (λ q. rw (let r : k ≡ andNo = omega arith in r) e);
+      }
 
-  pub shows-var : Shows b (build (kindOf varNo) p φ ψ) (cond b (2 ^ p) 0)
-  unfolding Shows kindOf build atom occ
-  shows-var v l = go b
-    where
-      go : (a : Bool) → bit (cond a (2 ^ p) 0) v ≡ (a && same p v)
-      go true = bit-weight p v
-      go false = bit-zero v
+  pub shows-step : (k m : ℕ) → diaNo ≤ k → k ≤ boxNo → Shows φ m → Shows (build (kindOf k) p φ ψ) m
+  unfolding kindOf build one occ
+  shows-step k m h g s =
+      record {
+        bits = λ b v l.
+            let e = s .bits b v l in
+            either (equal? k diaNo) (λ q. rw q e) (λ q. rw (let r : k ≡ boxNo = omega arith in r) e);
+      }
 
-  pub shows-not : (m : ℕ) → Shows (not b) φ m → Shows b (build (kindOf notNo) p φ ψ) m
-  unfolding Shows kindOf build one occ
-  shows-not m s v l = s v l
-
-  pub shows-two : (k m n : ℕ) → orNo ≤ k → k ≤ andNo → Shows b φ m → Shows b ψ n → Shows b (build (kindOf k) p φ ψ) (bitOr m n)
-  unfolding Shows kindOf build two occ
-  shows-two k m n h g s t v l =
-      let e = bit-or m n v ∙ ap₂ _||_ (s v l) (t v l) in
-      either (equal? k orNo) (λ q. rw q e) (λ q. rw (let r : k ≡ andNo = omega arith in r) e)
-
-  pub shows-step : (k m : ℕ) → diaNo ≤ k → k ≤ boxNo → Shows b φ m → Shows b (build (kindOf k) p φ ψ) m
-  unfolding Shows kindOf build one occ
-  shows-step k m h g s v l = either (equal? k diaNo) (λ q. rw q (s v l)) (λ q. rw (let r : k ≡ boxNo = omega arith in r) (s v l))
-
-  pub shows-loop : (k m : ℕ) → muNo ≤ k → k ≤ nuNo → p < variables → Shows b φ m → Shows b (build (kindOf k) p φ ψ) (bitAnd m (fullMask - 2 ^ p))
-  unfolding Shows kindOf build one occ
-  shows-loop k m h g small s v l =
-      let e = bit-without m p v small l ∙ ap (λ (a : Bool). not (same p v) && a) (s v l) in
-      either (equal? k muNo) (λ q. rw q e) (λ q. rw (let r : k ≡ nuNo = omega arith in r) e)
+  pub shows-loop : (k m : ℕ) → muNo ≤ k → k ≤ nuNo → p < variables → Shows φ m
+      → Shows (build (kindOf k) p φ ψ) (bitAnd (bitAnd m (fullWord - 2 ^ p)) (fullWord - 2 ^ (p + maskBits)))
+  unfolding kindOf build one occ
+  shows-loop k m h g small s =
+      record {
+        bits = λ b v l.
+            let e = bit-rid m p b v small l ∙ ap (λ (a : Bool). not (same p v) && a) (s .bits b v l) in
+            either (equal? k muNo) (λ q. rw q e) (λ q. rw (let r : k ≡ nuNo = omega arith in r) e);
+      }
 
   -- the even rule at the node itself
   pub even-other : (k : ℕ) → (k < muNo) → even (build (kindOf k) p φ ψ) ≡ true
@@ -92,49 +87,51 @@ module _ (b : Bool) (p : ℕ) (φ ψ : Form) where
   unfolding kindOf build one even
   even-loop k h g = either (equal? k muNo) (λ q. rw q refl) (λ q. rw (let r : k ≡ nuNo = omega arith in r) refl)
 
--- ---- the mask of node i, from those of its children
+-- ---- the word of node i, from those of its children
 
-module _ (S own other : List ℕ) (i k : ℕ) (b : Bool) (f : Fit S) (h : 6 * i + 6 ≤ length S) (e : k ≡ nodeAt S i .kind)
-    (c : Children b S own other i) where
+-- the parameters that are variables, by the kind's number
+pub var-few : {k q p : ℕ} → q ≡ k → varNo ≤ q → q < notNo → p < paramLimit (kindOf k) → p < variables
+var-few {k} e l g few = rw (limit-variable (let r : k ≡ varNo = omega arith in r)) at few
+
+pub loop-few : {k q p : ℕ} → q ≡ k → muNo ≤ q → q ≤ nuNo → p < paramLimit (kindOf k) → p < variables
+loop-few {k} e l g few = rw (limit-loop k (omega arith) (omega arith)) at few
+
+module _ {S words : List ℕ} {i k : ℕ} (f : Fit S) (h : 6 * i + 6 ≤ length S) (e : k ≡ nodeAt S i .kind) (c : Children S words i) where
   shown : (m : ℕ)
-      → Shows b (build (kindOf k) (nodeAt S i .param) (treeAt (tableOf S) (nodeAt S i .left)) (treeAt (tableOf S) (nodeAt S i .right))) m
-      → Shows b (treeAt (tableOf S) i) m
+      → Shows (build (kindOf k) (nodeAt S i .param) (treeAt (tableOf S) (nodeAt S i .left)) (treeAt (tableOf S) (nodeAt S i .right))) m
+      → Shows (treeAt (tableOf S) i) m
   shown m s = rw (node-tree S (f .fits) i h, ← e) s
 
-  pub mask-none : k < varNo → Shows b (treeAt (tableOf S) i) 0
-  mask-none l = shown 0 (shows-none b _ _ _ k l)
+  pub word-none : k < varNo → Shows (treeAt (tableOf S) i) 0
+  word-none l = shown 0 (shows-none _ _ _ k l)
 
-  pub mask-slot : slotNo ≤ k → Shows b (treeAt (tableOf S) i) 0
-  mask-slot l = shown 0 (shows-slot b _ _ _ k l)
+  pub word-slot : slotNo ≤ k → Shows (treeAt (tableOf S) i) 0
+  word-slot l = shown 0 (shows-slot _ _ _ k l)
 
-  pub mask-var : varNo ≤ k → k < notNo → (p m : ℕ) → p ≡ nodeAt S i .param → m ≡ cond b (2 ^ p) 0 → Shows b (treeAt (tableOf S) i) m
-  mask-var l g p m ep em =
+  pub word-var : varNo ≤ k → k < notNo → {p m : ℕ} → p ≡ nodeAt S i .param → p < paramLimit (kindOf (nodeAt S i .kind)) → m ≡ 2 ^ p
+      → Shows (treeAt (tableOf S) i) m
+  word-var l g {p} ep few em =
       let q : k ≡ varNo = omega arith in
-      rw (em, ep) (shown _ (rw q (shows-var b _ _ _)))
+      rw em (shown _ (rw (q, ← ep) (shows-var p _ _ (var-few e l g few))))
 
-  module _ (j : ℕ) (ej : j ≡ nodeAt S i .left) where
-    below-left : notNo ≤ k → k ≤ nuNo → Row b S own other j
+  module _ {j : ℕ} (ej : j ≡ nodeAt S i .left) where
+    below-left : notNo ≤ k → k ≤ nuNo → Row S words j
     below-left l g = rw ej (c .left (omega arith) (omega arith))
 
-    pub mask-not : notNo ≤ k → k < orNo → Shows b (treeAt (tableOf S) i) (getD other j 0)
-    unfolding Row
-    mask-not l g =
+    pub word-not : notNo ≤ k → k < orNo → {m : ℕ} → m ≡ swap (getD words j 0) → Shows (treeAt (tableOf S) i) m
+    word-not l g em =
         let q : k ≡ notNo = omega arith in
-        shown _ (rw (q, ← ej) (shows-not b _ _ _ _ (below-left (omega arith) (omega arith) .1)))
+        rw em (shown _ (rw (q, ← ej) (shows-not _ _ _ _ (below-left (omega arith) (omega arith)))))
 
-    pub mask-two : orNo ≤ k → k < diaNo → (j′ : ℕ) → j′ ≡ nodeAt S i .right → Shows b (treeAt (tableOf S) i) (bitOr (getD own j 0) (getD own j′ 0))
-    unfolding Row
-    mask-two l g j′ ej′ =
-        let right : Row b S own other j′ = rw ej′ (c .right (omega arith) (omega arith)) in
-        shown _ (rw (← ej, ← ej′) (shows-two b _ _ _ k _ _ l (omega arith) (below-left (omega arith) (omega arith) .0) (right .0)))
+    pub word-two : orNo ≤ k → k < diaNo → {r : ℕ} → r ≡ nodeAt S i .right → Shows (treeAt (tableOf S) i) (bitOr (getD words j 0) (getD words r 0))
+    word-two l g {r} er =
+        let right : Row S words r = rw er (c .right (omega arith) (omega arith)) in
+        shown _ (rw (← ej, ← er) (shows-two _ _ _ k _ _ l (omega arith) (below-left (omega arith) (omega arith)) right))
 
-    pub mask-step : diaNo ≤ k → k < muNo → Shows b (treeAt (tableOf S) i) (getD own j 0)
-    unfolding Row
-    mask-step l g = shown _ (rw (← ej) (shows-step b _ _ _ k _ l (omega arith) (below-left (omega arith) (omega arith) .0)))
+    pub word-step : diaNo ≤ k → k < muNo → Shows (treeAt (tableOf S) i) (getD words j 0)
+    word-step l g = shown _ (rw (← ej) (shows-step _ _ _ k _ l (omega arith) (below-left (omega arith) (omega arith))))
 
-    pub mask-loop : muNo ≤ k → k < slotNo → (p m : ℕ) → p ≡ nodeAt S i .param → p < paramLimit (kindOf (nodeAt S i .kind)) → m ≡ bitAnd (getD own j 0) (fullMask - 2 ^ p)
-        → Shows b (treeAt (tableOf S) i) m
-    unfolding Row
-    mask-loop l g p m ep few em =
-        let small : p < variables = rw (limit-loop (nodeAt S i .kind) (omega arith) (omega arith)) at few in
-        rw em (shown _ (rw (← ej, ← ep) (shows-loop b p _ _ k _ l (omega arith) small (below-left (omega arith) (omega arith) .0))))
+    pub word-loop : muNo ≤ k → k ≤ nuNo → {p m n : ℕ} → p ≡ nodeAt S i .param → p < paramLimit (kindOf (nodeAt S i .kind)) → m ≡ bitAnd (getD words j 0) (fullWord - 2 ^ p)
+        → n ≡ bitAnd m (fullWord - 2 ^ (p + maskBits)) → Shows (treeAt (tableOf S) i) n
+    word-loop l g {p} ep few em en =
+        rw (en, em) (shown _ (rw (← ej, ← ep) (shows-loop p _ _ k _ l g (loop-few e l g few) (below-left (omega arith) (omega arith)))))
