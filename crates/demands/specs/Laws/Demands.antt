@@ -88,7 +88,7 @@ module _ {site table sheet : List ℕ} (j : Runnable site table sheet) where
   -- ---- rewriting
 
   short : tooLong (editsOf sheet) (tableOf table) ≡ false
-  short = fits-short table sheet (j .table-accepted) (j .table-fits)
+  short = fits-short table sheet (j .table-accepted) (omega (arith, j .table-fits))
 
   module _ (c : RewriteCall table sheet) where
     rewrite-goes : rewriteVerdict (length (c .result)) table sheet ≡ Accepted

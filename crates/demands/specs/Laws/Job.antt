@@ -2,6 +2,7 @@
 use mathlib.Core.Path.{_≡_, sym, _∙_, ap}
 use mathlib.Core.List.{List}
 use Prim.Native.Nat.{ℕ}
+use native.Mathlib.Omega.{arith}
 use lib.ListN.{length}
 use Rattle.bitset.specs.Set.{setBytes}
 use Rattle.verdict.specs.Verdict.{reasonOf, faultOf}
@@ -35,7 +36,7 @@ module _ (file : List ℕ) (c : JobCall file) where
               cond-accepted = r .pieces .table-accepted;
               sheet-accepted = r .pieces .going .sheet-accepted;
               goes = r .pieces .going .goes-through;
-              short = fits-short (conditionIn file) (sheetIn file) (r .pieces .table-accepted) (r .pieces .table-fits);
+              short = fits-short (conditionIn file) (sheetIn file) (r .pieces .table-accepted) (omega (arith, r .pieces .table-fits));
             };
       }))
 
@@ -52,7 +53,7 @@ module _ (file : List ℕ) (c : JobCall file) where
               record {
                 going = record { site-accepted = a .pieces .site-accepted; sheet-accepted = a .pieces .sheet-accepted; goes-through = a .pieces .goes };
                 table-accepted = a .pieces .cond-accepted;
-                table-fits = short-fits (conditionIn file) (sheetIn file) (a .pieces .cond-accepted) (a .pieces .short);
+                table-fits = omega (arith, short-fits (conditionIn file) (sheetIn file) (a .pieces .cond-accepted) (a .pieces .short));
               };
         }
 
@@ -91,7 +92,7 @@ module _ (file : List ℕ) (c : JobCall file) where
           result-size = c .sized .table-size;
           table-accepted = pieces .table-accepted;
           sheet-accepted = pieces .going .sheet-accepted;
-          short = fits-short (conditionIn file) (sheetIn file) (pieces .table-accepted) (pieces .table-fits);
+          short = fits-short (conditionIn file) (sheetIn file) (pieces .table-accepted) (omega (arith, pieces .table-fits));
         }) in
         record {
           result = c .lent .table;
