@@ -19,7 +19,7 @@ use Rattle.even_rule.specs.Masks.{maskBits, wordBits, fullWord, doneWord
 pub weight : (v : ℕ) → v < wordBits → (1 * 2 ^ v) % 2 ^ wordBits ≡ 2 ^ v
 weight v h = rw one-mul (mod-eq-of-lt (pow-lt h))
 
--- the bits above and below a place
+-- the bits from bit n on, and those below it
 bit-div : (w n v : ℕ) → bit (w / 2 ^ n) v ≡ bit w (n + v)
 unfolding bit
 bit-div w n v = rw (div-div-eq-div-mul w (2 ^ n) (2 ^ v), pow-add 2 n v)
