@@ -14,7 +14,6 @@ use limits::KINDS;
 use limits::LABEL;
 use limits::MU;
 use limits::NAME;
-use limits::NODE_BYTES;
 use limits::NOT;
 use limits::OR;
 use limits::SLOT;
@@ -182,9 +181,9 @@ fn two_children(row: u8) -> bool
     (row == OR) | (row == AND)
 }
 
-// Node c is emitted: its block is written, copies of most kinds at once. Gives whether one of its children waits. Both fields of a node that is
-// no leaf and no loop, diamond or box are taken for children: one that its kind does not use is 0 in an accepted condition, and emitting a node
-// early does no harm. The edit stands in the contract alone.
+// Node c is emitted: its block is written, copies of most kinds at once. Gives whether one of its children waits. A field that the
+// node's kind does not use may be taken for a child, here and in `emit_under`: in an accepted condition it is 0, and a node that is emitted early
+// is emitted as well as any. The edit stands in the contract alone.
 fn emit(
     table: &[u8; TABLE_BYTES],
     images: &[u16; TABLE_NODES],

@@ -2,7 +2,6 @@
 use mathlib.Core.Path.{refl, _∙_}
 use native.Mathlib.Omega.{arith}
 use Rattle.spelling.specs.Spelling.{copyOf}
-use Rattle.blocks.specs.Laws.Write.{length-put}
 use Rattle.blocks.proofs.write_copy.Statement.{statement}
 use Rattle.blocks.proofs.write_copy.Tie as tie
 

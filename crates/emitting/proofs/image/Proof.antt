@@ -1,6 +1,6 @@
 -- The image of a child that is lower.
 use borrow.Author.Tests.{lt-ltb, le-ltb}
-use mathlib.Core.Path.{refl, _∙_}
+use mathlib.Core.Path.{refl}
 use native.Mathlib.Omega.{arith}
 use Rattle.emitting.specs.State.{imageIn}
 use Rattle.emitting.proofs.image.Statement.{statement}

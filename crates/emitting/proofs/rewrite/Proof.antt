@@ -1,5 +1,4 @@
 -- The first pass, and the second.
-use native.Mathlib.Omega.{arith}
 use Rattle.emitting.specs.Laws.Emitted.{counted}
 use Rattle.emitting.proofs.rewrite.Statement.{statement}
 use Rattle.emitting.proofs.rewrite.Tie as tie

@@ -2,7 +2,6 @@
 use mathlib.Core.Path.{_≡_, refl, subst}
 use Prim.Native.Nat.{ℕ, _≤_, _<_}
 use native.Mathlib.Omega.{arith}
-use lib.ListN.{getD}
 use Rattle.semantics.specs.Edit.{Edit, CN1, CN2, AP, DP, AT, DT1, DT2, AS, DS}
 use Rattle.semantics.specs.Table.{kindOf}
 use Rattle.semantics.specs.Block.{old, change, blockDia, blockBox, blockLeaf, block}

@@ -5,10 +5,10 @@ use mathlib.Core.Logic.{_⊎_, inl, inr}
 use mathlib.Core.Bool.{Bool, true, false, _||_, not}
 use Prim.Native.Nat.{ℕ, _+_, _*_, _≤_, _<_}
 use native.Mathlib.Omega.{arith}
-use lib.ListN.{length, getD, set}
+use lib.ListN.{getD, set}
 use lib.Seq.{getD-set-other}
 use lib.Dec.{ltb}
-use Rattle.finite.specs.Laws.Bools.{either, look, clash}
+use Rattle.finite.specs.Laws.Bools.{either, look}
 use Rattle.finite.specs.Laws.Below.{equal?}
 use Rattle.semantics.specs.Edit.{Edit}
 use Rattle.condition.specs.Bytes.{nodeAt}

@@ -3,7 +3,6 @@ use mathlib.Core.Path.{_≡_, refl, sym, _∙_, ap, ap₂, subst}
 use mathlib.Core.List.{List, _++_}
 use Prim.Native.Nat.{ℕ, zero, suc, _+_, _*_, _-_, _≤_, _<_}
 use native.Mathlib.Omega.{arith}
-use native.Mathlib.Numerals.{add-one}
 use lib.ListN.{length, getD, set, take, length-set, List·getD-append}
 use lib.Dec.{ltb}
 use lib.Seq.{getD-take, getD-set-same, getD-set-other, getD-append-add, ext-getD, length-take-le}
@@ -16,14 +15,14 @@ use Rattle.semantics.specs.Block.{Block, old, size, emit, block, rewriteTable}
 use Rattle.semantics.specs.Laws.Emit.{emit-length}
 use Rattle.condition.specs.Bytes.{nodeAt, nodes, bytesOf}
 use Rattle.condition.specs.Laws.Bytes.{length-bytes}
-use Rattle.limits.specs.Limits.{tableNodes, tableBytes, notNo, orNo, diaNo, slotNo, kinds}
+use Rattle.limits.specs.Limits.{tableBytes, notNo, orNo, diaNo, slotNo, kinds}
 use Rattle.spelling.specs.declared.Spelling.{Spelling}
 use Rattle.spelling.specs.Rows.{rowCount}
 use Rattle.spelling.specs.Spelling.{spelled, Spells, Sized, keptBy, usedBy, copyOf}
 use Rattle.blocks.specs.Laws.Rows.{sized-copy, copy-written}
 use Rattle.blocks.specs.Write.{put, puts, TableWritten}
 use Rattle.blocks.specs.Laws.Write.{length-puts}
-use Rattle.emitting.specs.State.{blockIn, step, stateAt, leftAt, rightAt, startOf, startIn, Numbered, imageIn, emittedRow, spellingOf, Rowed, NoneEmitted, Emittable, Stands, Emitting, lowerOf, higherOf, OneEmitted, TwoEmitted}
+use Rattle.emitting.specs.State.{blockIn, step, stateAt, leftAt, rightAt, startOf, startIn, Numbered, imageIn, emittedRow, spellingOf, NoneEmitted, Emittable, Stands, Emitting, lowerOf, higherOf, OneEmitted, TwoEmitted}
 use Rattle.emitting.specs.Laws.State.{state-out}
 use Rattle.emitting.specs.Laws.Numbered.{blockAt, start-more, starts-up, start-is, numbered-low, start-none, image-is, image-last, rowed-low}
 use Rattle.emitting.specs.Laws.Shapes.{leaf-alone, one-alone}

@@ -17,9 +17,8 @@ use Rattle.semantics.specs.Block.{Block, old, end, on, join, size, root, block}
 use Rattle.semantics.specs.Laws.Emit.{emit-length}
 use Rattle.condition.specs.Bytes.{nodeAt}
 use Rattle.limits.specs.Limits.{tableNodes}
-use Rattle.spelling.specs.declared.Spelling.{Spelling}
 use Rattle.spelling.specs.Spelling.{firstOf, secondOf, Spells, Sized}
-use Rattle.emitting.specs.State.{blockIn, step, stateAt, imageOf, startOf, startIn, Numbered, imageIn, emittedRow, spellingOf, Rowed, NoneEmitted}
+use Rattle.emitting.specs.State.{blockIn, step, stateAt, imageOf, startOf, startIn, Numbered, imageIn, spellingOf, Rowed, NoneEmitted}
 use Rattle.emitting.specs.Laws.State.{images-length, image-at}
 use Rattle.emitting.specs.Laws.Sizes.{block-some}
 

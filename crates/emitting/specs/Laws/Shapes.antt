@@ -9,7 +9,7 @@ use Rattle.semantics.specs.Table.{kNot, kDia, kBox, kMu, kNu, Kind, leaf, unary
 use Rattle.semantics.specs.Block.{Change, keep, added, cut, cutFrom, cutTo, cutOff, change, Block, old, end, on, join, blockDia, blockBox, block}
 use Rattle.condition.specs.Laws.Limits.{each-kind}
 use Rattle.limits.specs.Limits.{notNo, orNo, diaNo, slotNo}
-use Rattle.spelling.specs.Rows.{copies, rows}
+use Rattle.spelling.specs.Rows.{copies}
 use Rattle.spelling.specs.Spelling.{spelled, Spells}
 use Rattle.emitting.specs.State.{usedChild}
 use Rattle.emitting.specs.Laws.State.{leftBy, rightBy, left-used, right-used}

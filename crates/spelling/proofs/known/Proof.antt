@@ -1,6 +1,4 @@
 -- A known kind.
-use Prim.Native.Nat.{_≤_, _<_}
-use native.Mathlib.Omega.{arith}
 use Rattle.finite.specs.Laws.Below.{below-in, below-not}
 use Rattle.spelling.specs.Spelling.{knownKind}
 use Rattle.spelling.proofs.known.Statement.{statement}

@@ -1,5 +1,4 @@
 -- The row of a leaf.
-use mathlib.Core.Path.{refl}
 use Rattle.finite.specs.Tests.{same}
 use Rattle.spelling.specs.Spelling.{leafRow}
 use Rattle.spelling.proofs.leaf_row.Statement.{statement}

@@ -1,8 +1,6 @@
 -- The row of a diamond and of a box.
-use mathlib.Core.Path.{_∙_, sym}
 use native.Mathlib.Omega.{arith}
 use Rattle.finite.specs.Laws.Below.{eq-same, ne-same}
-use Rattle.finite.specs.Tests.{same}
 use Rattle.spelling.specs.Spelling.{wayRow}
 use Rattle.spelling.proofs.way_row.Statement.{statement}
 use Rattle.spelling.proofs.way_row.Tie as tie

@@ -1,25 +1,24 @@
 -- The row that is chosen for a node has the block of the node.
-use mathlib.Core.Path.{_≡_, refl, sym, _∙_, ap, subst}
-use mathlib.Core.List.{List, _++_}
-use mathlib.Core.Bool.{Bool, true, false, _&&_, cond}
+use mathlib.Core.Path.{_≡_, refl, _∙_, ap}
+use mathlib.Core.List.{_++_}
+use mathlib.Core.Bool.{Bool, true, false, cond}
 use Prim.Native.Nat.{ℕ, _+_, _-_, _%_, _≤_, _<_}
 use native.Mathlib.Omega.{arith}
 use lib.ListN.{getD}
 use Rattle.finite.specs.Tests.{same, below}
 use Rattle.finite.specs.Laws.Bools.{either, look}
-use Rattle.finite.specs.Laws.Below.{below-in, below-out, below-not, not-below}
+use Rattle.finite.specs.Laws.Below.{below-in, below-out, below-not}
 use Rattle.limits.specs.Limits.{links, everyWay}
 use Rattle.semantics.specs.Form.{Way, along, against, every}
 use Rattle.semantics.specs.Edit.{Edit, CN1, CN2, AP, DP, AT, DT1, DT2, AS, DS, legal}
 use Rattle.semantics.specs.Table.{kindOf, wayOf}
-use Rattle.semantics.specs.Block.{Change, keep, added, cut, cutFrom, cutTo, cutOff, change, Block, old, size, blockDia, blockBox, blockLeaf, block}
+use Rattle.semantics.specs.Block.{Change, keep, added, cut, cutFrom, cutTo, cutOff, change, Block, old, blockDia, blockBox, blockLeaf, block}
 use Rattle.semantics.specs.Laws.Edits.{Legal, legal-out, functional-small}
-use Rattle.semantics.specs.Laws.Ways.{way-along}
 use Rattle.condition.specs.Laws.Limits.{each-kind, kind-past}
 use Rattle.sheet.specs.declared.Op.{Op}
 use Rattle.sheet.specs.Bytes.{editOf}
 use Rattle.spelling.specs.declared.Spelling.{Spelling}
-use Rattle.spelling.specs.Rows.{copyCount, rowCount, copies, rows}
+use Rattle.spelling.specs.Rows.{rowCount, copies, rows}
 use Rattle.spelling.specs.Spelling.{spelled, Spells, knownKind, onWay, leafRow, wayRow, asRow, dsRow, rowOf, firstOf, secondOf}
 
 -- ---- ways by their numbers, and what an edit does by each
