@@ -1,4 +1,4 @@
--- What rewriting answers and leaves in its buffer. The buffer is named twice: as it was, and as it is at return (′).
+-- What rewriting leaves in its buffer after a verdict. The buffer is named twice: as it was, and as it is at return (′).
 use mathlib.Core.Path.{_≡_}
 use mathlib.Core.List.{List, _++_}
 use Prim.Native.Nat.{ℕ, _*_, _-_}
@@ -10,7 +10,6 @@ use Rattle.semantics.specs.Block.{rewriteSheet}
 use Rattle.condition.specs.Bytes.{tableOf, bytesOf}
 use Rattle.sheet.specs.Bytes.{editsOf}
 use Rattle.limits.specs.Limits.{tableBytes}
-use Rattle.rewriting.specs.Refusal.{lengthVerdict}
 
 -- the rewritten table
 abbrev pub rewritten : (table sheet : List ℕ) → List Node
@@ -21,8 +20,3 @@ unfoldable pub TableAfter : Verdict → (table sheet result result′ : List ℕ
 TableAfter Accepted table sheet result result′ n =
     (n ≡ length (rewritten table sheet)) × (result′ ≡ bytesOf (rewritten table sheet) ++ replicate (tableBytes - 6 * n) 0)
 TableAfter (Refused item w) table sheet result result′ n = (n ≡ 0) × (result′ ≡ replicate (length result) 0)
-
--- inputs that meet none of the items before 14 have the verdict v and the node count n
-pub record Rewrote (table sheet result result′ : List ℕ) (v : Verdict) (n : ℕ) : Type 0 where
-  pub verdict : v ≡ lengthVerdict (editsOf sheet) (tableOf table)
-  pub table-after : TableAfter v table sheet result result′ n

@@ -14,9 +14,8 @@ ghost use Rattle.semantics.specs.Edit.{sheetLegal};
 ghost use Rattle.condition.specs.Bytes.{nodes};
 ghost use Rattle.sheet.specs.Bytes.{editsOf};
 ghost use Rattle.limits.specs.Limits.{tableNodes, tableBytes};
-ghost use Rattle.rewriting.specs.State.{Passed, Finished};
+ghost use Rattle.rewriting.specs.State.{Passed, Finished, Rewrote};
 ghost use Rattle.rewriting.specs.Answer.{verdictOf, nodesOf};
-ghost use Rattle.rewriting.specs.Rewriting.{Rewrote};
 
 // Zeros from byte n on.
 fn clear_from(b: &mut [u8], n: usize)

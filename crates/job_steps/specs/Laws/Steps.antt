@@ -13,7 +13,7 @@ use Rattle.applying.specs.Applies.{Applies}
 use Rattle.rewriting.specs.declared.Rewriting.{Rewriting}
 use Rattle.rewriting.specs.declared.Rewriting.the-variants as answer
 use Rattle.rewriting.specs.Answer.{verdictOf, nodesOf}
-use Rattle.rewriting.specs.Rewriting.{Rewrote}
+use Rattle.rewriting.specs.State.{Rewrote}
 use Rattle.apply_entry.specs.Applying.{SiteAfter}
 use Rattle.apply_entry.specs.Laws.Applying.{site-written}
 use Rattle.job_steps.specs.Steps.{PiecesJudged, changeVerdict, Changed}

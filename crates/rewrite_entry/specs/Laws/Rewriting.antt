@@ -21,7 +21,8 @@ use Rattle.rewriting.specs.declared.Rewriting.{Rewriting}
 use Rattle.rewriting.specs.declared.Rewriting.the-variants as entry
 use Rattle.rewriting.specs.Refusal.{lengthVerdict}
 use Rattle.rewriting.specs.Answer.{verdictOf, nodesOf}
-use Rattle.rewriting.specs.Rewriting.{TableAfter, Rewrote}
+use Rattle.rewriting.specs.Rewriting.{TableAfter}
+use Rattle.rewriting.specs.State.{Rewrote}
 use Rattle.refusals.specs.Refusal.{bufferVerdict}
 use Rattle.refusals.specs.Laws.Items.{buffer-in, buffer-not, buffer-out, then-out}
 use Rattle.rewrite_entry.specs.Refusal.{rewriteVerdict}

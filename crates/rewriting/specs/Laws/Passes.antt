@@ -22,8 +22,8 @@ use Rattle.sheet.specs.Laws.Read.{edits-length, edits-at, edits-drop}
 use Rattle.limits.specs.Limits.{tableNodes, tableBytes}
 use Rattle.blocks.specs.Write.{TableWritten}
 use Rattle.rewriting.specs.Refusal.{tooLong, lengthVerdict}
-use Rattle.rewriting.specs.Rewriting.{rewritten, TableAfter, Rewrote}
-use Rattle.rewriting.specs.State.{Passed, Finished}
+use Rattle.rewriting.specs.Rewriting.{rewritten, TableAfter}
+use Rattle.rewriting.specs.State.{Passed, Finished, Rewrote}
 use Rattle.rewriting.specs.Laws.Buffers.{read-table, take-table, copied}
 
 -- each edit of a legal sheet is legal
