@@ -16,6 +16,9 @@ use Rattle.condition.specs.Bytes.{nodeAt, tableOf}
 abbrev pub maskBits : ℕ
 maskBits = 16
 
+abbrev pub maskLimit : ℕ
+maskLimit = 65536
+
 abbrev pub wordBits : ℕ
 wordBits = 64
 
@@ -33,11 +36,11 @@ bitOf even v = cond even v (maskBits + v)
 
 -- the two masks of a word exchanged
 abbrev pub swap : ℕ → ℕ
-swap w = w / 65536 % 65536 + 65536 * (w % 65536)
+swap w = w / maskLimit % maskLimit + maskLimit * (w % maskLimit)
 
 -- the two masks of a word united
 abbrev pub freeBits : ℕ → ℕ
-freeBits w = bitOr (w % 65536) (w / 65536 % 65536)
+freeBits w = bitOr (w % maskLimit) (w / maskLimit % maskLimit)
 
 -- the word w has the bits of the free occurrences in φ
 pub record Shows (φ : Form) (w : ℕ) : Type 0 where

@@ -22,6 +22,11 @@ ghost use Rattle.condition.specs.Refusal.{sizeFits, firstUneven};
 ghost use Rattle.even_rule.specs.Free.{noMasks, Checked};
 ghost use Rattle.even_rule.specs.Masks.{wordBits, fullWord, swap, freeBits, Shows, Children, Rows, Fit, Visitable, Visited, United};
 
+// A mask has 16 bits and is below 65,536: a bit for each variable.
+const MASK_BITS: usize = 16;
+
+const MASK_LIMIT: u64 = 65536;
+
 // Set in the word of each node that is done, so that no such word is 0.
 const DONE: u64 = 4294967296;
 
@@ -51,14 +56,14 @@ fn has(word: u64, v: usize) -> bool
 fn swapped(word: u64) -> u64
     ensures { λ r. ⌜ r ≡ swap word ⌝ }
 {
-    word / 65536 % 65536 + 65536 * (word % 65536)
+    word / MASK_LIMIT % MASK_LIMIT + MASK_LIMIT * (word % MASK_LIMIT)
 }
 
 // The variables that are free, under whatever number of nots.
 fn free_in(word: u64) -> u16
     ensures { λ r. ⌜ r ≡ freeBits word ⌝ }
 {
-    (word % 65536 | word / 65536 % 65536) as u16
+    (word % MASK_LIMIT | word / MASK_LIMIT % MASK_LIMIT) as u16
 }
 
 // The word of node i, from its children's words.
@@ -89,7 +94,7 @@ fn word_of(table: &[u8], words: &[u64; TABLE_NODES], i: usize) -> u64
         return w;
     }
     let v = condition::number(table, i);
-    without(without(w, v), v + 16)
+    without(without(w, v), v + MASK_BITS)
 }
 
 // Node c gets its word, after its children, where it is below i and not done. A field that c does not use is 0: node 0 is visited then, which
@@ -112,7 +117,8 @@ fn visit(table: &[u8], words: &mut [u64; TABLE_NODES], i: usize, c: usize)
     words[c] = w | DONE;
 }
 
-// As `visit`, which the compiler puts it into: a call is a node and its children, and of deep calls the returns cost the most.
+// `visit` again, for every second level. The compiler puts it into `visit`, so that a call takes a node and its children: where calls are
+// nested deep, their returns cost the most.
 fn visit_child(table: &[u8], words: &mut [u64; TABLE_NODES], i: usize, c: usize)
     requires { ⌜ Visitable (now table) (now words) i ⌝ }
     ensures { λ _. ⌜ Visited (now (table .entry)) (now (words .entry)) (now (words .exit)) i c ⌝ }
@@ -160,7 +166,7 @@ fn uneven(table: &[u8], words: &[u64; TABLE_NODES], i: usize) -> bool
     }
     has(
         words[condition::left_child(table, i)],
-        condition::number(table, i) + 16,
+        condition::number(table, i) + MASK_BITS,
     )
 }
 

@@ -13,7 +13,7 @@ use Rattle.finite.specs.Laws.Below.{equal?, same-eq, eq-same, ne-same}
 use Rattle.finite.specs.Laws.Weights.{bit-zero, bit-weight}
 use Rattle.limits.specs.Limits.{variables}
 use Rattle.semantics.specs.Form.{Form}
-use Rattle.even_rule.specs.Masks.{maskBits, wordBits, fullWord, doneWord, bitOf, swap, freeBits, Shows}
+use Rattle.even_rule.specs.Masks.{maskBits, maskLimit, wordBits, fullWord, doneWord, bitOf, swap, freeBits, Shows}
 
 -- the word of one bit, as the code computes it
 pub weight : (v : ℕ) → v < wordBits → (1 * 2 ^ v) % 2 ^ wordBits ≡ 2 ^ v
@@ -34,25 +34,25 @@ bit-mod w n v h =
     ∙ ap (λ (b : Bool). bit w v && b) (full n v h)
     ∙ and-true (bit w v)
 
-low : (w v : ℕ) → v < variables → bit (w % 65536) v ≡ bit w v
+low : (w v : ℕ) → v < variables → bit (w % maskLimit) v ≡ bit w v
 low w v h = bit-mod w maskBits v h
 
-high : (w v : ℕ) → v < variables → bit (w / 65536 % 65536) v ≡ bit w (maskBits + v)
-high w v h = bit-mod (w / 65536) maskBits v h ∙ bit-div w maskBits v
+high : (w v : ℕ) → v < variables → bit (w / maskLimit % maskLimit) v ≡ bit w (maskBits + v)
+high w v h = bit-mod (w / maskLimit) maskBits v h ∙ bit-div w maskBits v
 
 pub bit-swap : (w : ℕ) (b : Bool) (v : ℕ) → v < variables → bit (swap w) (bitOf b v) ≡ bit w (bitOf (not b) v)
 bit-swap w true v h =
-    let e : swap w % 65536 ≡ w / 65536 % 65536 = omega arith in
+    let e : swap w % maskLimit ≡ w / maskLimit % maskLimit = omega arith in
     sym (low (swap w) v h) ∙ ap (λ (x : ℕ). bit x v) e ∙ high w v h
 bit-swap w false v h =
-    let e : swap w / 65536 ≡ w % 65536 = omega arith in
+    let e : swap w / maskLimit ≡ w % maskLimit = omega arith in
     sym (bit-div (swap w) maskBits v) ∙ ap (λ (x : ℕ). bit x v) e ∙ low w v h
 
 pub bit-free : (w v : ℕ) → v < variables → bit (freeBits w) v ≡ (bit w (bitOf true v) || bit w (bitOf false v))
-bit-free w v h = bit-or (w % 65536) (w / 65536 % 65536) v ∙ ap₂ _||_ (low w v h) (high w v h)
+bit-free w v h = bit-or (w % maskLimit) (w / maskLimit % maskLimit) v ∙ ap₂ _||_ (low w v h) (high w v h)
 
 pub free-few : (w : ℕ) → freeBits w < 2 ^ maskBits
-free-few w = or-lt maskBits (w % 65536) (w / 65536 % 65536) (omega arith) (omega arith)
+free-few w = or-lt maskBits (w % maskLimit) (w / maskLimit % maskLimit) (omega arith) (omega arith)
 
 -- bit u is taken out
 bit-without : (w u v : ℕ) → u < wordBits → v < wordBits → bit (bitAnd w (fullWord - 2 ^ u)) v ≡ (not (same u v) && bit w v)
