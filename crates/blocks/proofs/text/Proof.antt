@@ -1,16 +1,21 @@
 -- The text of each row is that of its block: by computing.
-use mathlib.Core.Path.{refl}
+use mathlib.Core.Path.{_≡_, refl}
+use Prim.Native.Nat.{ℕ, _≤_}
 use native.Mathlib.Omega.{arith}
 use Rattle.semantics.specs.Table.{kindNo}
 use Rattle.semantics.specs.Block.{size, root, emit}
 use Rattle.spelling.specs.Rows.{rows}
 use Rattle.blocks.specs.Texts.{coded, codedAt, groupOf, groupsOf, wordOf, textOf, textAt}
-use Rattle.blocks.specs.Laws.Keys.{Others, last-key}
+use Rattle.finite.specs.Laws.Arms.{missed}
 use Rattle.blocks.proofs.text.Statement.{statement}
 use Rattle.blocks.proofs.text.Tie as tie
 
+-- the row behind all those that an arm names
+last-row : (n : ℕ) → 34 ≤ n → n ≤ 34 → n ≡ 34
+last-row n g h = omega arith
+
 pub text-spec : {M : Type 1} → statement M
-unfolding rows coded codedAt groupOf groupsOf wordOf textOf textAt size root emit kindNo Others
+unfolding rows coded codedAt groupOf groupsOf wordOf textOf textAt size root emit kindNo
 text-spec =
     tie.close
     (tie.spec
@@ -35,4 +40,4 @@ text-spec =
     (λ c. rw (c .match .keys19) refl)
     (λ c. rw (c .match .keys20) refl)
     (λ c. rw (c .match .keys21) refl)
-    (λ c. let e = last-key _ 13 21 (c .match .rest) (omega arith) (omega arith) in rw e refl))
+    (λ c. rw (last-row _ (missed 13 21 _ (c .match .rest) (omega arith)) (omega arith)) refl))

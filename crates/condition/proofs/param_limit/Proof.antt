@@ -2,12 +2,12 @@
 use mathlib.Core.Path.{refl, sym}
 use Rattle.semantics.specs.Table.{kindOf}
 use Rattle.condition.specs.Limits.{paramLimit}
-use Rattle.condition.specs.Laws.Limits.{NoneOf, limit-slot}
+use Rattle.condition.specs.Laws.Limits.{limit-slot}
 use Rattle.condition.proofs.param_limit.Statement.{statement}
 use Rattle.condition.proofs.param_limit.Tie as tie
 
 pub param-limit-spec : {M : Type 1} → statement M
-unfolding kindOf paramLimit NoneOf
+unfolding kindOf paramLimit
 param-limit-spec =
     tie.close
     (tie.spec

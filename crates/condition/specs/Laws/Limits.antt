@@ -7,6 +7,7 @@ use lib.Dec.{ltb}
 use borrow.Author.Tests.{lt-ltb, le-ltb}
 use Rattle.finite.specs.Tests.{same, below}
 use Rattle.finite.specs.Laws.Bools.{either, and-l, and-r, both}
+use Rattle.finite.specs.Laws.Arms.{Missed, missed}
 use Rattle.finite.specs.Laws.Below.{equal?, same-eq, eq-same, below-in, below-out}
 use Rattle.limits.specs.Limits.{slots, labels, names, variables, labelNo, nameNo, varNo, notNo, orNo, andNo, diaNo, muNo, nuNo, slotNo, kinds}
 use Rattle.semantics.specs.Table.{Leaf, kTrue, kHere, kLabel, kName, kVar, kSlot, Unary, kNot, kDia, kBox, kMu, kNu, Kind, leaf, unary, binary, kindOf, Node, leafFits, unaryFits, kindFits, nodeFits}
@@ -88,19 +89,10 @@ kind-past k h =
     let e : suc (suc (suc (suc (suc (suc (suc (suc (suc (suc (suc (suc (k - 12)))))))))))) ≡ k = omega arith in
     subst (λ (j : ℕ). kindOf j ≡ leaf kSlot) e refl
 
--- k is none of the n lowest numbers, as the last arm of a match says it
-unfoldable pub NoneOf : (k n : ℕ) → Type 0
-NoneOf k zero = Unit {0}
-NoneOf k (suc n) = NoneOf k n × (k ≡ n → ⊥)
-
-none-past : (k n : ℕ) → NoneOf k n → n ≤ k
-unfolding NoneOf
-none-past k zero o = omega arith
-none-past k (suc n) o = either (equal? k n) (λ e. absurd (o .1 e)) (λ e. let h = none-past k n (o .0) in omega arith)
-
-pub limit-slot : (k : ℕ) → NoneOf k slotNo → paramLimit (kindOf k) ≡ 256
+-- the bound of a slot's parameter, as the last arm of a match on the kind needs it
+pub limit-slot : (k : ℕ) → Missed 0 slotNo k → paramLimit (kindOf k) ≡ 256
 unfolding paramLimit
-limit-slot k o = rw (kind-past k (none-past k slotNo o)) refl
+limit-slot k o = rw (kind-past k (missed 0 slotNo k o (omega arith))) refl
 
 -- the bounds of the kinds whose parameter is a number of its own: a label, a name, a variable, and the variable of a loop
 pub limit-label : {k : ℕ} → k ≡ labelNo → paramLimit (kindOf k) ≡ labels

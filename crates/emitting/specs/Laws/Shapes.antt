@@ -6,19 +6,14 @@ use native.Mathlib.Omega.{arith}
 use Rattle.finite.specs.Laws.Bools.{clash}
 use Rattle.semantics.specs.Edit.{Edit}
 use Rattle.semantics.specs.Table.{kNot, kDia, kBox, kMu, kNu, Kind, leaf, unary, binary, kindOf, wayOf}
-use Rattle.semantics.specs.Block.{Change, keep, added, cut, cutFrom, cutTo, cutOff, change, Block, old, end, on, join, blockDia, blockBox, block}
+use Rattle.semantics.specs.Block.{change, Block, old, end, on, join, block}
 use Rattle.condition.specs.Laws.Limits.{each-kind}
 use Rattle.limits.specs.Limits.{notNo, orNo, diaNo, slotNo}
 use Rattle.spelling.specs.Rows.{copies}
 use Rattle.spelling.specs.Spelling.{spelled, Spells}
 use Rattle.emitting.specs.State.{usedChild}
+use Rattle.emitting.specs.Laws.Sizes.{isEnd, ways-inner}
 use Rattle.emitting.specs.Laws.State.{leftBy, rightBy, left-used, right-used}
-
-unfoldable isEnd : Block → Bool
-isEnd (old i) = false
-isEnd (end k p) = true
-isEnd (on k p x) = false
-isEnd (join k x y) = false
 
 unfoldable isJoin : Block → Bool
 isJoin (old i) = false
@@ -26,31 +21,13 @@ isJoin (end k p) = false
 isJoin (on k p x) = false
 isJoin (join k x y) = true
 
-dia-no-end : (c : Change) (w : ℕ) (T : Block) → isEnd (blockDia c w T) ≡ false
-unfolding isEnd blockDia
-dia-no-end keep w T = refl
-dia-no-end (added a b) w T = refl
-dia-no-end (cut a b) w T = refl
-dia-no-end (cutFrom n) w T = refl
-dia-no-end (cutTo n) w T = refl
-dia-no-end (cutOff n) w T = refl
-
-box-no-end : (c : Change) (w : ℕ) (T : Block) → isEnd (blockBox c w T) ≡ false
-unfolding isEnd blockBox
-box-no-end keep w T = refl
-box-no-end (added a b) w T = refl
-box-no-end (cut a b) w T = refl
-box-no-end (cutFrom n) w T = refl
-box-no-end (cutTo n) w T = refl
-box-no-end (cutOff n) w T = refl
-
 -- the block of a node with a child does not end it
 no-child : (e : Edit) (K : Kind) (p : ℕ) (T U : Block) (l r i : ℕ) → isEnd (block e K p T U) ≡ true → (leftBy K l i ≡ i) × (rightBy K r i ≡ i)
 unfolding isEnd block leftBy rightBy
 no-child e (leaf k) p T U l r i h = (refl, refl)
 no-child e (unary kNot) p T U l r i h = clash h refl
-no-child e (unary kDia) p T U l r i h = clash h (dia-no-end (change e (wayOf p)) p T)
-no-child e (unary kBox) p T U l r i h = clash h (box-no-end (change e (wayOf p)) p T)
+no-child e (unary kDia) p T U l r i h = clash h (ways-inner (change e (wayOf p)) p T .0 .no-end)
+no-child e (unary kBox) p T U l r i h = clash h (ways-inner (change e (wayOf p)) p T .1 .no-end)
 no-child e (unary kMu) p T U l r i h = clash h refl
 no-child e (unary kNu) p T U l r i h = clash h refl
 no-child e (binary k) p T U l r i h = clash h refl

@@ -1,11 +1,19 @@
--- A block has at least one node.
+-- A block has at least one node, and which blocks are a single one.
+use mathlib.Core.Path.{_≡_, refl}
+use mathlib.Core.Bool.{Bool, true, false}
 use Prim.Native.Nat.{ℕ, _≤_}
 use native.Mathlib.Omega.{arith}
 use Rattle.finite.specs.Tests.{same}
 use Rattle.finite.specs.Laws.Bools.{either, look}
 use Rattle.semantics.specs.Edit.{Edit, CN1, CN2, AP, DP, AT, DT1, DT2, AS, DS}
-use Rattle.semantics.specs.Table.{Leaf, kTrue, kHere, kLabel, kName, kVar, kSlot, kNot, kDia, kBox, kMu, kNu, Kind, leaf, unary, binary, wayOf}
-use Rattle.semantics.specs.Block.{Change, keep, added, cut, cutFrom, cutTo, cutOff, change, Block, size, blockDia, blockBox, blockLeaf, block}
+use Rattle.semantics.specs.Table.{Leaf, Unary, Binary, kTrue, kHere, kLabel, kName, kVar, kSlot, kNot, kDia, kBox, kMu, kNu, Kind, leaf, unary, binary, wayOf}
+use Rattle.semantics.specs.Block.{Change, keep, added, cut, cutFrom, cutTo, cutOff, change, Block, old, end, on, join, size, blockDia, blockBox, blockLeaf, block}
+
+unfoldable pub isEnd : Block → Bool
+isEnd (old i) = false
+isEnd (end k p) = true
+isEnd (on k p x) = false
+isEnd (join k x y) = false
 
 leaf-some : (e : Edit) (k : Leaf) (p : ℕ) → 1 ≤ size (blockLeaf e k p)
 unfolding blockLeaf size
@@ -40,31 +48,36 @@ leaf-some (DS n) kName p = either (look (same p 0)) (λ e. rw (e, size) (omega a
 leaf-some e kVar p = omega arith
 leaf-some e kSlot p = omega arith
 
-dia-some : (c : Change) (w : ℕ) (T : Block) → 1 ≤ size (blockDia c w T)
-unfolding blockDia size
-dia-some keep w T = omega arith
-dia-some (added a b) w T = omega arith
-dia-some (cut a b) w T = omega arith
-dia-some (cutFrom n) w T = omega arith
-dia-some (cutTo n) w T = omega arith
-dia-some (cutOff n) w T = omega arith
+-- a block that has a child: it has a node, and is no end
+pub record Inner (B : Block) : Type 0 where
+  pub some : 1 ≤ size B
+  pub no-end : isEnd B ≡ false
 
-box-some : (c : Change) (w : ℕ) (T : Block) → 1 ≤ size (blockBox c w T)
-unfolding blockBox size
-box-some keep w T = omega arith
-box-some (added a b) w T = omega arith
-box-some (cut a b) w T = omega arith
-box-some (cutFrom n) w T = omega arith
-box-some (cutTo n) w T = omega arith
-box-some (cutOff n) w T = omega arith
+on-inner : {k : Unary} {p : ℕ} {x : Block} → Inner (on k p x)
+unfolding isEnd size
+on-inner = record { some = omega arith; no-end = refl }
+
+join-inner : {k : Binary} {x y : Block} → Inner (join k x y)
+unfolding isEnd size
+join-inner = record { some = omega arith; no-end = refl }
+
+-- the blocks of a diamond and of a box
+pub ways-inner : (c : Change) (w : ℕ) (T : Block) → Inner (blockDia c w T) × Inner (blockBox c w T)
+unfolding blockDia blockBox
+ways-inner keep w T = (on-inner, on-inner)
+ways-inner (added a b) w T = (join-inner, join-inner)
+ways-inner (cut a b) w T = (join-inner, join-inner)
+ways-inner (cutFrom n) w T = (join-inner, join-inner)
+ways-inner (cutTo n) w T = (on-inner, on-inner)
+ways-inner (cutOff n) w T = (join-inner, join-inner)
 
 -- a node makes at least one
 pub block-some : (e : Edit) (k : Kind) (p : ℕ) (T U : Block) → 1 ≤ size (block e k p T U)
 unfolding block size
 block-some e (leaf k) p T U = leaf-some e k p
 block-some e (unary kNot) p T U = omega arith
-block-some e (unary kDia) p T U = dia-some (change e (wayOf p)) p T
-block-some e (unary kBox) p T U = box-some (change e (wayOf p)) p T
+block-some e (unary kDia) p T U = ways-inner (change e (wayOf p)) p T .0 .some
+block-some e (unary kBox) p T U = ways-inner (change e (wayOf p)) p T .1 .some
 block-some e (unary kMu) p T U = omega arith
 block-some e (unary kNu) p T U = omega arith
 block-some e (binary k) p T U = omega arith

@@ -1,13 +1,13 @@
--- What the last arm of a match on a number knows, where the arms before it have the numbers 0, 1, .., n - 1.
+-- What the last arm of a match on a number knows, where the arms before it have the n numbers from i on.
 use mathlib.Core.Path.{_≡_}
-use Prim.Native.Nat.{ℕ, zero, suc, _≤_}
+use Prim.Native.Nat.{ℕ, zero, suc, _+_, _≤_}
 use native.Mathlib.Omega.{arith}
 
--- k is none of the numbers below n
-abbrev pub Missed : ℕ → ℕ → Type 0
-Missed zero k = Unit {0}
-Missed (suc n) k = Missed n k × (k ≡ n → ⊥)
+-- k is none of the n numbers from i on
+abbrev pub Missed : (i n k : ℕ) → Type 0
+Missed i zero k = Unit {0}
+Missed i (suc n) k = Missed i n k × (k ≡ i + n → ⊥)
 
-pub missed : (n k : ℕ) → Missed n k → n ≤ k
-missed zero k h = omega arith
-missed (suc n) k h = let l : n ≤ k = missed n k (h .0) in let ne : k ≡ n → ⊥ = h .1 in omega arith
+pub missed : (i n k : ℕ) → Missed i n k → i ≤ k → i + n ≤ k
+missed i zero k h g = omega arith
+missed i (suc n) k h g = let l : i + n ≤ k = missed i n k (h .0) g in let ne : k ≡ i + n → ⊥ = h .1 in omega arith

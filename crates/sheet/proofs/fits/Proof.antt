@@ -65,7 +65,7 @@ returns-9 c = rw (c .match .keys9) (row-DS _ _ _)
 
 returns-10 : tie.Need-returns-10
 unfolding editFits
-returns-10 c = rw (below-not _ 9 (missed 9 _ (c .match .rest)))
+returns-10 c = rw (below-not _ 9 (missed 0 9 _ (c .match .rest) (omega arith)))
 
 pub fits-spec : {M : Type 1} → statement M
 fits-spec =

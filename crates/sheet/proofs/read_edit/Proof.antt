@@ -1,6 +1,7 @@
 -- An edit read, row by row of the table of operations.
 use Rattle.sheet.specs.Laws.Read.{read-past}
 use Rattle.sheet.specs.Bytes.{readEdit}
+use native.Mathlib.Omega.{arith}
 use Rattle.finite.specs.Laws.Arms.{missed}
 use Rattle.sheet.proofs.read_edit.Statement.{statement}
 use Rattle.sheet.proofs.read_edit.Tie as tie
@@ -38,7 +39,7 @@ unfolding readEdit
 returns-8 c = rw (c .match .keys8)
 
 returns-9 : tie.Need-returns-9
-returns-9 c = read-past _ _ _ _ (missed 8 _ (c .match .rest))
+returns-9 c = read-past _ _ _ _ (missed 0 8 _ (c .match .rest) (omega arith))
 
 pub read-edit-spec : {M : Type 1} → statement M
 read-edit-spec =
