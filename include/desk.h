@@ -24,7 +24,7 @@
  *
  * Time. There is no limit on rounds. A mu or nu is evaluated round by round, in up to DESK_SLOT_COUNT rounds. If it reads the variable of a
  * loop around it, it starts again in every round of that loop, so the rounds of nested loops multiply. On a chain of 256 slots one loop
- * took 0.2 ms, two nested loops took 36 ms and three took 7.5 s. Everything else that was measured took less than 50 ms. If conditions come
+ * took 0.1 ms, two nested loops took 24 ms and three took seconds. Everything measured without nested loops took less than 50 ms. If conditions come
  * from strangers, call desk_list and desk_job in a process that you can end.
  */
 #ifndef DESK_H
@@ -127,7 +127,6 @@ enum desk_operation {
 /* ---- the job file: site, condition, sheet and trailer, with nothing between them */
 
 #define DESK_FILE_BYTES_MAX 65536
-#define DESK_FILE_MAX_BYTES DESK_FILE_BYTES_MAX
 #define DESK_DISTANCE_BYTES 4    /* an unsigned number, low byte first */
 
 /* Three distances, from the first byte of the trailer back to the first byte of the sheet, of the condition and of the site. */

@@ -1,11 +1,11 @@
 #!/usr/bin/env python3
-"""Holds that every public function with a contract has two must-fail edits, and that every edit says what it guards.
+"""Checks that every public function with a contract has two must-fail edits, and that every edit says what it guards.
 
 The first line of an edit is `guards: NAME, NAME, ..`. A NAME is a public function with a contract, of the edit's crate or, as
-`crate::function`, of a crate above it; or a definition of the edit's crate, as `specs/File: definition`. Each `old:` text stands in its
-file once, as rt asks.
+`crate::function`, of a crate above it; or a definition of the edit's crate, as `specs/File: definition`. Each `old:` text
+occurs exactly once in its file, as rt requires.
 
-Prints how many there are, or what is missing, and exits with 1 then. Run at the repository's top: tests/edits.py
+Prints how many there are, or what is missing, and then exits with 1. Run at the repository's top: tests/edits.py
 """
 import glob
 import os
@@ -13,9 +13,6 @@ import re
 import sys
 
 WANTED = 2
-EXEMPT = {
-    "pieces": "reads the stored cases of the test programs",
-}
 
 
 def read(path):
@@ -93,7 +90,7 @@ def resolve(crate, name, functions, below):
         return None
     other, _, function = name.rpartition("::")
     if other and crate not in below.get(other, ()):
-        raise LookupError(f"{other} does not stand above {crate}")
+        raise LookupError(f"{other} is not above {crate}")
     if function not in functions.get(other or crate, ()):
         raise LookupError(f"{name} is no public function with a contract")
     return other or crate, function
@@ -119,8 +116,7 @@ def main():
     edits, below, counts = sorted(glob.glob("crates/*/must-fail/*.edit")), depends(), {}
     functions = {crate: list(public_functions(crate)) for crate in sorted(os.listdir("crates"))}
     faults = [fault for path in edits for fault in check_edit(path, functions, below, counts)]
-    faults += [f"{crate} is exempt and not there" for crate in EXEMPT if crate not in functions]
-    due = [(crate, function) for crate in functions if crate not in EXEMPT for function in functions[crate]]
+    due = [(crate, function) for crate in functions for function in functions[crate]]
     for crate, function in due:
         count = counts.get((crate, function), 0)
         if count < WANTED:

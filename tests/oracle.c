@@ -838,7 +838,7 @@ static uint64_t distance(const uint8_t *at)
 /* Item 2; the three pieces where it is not met. */
 static bool file_fault(const uint8_t *file, size_t length, struct piece *site, struct piece *cond, struct piece *sheet)
 {
-    if (length < DESK_TRAILER_BYTES || length > DESK_FILE_MAX_BYTES)
+    if (length < DESK_TRAILER_BYTES || length > DESK_FILE_BYTES_MAX)
         return true;
     const uint8_t *trailer = file + length - DESK_TRAILER_BYTES;
     uint64_t to_sheet = distance(trailer), to_cond = distance(trailer + 4), to_site = distance(trailer + 8);

@@ -1,7 +1,7 @@
 #!/usr/bin/env python3
-"""Holds that no proof file has a chain of more than eight `.before` outside a `let` that names the place, as `let start = c .before ..`.
+"""Checks that no proof file has a chain of more than eight `.before` outside a `let` that names the place, as `let start = c .before ..`.
 
-Prints each chain that is longer, and exits with 1 then. Run at the repository's top: tests/paths.py
+Prints each chain that is longer, and then exits with 1. Run at the repository's top: tests/paths.py
 """
 import glob
 import re

@@ -450,7 +450,7 @@ static void put_distance(uint8_t *at, size_t distance)
 /* A length at the bounds, with pieces that fill it. */
 static void bound_file(void)
 {
-    static const size_t bounds[] = {DESK_TRAILER_BYTES, DESK_FILE_MAX_BYTES};
+    static const size_t bounds[] = {DESK_TRAILER_BYTES, DESK_FILE_BYTES_MAX};
     file.length = bounds[below(2)] + (size_t)below(3) - 1;
     if (file.length < DESK_TRAILER_BYTES)
         return;

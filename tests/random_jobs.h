@@ -5,7 +5,7 @@
 #include "oracle.h"
 
 /* Room for the longest piece that is tried. */
-enum { PIECE_MAX = DESK_FILE_MAX_BYTES + 4096 };
+enum { PIECE_MAX = DESK_FILE_BYTES_MAX + 4096 };
 
 struct bytes {
     size_t length;

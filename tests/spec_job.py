@@ -1,12 +1,12 @@
 #!/usr/bin/env python3
-"""Holds docs/SPEC.md to what is stored and to include/desk.h.
+"""Compares docs/SPEC.md with what is stored and with include/desk.h.
 
 - The worked job: its blocks of bytes against crates/job/stdin and stdout, and against the answers to the same job in crates/test_changes and
   crates/test_jobs.
 - The blocks of rewriting: the table of SPEC, "Rewriting" is read and carried out on every condition and sheet of crates/test_changes.
 - The offsets of a site's parts and the numbers of kinds, operations and reasons against the header's constants.
 
-Prints what differs, and exits with 1 then. Run at the repository's top: tests/spec_job.py
+Prints what differs, and then exits with 1. Run at the repository's top: tests/spec_job.py
 """
 import re
 import sys

@@ -1,7 +1,7 @@
 #!/usr/bin/env python3
 """Checks that everything docs/TRACE.md cites exists: definitions and laws, functions, must-fail edits, parts of tests, files.
 
-Prints what does not, and exits with 1 then. Run at the repository's top: tests/trace.py
+Prints what does not, and then exits with 1. Run at the repository's top: tests/trace.py
 """
 import os
 import re
@@ -29,6 +29,12 @@ def missing(text):
     for crate, name, word in re.findall(r"`(\w+)/((?:Laws/)?\w+): ([^`\s]+)`", text):
         if crate != "crate" and not in_specs(crate, name, word):
             yield f"{crate}/{name}: {word}"
+    # fields, constructors or clauses, named behind the file that has them
+    for crate, name, words in re.findall(r"`(\w+)/((?:Laws/)?\w+): [^`]+` \((`[^`\s]+`(?:, `[^`\s]+`)*)", text):
+        for word in re.findall(r"`([^`]+)`", words):
+            path = f"crates/{crate}/specs/{name}.antt"
+            if os.path.exists(path) and not re.search(r"(?<![\w-])" + re.escape(word) + r"(?![\w-])", read(path)):
+                yield f"{crate}/{name}: {word}"
     for crate, word in re.findall(r"`(\w+)::(\w+)`", text):
         if crate != "crate" and not (in_source(crate, word) or crate in ("u8",)):
             yield f"{crate}::{word}"

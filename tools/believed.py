@@ -7,7 +7,7 @@ the sum in its last row.
 
 Run at the repository's top. tools/believed.py prints the rows as they ought to be, and tools/believed.py --write puts them in place of
 those that stand there. tools/believed.py --check says where they differ (a file that is not listed, one too many, another number of lines),
-and exits with 1 then.
+and then exits with 1.
 """
 import os
 import re

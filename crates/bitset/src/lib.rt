@@ -1,5 +1,5 @@
-// Sets of 256 slots in 32 bytes: one slot at a time, emptied and counted. `member`, `insert` and `remove` take longer bytes too, and the slot
-// by its bit's address.
+// Sets of 256 slots in 32 bytes: one slot tested, inserted or removed; a set cleared or counted. `member`, `insert` and `remove` take longer
+// bytes too, and the slot by its bit's address.
 ghost use mathlib.Core.Path.{_≡_};
 ghost use mathlib.Core.Bool.{false};
 ghost use Prim.Native.Nat.{_/_, _<_};

@@ -77,7 +77,7 @@ pub fn right(table: &[u8], i: usize) -> usize
     word(table, 6 * i + 4)
 }
 
-// The same of a table whose nodes fit, with what a caller relies on: a parameter is below the limit of its kind, a child is lower.
+// The parameter and the children of node i of a table whose nodes fit: a parameter is below the limit of its kind, and a child is lower than its node.
 pub fn number(table: &[u8], i: usize) -> usize
     requires { ⌜ nodesFit 0 (tableOf (now table)) ≡ true ⌝ }
     requires { ⌜ 6 * i + 6 ≤ length (now table) ⌝ }

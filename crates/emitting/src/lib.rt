@@ -358,7 +358,7 @@ fn emit_under(
     emit_children(table, images, rows, out, e, a, b, i, l, r);
 }
 
-// Node i is emitted, where it is not, and what is below it.
+// Node i, unless it is emitted already, and what is below it are emitted.
 fn emit_open(
     table: &[u8; TABLE_BYTES],
     images: &[u16; TABLE_NODES],
@@ -379,7 +379,7 @@ fn emit_open(
     emit_children(table, images, rows, out, e, a, b, i + 1, i, i);
 }
 
-// The second pass, from the last node down: those that the ones above do not reach are emitted too.
+// The second pass, from the last node down, so that nodes which no higher node reaches are emitted too.
 fn emit_down(
     table: &[u8; TABLE_BYTES],
     images: &[u16; TABLE_NODES],

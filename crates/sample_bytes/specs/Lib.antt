@@ -1,4 +1,4 @@
--- What the entry points return for the starred examples.
+-- What the entry points return for the examples of `samples`.
 -- a site's bytes
 pub mod Write
 -- what is returned for each row

@@ -1,4 +1,4 @@
-// Sets of 256 slots in 32 bytes, whole: united, met, complemented and compared.
+// Operations on whole sets of 256 slots in 32 bytes: union, intersection, complement and comparisons.
 ghost use mathlib.Core.Path.{_≡_};
 ghost use mathlib.Core.Bool.{true, false, not, _&&_, _||_};
 ghost use lib.ListN.{length};
@@ -36,7 +36,7 @@ pub fn complement(set: &mut [u8])
     }
 }
 
-// Have the two sets the same slots? Then they are the same bytes.
+// Do the two sets have the same slots? Then their bytes are the same.
 pub fn equal(a: &[u8], b: &[u8]) -> bool
     requires { ⌜ (length (now a) ≡ setBytes) × (length (now b) ≡ setBytes) ⌝ }
     ensures { λ r. ⌜ (r ≡ true → now (a .entry) ≡ now (b .entry)) × (r ≡ false → now (a .entry) ≡ now (b .entry) → ⊥) ⌝ }

@@ -1,7 +1,7 @@
 // Reads stored jobs on standard input and prints for each what the program `job` prints of it; behind an answer that is no refusal, what
 // else the job leaves: a checksum of the site after and of the table, and the class numbers, two hexadecimal digits each. The work
 // buffer has to come back as zeros, and so has every buffer of a refusal. Buffers of other lengths have to be refused with 1 and come
-// back as zeros too. What does not is said behind the answer.
+// back as zeros too. Any buffer that does not is named after the answer.
 use bitset::SET_BYTES;
 use bitset::SET_SLOTS;
 use job_run::Job;

@@ -1,6 +1,6 @@
 // Reads pairs of a site and a condition on standard input and prints for each what listing answers: the count and the set, two
 // hexadecimal digits a byte, or `refused N W`. The work buffer has to come back as zeros, and so has the set of a refusal. Buffers of
-// other lengths have to be refused with 1 and come back as zeros too. What does not is said behind the answer.
+// other lengths have to be refused with 1 and come back as zeros too. Any buffer that does not is named after the answer.
 use bitset::SET_BYTES;
 use libc::STDOUT_FILENO;
 use list_entry::Listing;
