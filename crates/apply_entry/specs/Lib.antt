@@ -1,4 +1,4 @@
--- Which inputs are refused, in their order.
+-- Which inputs are refused: the items in their order.
 pub mod Refusal
 -- what applying answers and leaves in its buffer
 pub mod Applying

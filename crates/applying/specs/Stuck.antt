@@ -5,8 +5,8 @@ use Prim.Native.Nat.{ℕ, suc}
 use Rattle.semantics.specs.Holds.{Model}
 use Rattle.semantics.specs.Edit.{Edit, edit, goes}
 
--- W, the lowest such edit, counted from 0: how many edits come before it, each on the site left by those before it.
--- Where all go through it is the number of edits
+-- W, the lowest edit that does not go through, counted from 0: how many edits before it go through, each on the site left by those before
+-- it. Where all go through it is the number of edits
 unfoldable pub stuckAt : List Edit → Model → ℕ
 stuckAt [] M = 0
 stuckAt (e ∷ es) M = cond (goes e M) (suc (stuckAt es (edit e M))) 0

@@ -1,4 +1,4 @@
--- Which inputs numbering the classes refuses, in their order.
+-- Which inputs are refused: the items in their order.
 pub mod Refusal
 -- the numbers and values of its answer
 pub mod Answer

@@ -137,7 +137,7 @@ fn child_limit(k: u8, lo: u8, hi: u8, i: usize) -> usize
     1
 }
 
-// Item 8 is not met by node i. All is compared before anything branches: kinds follow no pattern.
+// Item 8 is not met by node i. All fields are compared before the one branch: a branch on the kind would often be mispredicted.
 fn node_fits(table: &[u8], i: usize) -> bool
     requires { ⌜ 6 * i + 6 ≤ length (now table) ⌝ }
     ensures { λ r. ⌜ r ≡ nodeFits i (nodeAt (now (table .entry)) i) ⌝ }

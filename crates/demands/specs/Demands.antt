@@ -79,23 +79,24 @@ pub record Going (site sheet : List ℕ) : Type 0 where
   pub sheet-accepted : sheetVerdict sheet ≡ Accepted
   pub goes-through : edits.sheetGoes (editsOf sheet) (siteOf site) ≡ true
 
--- a site and a sheet that goes through on it, and an accepted condition whose rewritten table has at most 2,048 nodes
+-- a site and a sheet that goes through on it, and an accepted condition whose rewritten table has at most 2,048 nodes. A table never gets
+-- shorter, so that item 14 is then met after no edit
 pub record Runnable (site table sheet : List ℕ) : Type 0 where
   pub going : Going site sheet
   pub table-accepted : conditionVerdict table ≡ Accepted
   pub table-fits : length (rewritten table sheet) ≤ tableNodes
 
--- what is to hold of the bytes: the site `changed` that the sheet leaves, the table `rewrote` through the sheet, and the two lists, of that
--- table on the site today, with t slots, and of the condition on the site after, with a slots
-pub record ListsAgree (site table sheet changed rewrote today after : List ℕ) (t a : ℕ) : Type 0 where
+-- what is to hold of the bytes: the site `changed` that the sheet leaves, the table `newTable` that rewriting through the sheet gives, and the
+-- two lists, of that table on the site today, with t slots, and of the condition on the site after, with a slots
+pub record ListsAgree (site table sheet changed newTable today after : List ℕ) (t a : ℕ) : Type 0 where
   -- the two lists are the same 32 bytes, with the same count
   pub same-set : today ≡ after
   pub same-count : t ≡ a
   -- each slot of the lists is that of the semantics, today and on the site after
-  pub today-listed : Listed (siteOf site) (formOf (tableOf rewrote)) today t
+  pub today-listed : Listed (siteOf site) (formOf (tableOf newTable)) today t
   pub after-listed : Listed (siteOf changed) (formOf (tableOf table)) after a
   -- the rewritten table is the one of the blocks, and the site after has the effects of the whole sheet
-  pub blocks : tableOf rewrote ≡ rewritten table sheet
+  pub blocks : tableOf newTable ≡ rewritten table sheet
   pub effects : siteOf changed ≡ edits.sheet (editsOf sheet) (siteOf site)
 
 -- what is to hold of the four calls: the sheet applied to the site, the condition rewritten through it, the rewritten table listed on the
@@ -120,13 +121,13 @@ Demand2 =
 
 -- some table of any length that has at least one node, meets neither item 8 nor item 9, is closed and has no node of kind 12
 -- (`ClosedTable`), rewritten through the whole sheet, holds on the site before at one of the slots s and t and not at the other.
--- It is closed, so that the valuation ρ does not matter
+-- It is closed, so the valuation ρ does not matter
 pub record Distinguished (site sheet : List ℕ) (ρ : Env) (s t : ℕ) : Type 0 where
   pub table : List Node
   pub is-closed : ClosedTable table
   pub tells : Distinguishes (siteOf site) ρ (formOf (rewriteSheet (editsOf sheet) table)) s t
 
--- what is to hold of the class numbers after the sheet: two slots have one number exactly if no such table tells them apart
+-- what is to hold of the class numbers after the sheet: two slots have one number exactly if they are not `Distinguished`
 abbrev pub SameNumbers : (site sheet classes : List ℕ) → Type 0
 SameNumbers site sheet classes =
     (ρ : Env) (s t : ℕ) → s < slots → t < slots → (getD classes s 0 ≡ getD classes t 0) ↔ ¬ Distinguished site sheet ρ s t

@@ -1,11 +1,11 @@
 -- Laws of one edit, by topic.
 -- a block has a node
 pub mod Sizes
+-- a copy of a node has the children of the node
+pub mod Shapes
 -- images and starts; bytes written; blocks emitted
 pub mod State
 pub mod Copied
--- a copy of a node has the children of the node
-pub mod Shapes
 pub mod Numbered
 pub mod Puts
 pub mod Emitted

@@ -25,7 +25,7 @@ use sheet::Op;
 use spelling::Spelling;
 ghost use mathlib.Core.Path.{_≡_};
 ghost use mathlib.Core.Bool.{true, false};
-ghost use Prim.Native.Nat.{_+_, _*_, _-_, _≤_, _<_};
+ghost use Prim.Native.Nat.{_+_, _≤_, _<_};
 ghost use lib.ListN.{length, getD};
 ghost use Rattle.semantics.specs.Edit.{legal};
 ghost use Rattle.semantics.specs.Block.{rewriteTable};
@@ -183,7 +183,7 @@ fn two_children(row: u8) -> bool
 
 // Node c is emitted: its block is written, copies of most kinds at once. Gives whether one of its children waits. A field that the
 // node's kind does not use may be taken for a child, here and in `emit_under`: in an accepted condition it is 0, and a node that is emitted early
-// is emitted as well as any. The edit stands in the contract alone.
+// is emitted right. The edit stands in the contract alone.
 fn emit(
     table: &[u8; TABLE_BYTES],
     images: &[u16; TABLE_NODES],
@@ -302,8 +302,9 @@ fn higher(x: usize, y: usize) -> usize
     x
 }
 
-// The second pass, by recursion on children: l and r, the children of node i, are emitted where they are below it, and then what is below
-// them. Of the two the higher one comes first: what it shares with the lower one is emitted by then, so that the calls stay shallow.
+// The second pass, by recursion on children: l and r, the children of node i (or one node twice, as `emit_open` has it), are emitted where they
+// are below i, and then what is below them. What is below the higher one comes first: what it shares with the lower one is emitted by then, so
+// that the calls stay shallow.
 fn emit_children(
     table: &[u8; TABLE_BYTES],
     images: &[u16; TABLE_NODES],

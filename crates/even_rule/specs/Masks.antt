@@ -50,7 +50,7 @@ pub record Shows (φ : Form) (w : ℕ) : Type 0 where
 abbrev pub Row : List ℕ → List ℕ → ℕ → Type 0
 Row S words j = Shows (treeAt (tableOf S) j) (getD words j 0)
 
--- those of the children of node i are
+-- the words of node i's children are right
 pub record Children (S words : List ℕ) (i : ℕ) : Type 0 where
   pub left : notNo ≤ nodeAt S i .kind → nodeAt S i .kind ≤ nuNo → Row S words (nodeAt S i .left)
   pub right : orNo ≤ nodeAt S i .kind → nodeAt S i .kind ≤ andNo → Row S words (nodeAt S i .right)
@@ -63,7 +63,7 @@ Done words j = 0 < getD words j 0
 abbrev pub MasksRight : List ℕ → List ℕ → Type 0
 MasksRight S words = (j : ℕ) → 6 * j + 6 ≤ length S → Done words j → Row S words j
 
--- those of all nodes are
+-- the words of all nodes are right
 pub record Rows (S words : List ℕ) : Type 0 where
   pub node : (j : ℕ) → 6 * j + 6 ≤ length S → Row S words j
 
@@ -87,7 +87,7 @@ pub record Visitable (S words : List ℕ) (i : ℕ) : Type 0 where
   pub inside : 6 * i ≤ length S
   pub right : MasksRight S words
 
--- what it leaves: node c is done where it is below i
+-- what a visit of node c leaves: c is done where it is below i
 pub record Visited (S words words′ : List ℕ) (i c : ℕ) : Type 0 where
   pub size : length words′ ≡ tableNodes
   pub right : MasksRight S words′

@@ -1,4 +1,4 @@
--- Which inputs are refused, in their order.
+-- Which inputs are refused: the items in their order.
 pub mod Refusal
 -- what a job answers and leaves in its buffers
 pub mod Job

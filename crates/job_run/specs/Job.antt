@@ -11,8 +11,8 @@ use Rattle.classes_entry.specs.Classing.{ClassesAfter}
 use Rattle.job_run.specs.Buffers.{Buffers}
 
 -- what is left after a verdict, from the pieces: the site after the sheet, the rewritten table with its n nodes, the a slots that the
--- condition lists on the site after, the t slots that the rewritten table lists on the site today, the classes of the site after with
--- their c numbers; each is zeros where the job is refused
+-- condition lists on the site after, the t slots that the rewritten table lists on the site today, the class numbers of the site
+-- after, c of them different; each is zeros where the job is refused
 pub record JobAfter (v : Verdict) (site cond sheet : List ℕ) (b b′ : Buffers) (a t n c : ℕ) : Type 0 where
   pub site-after : SiteAfter v site sheet (b .changed) (b′ .changed)
   pub table-after : TableAfter v cond sheet (b .table) (b′ .table) n

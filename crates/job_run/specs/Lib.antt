@@ -1,4 +1,4 @@
--- The six buffers that a caller lends, and which pieces are refused, in their order.
+-- The six buffers that a caller lends; which pieces are refused: the items in their order.
 pub mod Buffers
 pub mod Refusal
 -- the numbers and values of the answer

@@ -16,7 +16,7 @@ use Rattle.semantics.specs.Holds.{Env, Model, Holds}
 abbrev pub workBytes : ℕ
 workBytes = setBytes * tableNodes
 
--- the set is 32 bytes and holds the slots where the condition φ holds on the site M, and they are n. A condition without a free
+-- the set is 32 bytes and holds the slots where the condition φ holds on the site M, and there are n of them. A condition without a free
 -- variable holds at the same slots under every valuation
 pub record Listed (M : Model) (φ : Form) (set : List ℕ) (n : ℕ) : Type 0 where
   pub size : length set ≡ setBytes

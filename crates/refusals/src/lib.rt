@@ -1,1 +1,1 @@
-// Item 1 of the refusals, and laws of all items: definitions and laws alone, in specs/.
+// How many items there are, item 1, and laws of all items: definitions and laws alone, in specs/.

@@ -2,7 +2,7 @@
 use buffer::wide;
 ghost use mathlib.Core.Path.{_≡_};
 ghost use mathlib.Core.Bool.{true, _&&_, _||_};
-ghost use Prim.Native.Nat.{_+_, _*_, _<_, _-_};
+ghost use Prim.Native.Nat.{_<_};
 ghost use lib.ListN.{length, getD};
 ghost use Rattle.finite.specs.Tests.{same, any};
 ghost use Rattle.bitset.specs.Set.{setBytes, setSlots, has, Is};

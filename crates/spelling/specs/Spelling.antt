@@ -49,7 +49,7 @@ unfoldable pub spelled : Spelling → ℕ → ℕ → Block
 spelled s t u =
     getD (copies (s .w) (old t) (old u) ++ rows (s .w) (s .a) (s .b) (reverseOf s) everyWay (old t)) (s .row) (old 0)
 
--- by a row that does not copy
+-- the block is spelled by a row that does not copy
 unfoldable pub rowSpelled : Spelling → ℕ → Block
 rowSpelled s t = getD (rows (s .w) (s .a) (s .b) (reverseOf s) everyWay (old t)) (s .row - copyCount) (old 0)
 

@@ -72,9 +72,6 @@ pub start-none : (e : Edit) (s : List ℕ) → 0 ≡ startOf e s 0
 unfolding startOf stateAt
 start-none e s = refl
 
-pub size-some : (e : Edit) (k p : ℕ) {r : ℕ} → ((t u : ℕ) → r ≡ size (block e (kindOf k) p (old t) (old u))) → 1 ≤ r
-size-some e k p er = omega (arith, er 0 0, block-some e (kindOf k) p (old 0) (old 0))
-
 -- one node more: r is the size of its block
 module _ {s : List ℕ} {e : Edit} {images : List ℕ} {n : ℕ} (N : Numbered s e images n) (k p next r : ℕ)
     (ek : k ≡ nodeAt s n .kind) (ep : p ≡ nodeAt s n .param) (en : next ≡ startOf e s n)

@@ -6,7 +6,7 @@ use Prim.Native.Nat.{ℕ, suc, _+_, _*_, _<_}
 use native.Mathlib.Numerals.{add-one}
 use native.Mathlib.Omega.{arith}
 use lib.ListN.{getD, take, drop}
-use Rattle.finite.specs.Tests.{same, any, all}
+use Rattle.finite.specs.Tests.{same, all}
 use Rattle.finite.specs.Laws.Bools.{and-in, and-l, and-r, both, beq-true, eq-beq}
 use Rattle.finite.specs.Laws.Below.{same-eq, same-refl, eq-same, any-in, any-out, all-in, all-out}
 use Rattle.bitset.specs.Set.{setSlots, has}
