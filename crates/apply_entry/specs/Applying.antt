@@ -1,4 +1,4 @@
--- What applying answers and leaves in its buffer, for all inputs. The buffer is named twice: as it was, and as it is at return (′).
+-- What applying leaves in its buffer after a verdict. The buffer is named twice: as it was, and as it is at return (′).
 use mathlib.Core.Path.{_≡_}
 use mathlib.Core.List.{List}
 use Prim.Native.Nat.{ℕ}
@@ -10,7 +10,6 @@ use Rattle.semantics.specs.Edit as edits
 use Rattle.site.specs.Layout.{siteBytes}
 use Rattle.site.specs.Site.{siteOf}
 use Rattle.sheet.specs.Bytes.{editsOf}
-use Rattle.apply_entry.specs.Refusal.{applyVerdict}
 
 -- the result has the bytes of the site that the whole sheet leaves
 pub record SiteWritten (site sheet result′ : List ℕ) : Type 0 where
@@ -22,8 +21,3 @@ pub record SiteWritten (site sheet result′ : List ℕ) : Type 0 where
 unfoldable pub SiteAfter : Verdict → (site sheet result result′ : List ℕ) → Type 0
 SiteAfter Accepted site sheet result result′ = SiteWritten site sheet result′
 SiteAfter (Refused item w) site sheet result result′ = result′ ≡ replicate (length result) 0
-
--- applying answers the verdict v
-pub record ApplyAnswered (site sheet result result′ : List ℕ) (v : Verdict) : Type 0 where
-  pub verdict : v ≡ applyVerdict (length result) site sheet
-  pub left : SiteAfter v site sheet result result′

@@ -3,7 +3,7 @@ use site::SITE_BYTES;
 use verdict::Verdict;
 ghost use mathlib.Core.Path.{_≡_};
 ghost use lib.ListN.{length, replicate};
-ghost use Rattle.apply_entry.specs.Applying.{ApplyAnswered};
+ghost use Rattle.apply_entry.specs.Answered.{ApplyAnswered};
 ghost use Rattle.apply_entry.specs.Inputs.{inputVerdict};
 
 // The first of items 1, 3 to 6, 11 and 12 that the inputs meet, from the result's length, the site and the sheet.

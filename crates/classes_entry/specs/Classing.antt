@@ -1,4 +1,4 @@
--- What numbering the classes answers and leaves in its buffer, for all inputs. The buffer is named twice: as it was, and as it is at return (′).
+-- What numbering the classes leaves in its buffer after a verdict, and its count. The buffer is named twice: as it was, and as it is at return (′).
 use mathlib.Core.Path.{_≡_}
 use mathlib.Core.List.{List}
 use Prim.Native.Nat.{ℕ}
@@ -7,14 +7,8 @@ use Rattle.verdict.specs.declared.Verdict.{Verdict}
 use Rattle.verdict.specs.declared.Verdict.the-variants.{Accepted, Refused}
 use Rattle.site.specs.Site.{siteOf}
 use Rattle.classes.specs.Classes.{Classes, different}
-use Rattle.classes_entry.specs.Refusal.{classesVerdict}
 
 -- the numbers and their count after a verdict: the class number of each slot of the site; zeros where an input is refused
 unfoldable pub ClassesAfter : Verdict → (site classes classes′ : List ℕ) (n : ℕ) → Type 0
 ClassesAfter Accepted site classes classes′ n = Classes (siteOf site) classes′ × (n ≡ different classes′)
 ClassesAfter (Refused item w) site classes classes′ n = (classes′ ≡ replicate (length classes) 0) × (n ≡ 0)
-
--- the verdict v and the count n are answered
-pub record ClassesAnswered (site classes classes′ : List ℕ) (v : Verdict) (n : ℕ) : Type 0 where
-  pub verdict : v ≡ classesVerdict (length classes) site
-  pub left : ClassesAfter v site classes classes′ n

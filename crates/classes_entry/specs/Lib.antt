@@ -2,7 +2,9 @@
 pub mod Refusal
 -- the numbers and values of its answer
 pub mod Answer
--- what it answers and leaves in its buffer
+-- what numbering leaves in its buffer
 pub mod Classing
+-- what its inner function promises
+pub mod Answered
 -- what is proved of them
 pub mod Laws

@@ -7,7 +7,7 @@ ghost use Rattle.site.specs.Site.{siteOf};
 ghost use Rattle.classes.specs.Classes.{Classes, different};
 ghost use Rattle.classes_entry.specs.Refusal.{classesBytes, classesVerdict};
 ghost use Rattle.classes_entry.specs.Answer.{verdictOf, countOf};
-ghost use Rattle.classes_entry.specs.Classing.{ClassesAnswered};
+ghost use Rattle.classes_entry.specs.Answered.{ClassesAnswered};
 
 const CLASSES_BYTES: usize = 256;
 

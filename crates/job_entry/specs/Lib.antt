@@ -1,7 +1,7 @@
 -- Which inputs are refused: the items in their order.
 pub mod Refusal
--- what a job answers and leaves in its buffers
-pub mod Job
+-- what its inner function promises
+pub mod Answered
 -- item 1 by one test
 pub mod Steps
 -- what is proved of them

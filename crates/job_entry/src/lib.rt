@@ -13,7 +13,7 @@ ghost use Rattle.trailer.specs.Refusal.{metVerdict};
 ghost use Rattle.job_run.specs.Buffers.{buffersOf};
 ghost use Rattle.job_run.specs.Answer.{verdictOf, afterOf, todayOf, nodesOf, classesOf};
 ghost use Rattle.job_entry.specs.Steps.{sizesFit, sizesVerdict};
-ghost use Rattle.job_entry.specs.Job.{JobAnswered};
+ghost use Rattle.job_entry.specs.Answered.{JobAnswered};
 
 // Item 1 is not met by these buffers.
 fn sizes_fit(

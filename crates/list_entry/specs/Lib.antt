@@ -2,8 +2,10 @@
 pub mod Refusal
 -- the numbers and values of its answer
 pub mod Answer
--- what listing answers and leaves in its buffers
+-- what listing leaves in its buffers
 pub mod Listing
+-- what its inner function promises
+pub mod Answered
 -- what an inner function tests
 pub mod Inputs
 -- what is proved of them

@@ -1,4 +1,4 @@
--- What listing answers and leaves in its buffers, for all inputs. A buffer is named twice: as it was, and as it is at return (′).
+-- What listing leaves in its buffers after a verdict, and its count. A buffer is named twice: as it was, and as it is at return (′).
 use mathlib.Core.Path.{_≡_}
 use mathlib.Core.List.{List}
 use Prim.Native.Nat.{ℕ}
@@ -9,7 +9,6 @@ use Rattle.semantics.specs.Table.{formOf}
 use Rattle.site.specs.Site.{siteOf}
 use Rattle.condition.specs.Bytes.{tableOf}
 use Rattle.listing.specs.Listed.{Listed}
-use Rattle.list_entry.specs.Refusal.{listVerdict}
 
 -- the set and the count after a verdict: the slots that the condition lists on the site; zeros where an input is refused
 unfoldable pub SetAfter : Verdict → (site table set set′ : List ℕ) (n : ℕ) → Type 0
@@ -20,8 +19,3 @@ SetAfter (Refused item w) site table set set′ n = (set′ ≡ replicate (lengt
 pub record ListAfter (v : Verdict) (site table set set′ work work′ : List ℕ) (n : ℕ) : Type 0 where
   pub set-after : SetAfter v site table set set′ n
   pub work-zero : work′ ≡ replicate (length work) 0
-
--- listing answers the verdict v and the count n
-pub record ListAnswered (site table set set′ work work′ : List ℕ) (v : Verdict) (n : ℕ) : Type 0 where
-  pub verdict : v ≡ listVerdict (length set) (length work) site table
-  pub left : ListAfter v site table set set′ work work′ n

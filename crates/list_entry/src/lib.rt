@@ -6,7 +6,7 @@ ghost use mathlib.Core.Path.{_≡_};
 ghost use lib.ListN.{length, replicate};
 ghost use Rattle.even_rule.specs.Free.{noMasks};
 ghost use Rattle.list_entry.specs.Answer.{verdictOf, countOf};
-ghost use Rattle.list_entry.specs.Listing.{ListAnswered};
+ghost use Rattle.list_entry.specs.Answered.{ListAnswered};
 ghost use Rattle.list_entry.specs.Inputs.{InputsJudged};
 
 // The answer of listing: how many slots the condition lists, or the item that is met and its W.

@@ -6,7 +6,7 @@ ghost use mathlib.Core.Path.{_≡_};
 ghost use lib.ListN.{length, replicate};
 ghost use Rattle.rewriting.specs.Answer.{verdictOf, nodesOf};
 ghost use Rattle.rewrite_entry.specs.Inputs.{inputVerdict};
-ghost use Rattle.rewrite_entry.specs.Rewriting.{RewriteAnswered};
+ghost use Rattle.rewrite_entry.specs.Answered.{RewriteAnswered};
 
 // The first of items 1, 7 to 10, 11 and 12 that the inputs meet, from the length of the result, the condition and the sheet.
 fn judge(result: usize, table: &[u8], sheet: &[u8]) -> Verdict

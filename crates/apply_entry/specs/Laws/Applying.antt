@@ -21,7 +21,8 @@ use Rattle.applying.specs.Laws.Goes.{goes-out, goes-not}
 use Rattle.refusals.specs.Refusal.{bufferVerdict}
 use Rattle.refusals.specs.Laws.Items.{buffer-in, buffer-out, buffer-not, then-out}
 use Rattle.apply_entry.specs.Refusal.{applyVerdict}
-use Rattle.apply_entry.specs.Applying.{SiteWritten, SiteAfter, ApplyAnswered}
+use Rattle.apply_entry.specs.Applying.{SiteWritten, SiteAfter}
+use Rattle.apply_entry.specs.Answered.{ApplyAnswered}
 use Rattle.apply_entry.specs.Inputs.{inputVerdict}
 
 -- ---- the inputs are judged

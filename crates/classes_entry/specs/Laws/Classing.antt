@@ -17,7 +17,8 @@ use Rattle.classes_entry.specs.declared.Classing.{Classing}
 use Rattle.classes_entry.specs.declared.Classing.the-variants as answer
 use Rattle.classes_entry.specs.Refusal.{classesBytes, classesVerdict}
 use Rattle.classes_entry.specs.Answer.{verdictOf, countOf}
-use Rattle.classes_entry.specs.Classing.{ClassesAfter, ClassesAnswered}
+use Rattle.classes_entry.specs.Classing.{ClassesAfter}
+use Rattle.classes_entry.specs.Answered.{ClassesAnswered}
 
 -- ---- the inputs are judged
 

@@ -6,21 +6,24 @@ use Rattle.verdict.specs.Verdict.{reasonOf, faultOf}
 use Rattle.verdict.specs.declared.Verdict.{Verdict}
 use Rattle.list_entry.specs.declared.Listing.{Listing}
 use Rattle.list_entry.specs.Answer.{verdictOf, countOf}
-use Rattle.list_entry.specs.Listing.{ListAfter, ListAnswered}
-use Rattle.apply_entry.specs.Applying.{SiteAfter, ApplyAnswered}
+use Rattle.list_entry.specs.Listing.{ListAfter}
+use Rattle.list_entry.specs.Answered.{ListAnswered}
+use Rattle.apply_entry.specs.Applying.{SiteAfter}
+use Rattle.apply_entry.specs.Answered.{ApplyAnswered}
 use Rattle.rewriting.specs.declared.Rewriting.{Rewriting}
 use Rattle.rewriting.specs.Answer as rewriting
 use Rattle.rewriting.specs.Rewriting.{TableAfter}
-use Rattle.rewrite_entry.specs.Rewriting.{RewriteAnswered}
+use Rattle.rewrite_entry.specs.Answered.{RewriteAnswered}
 use Rattle.classes_entry.specs.declared.Classing.{Classing}
 use Rattle.classes_entry.specs.Answer as classing
-use Rattle.classes_entry.specs.Classing.{ClassesAfter, ClassesAnswered}
+use Rattle.classes_entry.specs.Classing.{ClassesAfter}
+use Rattle.classes_entry.specs.Answered.{ClassesAnswered}
 use Rattle.trailer.specs.Pieces.{siteIn, conditionIn, sheetIn}
 use Rattle.job_run.specs.declared.Job.{Job}
 use Rattle.job_run.specs.Buffers.{Buffers}
 use Rattle.job_run.specs.Answer as job
 use Rattle.job_run.specs.Job.{JobAfter}
-use Rattle.job_entry.specs.Job.{JobAnswered}
+use Rattle.job_entry.specs.Answered.{JobAnswered}
 use Rattle.desk.specs.Returned.{Returned, ReturnedList, ReturnedApply, ReturnedRewrite, ReturnedClasses, ReturnedJob}
 
 -- the answer has the verdict u, which is due, and the numbers are those of v, which is u

@@ -15,7 +15,7 @@ use Rattle.job_run.specs.Buffers.{Buffers, Sized}
 use Rattle.job_run.specs.Answer.{verdictOf, afterOf, todayOf, nodesOf, classesOf}
 use Rattle.job_run.specs.Steps.{Ran}
 use Rattle.job_entry.specs.Refusal.{buffersVerdict}
-use Rattle.job_entry.specs.Job.{JobAnswered}
+use Rattle.job_entry.specs.Answered.{JobAnswered}
 use Rattle.job_entry.specs.Steps.{sizesFit, sizesVerdict}
 use Rattle.job_entry.specs.Laws.Refusal.{sizes-verdict, sized-out, job-then}
 

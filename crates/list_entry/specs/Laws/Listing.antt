@@ -18,7 +18,8 @@ use Rattle.list_entry.specs.declared.Listing.the-variants as answer
 use Rattle.refusals.specs.Laws.Items.{buffer-in, buffer-not}
 use Rattle.list_entry.specs.Refusal.{listVerdict}
 use Rattle.list_entry.specs.Answer.{verdictOf, countOf}
-use Rattle.list_entry.specs.Listing.{SetAfter, ListAnswered}
+use Rattle.list_entry.specs.Listing.{SetAfter}
+use Rattle.list_entry.specs.Answered.{ListAnswered}
 use Rattle.list_entry.specs.Inputs.{InputsJudged}
 use Rattle.list_entry.specs.Laws.Refusal.{Accepts, list-accepts}
 

@@ -27,7 +27,7 @@ use Rattle.refusals.specs.Refusal.{bufferVerdict}
 use Rattle.refusals.specs.Laws.Items.{buffer-in, buffer-not, buffer-out, then-out}
 use Rattle.rewrite_entry.specs.Refusal.{rewriteVerdict}
 use Rattle.rewrite_entry.specs.Inputs.{inputVerdict}
-use Rattle.rewrite_entry.specs.Rewriting.{RewriteAnswered}
+use Rattle.rewrite_entry.specs.Answered.{RewriteAnswered}
 
 -- ---- the inputs are judged
 

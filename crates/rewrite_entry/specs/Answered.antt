@@ -1,4 +1,4 @@
--- What rewriting answers and leaves in its buffer, for all inputs. The buffer is named twice: as it was, and as it is at return (′).
+-- What the inner function of rewriting promises: its verdict, and what it leaves. The buffer is named twice: as it was, and as it is at return (′).
 use mathlib.Core.Path.{_≡_}
 use mathlib.Core.List.{List}
 use Prim.Native.Nat.{ℕ}

@@ -1,4 +1,5 @@
--- What a job answers and leaves in its buffers, for all inputs. The buffers are named twice: as they were, and as they are at return (′).
+-- What the inner function of a job promises: its verdict, and what it leaves. The buffers are named twice: as they were, and as they are at
+-- return (′).
 use mathlib.Core.Path.{_≡_}
 use mathlib.Core.List.{List}
 use Prim.Native.Nat.{ℕ}
