@@ -1,8 +1,8 @@
 -- The rows of blocks as texts.
-use mathlib.Core.List.{List, [], _∷_, map}
+use mathlib.Core.List.{List, [], _∷_, _++_, map}
 use mathlib.Core.Bool.{cond}
-use Prim.Native.Nat.{ℕ, _+_, _*_, _-_, _/_, _%_, _^_}
-use lib.ListN.{getD}
+use Prim.Native.Nat.{ℕ, _+_, _*_, _-_, _/_, _%_}
+use lib.ListN.{getD, replicate}
 use Rattle.finite.specs.Tests.{same, below}
 use Rattle.semantics.specs.Table.{Node}
 use Rattle.semantics.specs.Block.{Block, old, size, emit}
@@ -22,24 +22,17 @@ groupOf x = ((x .kind * 16 + x .param) * 16 + x .left) * 16 + x .right
 unfoldable pub nodeOf : ℕ → Node
 nodeOf g = record { kind = g / 4096 % 256; param = g / 256 % 8; left = g / 16 % 16; right = g % 16 }
 
--- the groups of a block: its size, and its nodes
-unfoldable pub groupsOf : Block → List ℕ
-groupsOf B = size B ∷ map groupOf (emit B 1)
+-- how many groups a text has
+abbrev pub textGroups : ℕ
+textGroups = 12
 
--- its text, four groups a word
-unfoldable pub wordOf : List ℕ → ℕ → ℕ
-wordOf gs q = ((getD gs q 0 * 65536 + getD gs (q + 1) 0) * 65536 + getD gs (q + 2) 0) * 65536 + getD gs (q + 3) 0
-
+-- the text of a block: its size, its nodes, and zeros
 unfoldable pub textOf : Block → List ℕ
-textOf B = wordOf (groupsOf B) 0 ∷ wordOf (groupsOf B) 4 ∷ wordOf (groupsOf B) 8 ∷ []
+textOf B = size B ∷ (map groupOf (emit B 1) ++ replicate (textGroups - 1 - size B) 0)
 
 -- the text of a row that does not copy
 unfoldable pub textAt : ℕ → List ℕ
 textAt row = textOf (codedAt (row - copyCount))
-
--- group q of a text
-unfoldable pub groupIn : List ℕ → ℕ → ℕ
-groupIn x q = getD x (q / 4) 0 / 2 ^ (48 - 16 * (q % 4)) % 65536
 
 -- ---- what digits stand for
 

@@ -1,18 +1,16 @@
--- Nodes written into a buffer. A node that does not fit into it is counted and not written.
+-- Nodes written into a buffer.
 use mathlib.Core.Path.{_≡_}
 use mathlib.Core.List.{List, [], _∷_}
-use mathlib.Core.Bool.{cond}
 use Prim.Native.Nat.{ℕ, suc, _+_, _*_, _≤_}
 use lib.ListN.{length, take}
 use lib.Seq.{sets}
-use Rattle.finite.specs.Tests.{below}
 use Rattle.limits.specs.Limits.{nodeSize}
 use Rattle.semantics.specs.Table.{Node}
 use Rattle.condition.specs.Bytes.{nodeBytes, bytesOf}
 
 -- the node x written at number i
 unfoldable pub put : List ℕ → ℕ → Node → List ℕ
-put o i x = cond (below (length o) (nodeSize * i + nodeSize)) o (sets o (nodeSize * i) (nodeBytes x))
+put o i x = sets o (nodeSize * i) (nodeBytes x)
 
 -- nodes written from number at + j on
 unfoldable pub puts : List ℕ → ℕ → ℕ → List Node → List ℕ

@@ -10,15 +10,19 @@ use limits::SLOT;
 use spelling::AT_WAYS;
 use spelling::Spelling;
 ghost use mathlib.Core.Path.{_≡_};
-ghost use Prim.Native.Nat.{_/_, _%_, _≤_, _<_};
-ghost use Rattle.semantics.specs.Block.{emit};
+ghost use Prim.Native.Nat.{_+_, _*_, _/_, _%_, _≤_, _<_};
+ghost use lib.ListN.{length, getD};
+ghost use Rattle.semantics.specs.Block.{size, emit};
 ghost use Rattle.spelling.specs.Rows.{copyCount, rowCount};
 ghost use Rattle.spelling.specs.Spelling.{paramsOf, rowSpelled, spelled, Sized, keptBy, usedBy, copyOf};
-ghost use Rattle.blocks.specs.Texts.{textAt, groupIn, nodeOf, childOf, decode};
+ghost use Rattle.blocks.specs.Texts.{textGroups, textAt, nodeOf, childOf, decode};
 ghost use Rattle.blocks.specs.Write.{put, puts};
 
 // How many rows copy a node: one for each kind, which has the kind's number.
 const COPIES: u8 = SLOT + 1;
+
+// A text has a group of four hexadecimal digits for the number of its nodes, which are 11 at most, and one for each node.
+const TEXT_GROUPS: usize = 12;
 
 // The texts of the rows that do not copy, twelve groups of four hexadecimal digits: how many nodes there are, and then for each node its kind, its
 // parameter, its left child and its right child. Parameters: 1 is w, 2 is a, 3 is b, 4 is the reverse of the way b, 5 is E. Children: 1 is the first
@@ -26,96 +30,228 @@ const COPIES: u8 = SLOT + 1;
 // would be copied to the stack at each use, and a match is a table in read-only memory.
 
 // CN1, name n1: a
-const TEXT_13: [u64; 3] = [0x0001_3200_0000_0000, 0, 0];
+const TEXT_13: [u16; TEXT_GROUPS] = [0x0001, 0x3200, 0, 0, 0, 0, 0, 0, 0, 0, 0, 0];
 
 // AS, name n: a
-const TEXT_14: [u64; 3] = [0x0001_c200_0000_0000, 0, 0];
+const TEXT_14: [u16; TEXT_GROUPS] = [0x0001, 0xc200, 0, 0, 0, 0, 0, 0, 0, 0, 0, 0];
 
 // CN2, name n1: a <b-> nil a t <b> & <E> ! & |
-const TEXT_15: [u64; 3] = [
-    0x000b_3200_8410_3000,
-    0x3200_0000_8350_7046,
-    0x8570_5080_7039_602a,
+const TEXT_15: [u16; TEXT_GROUPS] = [
+    0x000b,
+    0x3200,
+    0x8410,
+    0x3000,
+    0x3200,
+    0x0000,
+    0x8350,
+    0x7046,
+    0x8570,
+    0x5080,
+    0x7039,
+    0x602a,
 ];
 
 // AP, label p: w a |
-const TEXT_16: [u64; 3] = [0x0003_2100_3200_6012, 0, 0];
+const TEXT_16: [u16; TEXT_GROUPS] = [0x0003, 0x2100, 0x3200, 0x6012, 0, 0, 0, 0, 0, 0, 0, 0];
 
 // DP and DS, label: w a ! &
-const TEXT_17: [u64; 3] = [0x0004_2100_3200_5020, 0x7013_0000_0000_0000, 0];
+const TEXT_17: [u16; TEXT_GROUPS] = [0x0004, 0x2100, 0x3200, 0x5020, 0x7013, 0, 0, 0, 0, 0, 0, 0];
 
 // AS, here: h a |
-const TEXT_18: [u64; 3] = [0x0003_1100_c200_6012, 0, 0];
+const TEXT_18: [u16; TEXT_GROUPS] = [0x0003, 0x1100, 0xc200, 0x6012, 0, 0, 0, 0, 0, 0, 0, 0];
 
 // DS, here: h a ! &
-const TEXT_19: [u64; 3] = [0x0004_1100_3200_5020, 0x7013_0000_0000_0000, 0];
+const TEXT_19: [u16; TEXT_GROUPS] = [0x0004, 0x1100, 0x3200, 0x5020, 0x7013, 0, 0, 0, 0, 0, 0, 0];
 
 // DS, name: w a ! & nil a w & <E> & |
-const TEXT_20: [u64; 3] = [
-    0x000b_3100_3200_5020,
-    0x7013_3000_3200_3100,
-    0x7067_8580_7059_604a,
+const TEXT_20: [u16; TEXT_GROUPS] = [
+    0x000b,
+    0x3100,
+    0x3200,
+    0x5020,
+    0x7013,
+    0x3000,
+    0x3200,
+    0x3100,
+    0x7067,
+    0x8580,
+    0x7059,
+    0x604a,
 ];
 
 // AT <m>: T <w> a b T & <E> & |
-const TEXT_21: [u64; 3] = [0x0007_81e0_3200_3300, 0x703e_8540_7025_6016, 0];
+const TEXT_21: [u16; TEXT_GROUPS] = [
+    0x0007,
+    0x81e0,
+    0x3200,
+    0x3300,
+    0x703e,
+    0x8540,
+    0x7025,
+    0x6016,
+    0,
+    0,
+    0,
+    0,
+];
 
 // AT [m]: T [w] a ! b ! T | [E] | &
-const TEXT_22: [u64; 3] = [
-    0x0009_91e0_3200_5020,
-    0x3300_5040_605e_9560,
-    0x6037_7018_0000_0000,
+const TEXT_22: [u16; TEXT_GROUPS] = [
+    0x0009,
+    0x91e0,
+    0x3200,
+    0x5020,
+    0x3300,
+    0x5040,
+    0x605e,
+    0x9560,
+    0x6037,
+    0x7018,
+    0,
+    0,
 ];
 
 // AT <m->: T <w> b a T & <E> & |
-const TEXT_23: [u64; 3] = [0x0007_81e0_3300_3200, 0x703e_8540_7025_6016, 0];
+const TEXT_23: [u16; TEXT_GROUPS] = [
+    0x0007,
+    0x81e0,
+    0x3300,
+    0x3200,
+    0x703e,
+    0x8540,
+    0x7025,
+    0x6016,
+    0,
+    0,
+    0,
+    0,
+];
 
 // AT [m-]: T [w] b ! a ! T | [E] | &
-const TEXT_24: [u64; 3] = [
-    0x0009_91e0_3300_5020,
-    0x3200_5040_605e_9560,
-    0x6037_7018_0000_0000,
+const TEXT_24: [u16; TEXT_GROUPS] = [
+    0x0009,
+    0x91e0,
+    0x3300,
+    0x5020,
+    0x3200,
+    0x5040,
+    0x605e,
+    0x9560,
+    0x6037,
+    0x7018,
+    0,
+    0,
 ];
 
 // DT1 <m>: a ! T <w> & b ! T & <w> |
-const TEXT_25: [u64; 3] = [
-    0x0009_3200_5010_81e0,
-    0x7023_3300_5050_706e,
-    0x8170_6048_0000_0000,
+const TEXT_25: [u16; TEXT_GROUPS] = [
+    0x0009,
+    0x3200,
+    0x5010,
+    0x81e0,
+    0x7023,
+    0x3300,
+    0x5050,
+    0x706e,
+    0x8170,
+    0x6048,
+    0,
+    0,
 ];
 
 // DT1 [m]: a T [w] | b T | [w] &
-const TEXT_26: [u64; 3] = [0x0007_3200_91e0_6012, 0x3300_604e_9150_7036, 0];
+const TEXT_26: [u16; TEXT_GROUPS] = [
+    0x0007,
+    0x3200,
+    0x91e0,
+    0x6012,
+    0x3300,
+    0x604e,
+    0x9150,
+    0x7036,
+    0,
+    0,
+    0,
+    0,
+];
 
 // DT1 <m->: b ! T <w> & a ! T & <w> |
-const TEXT_27: [u64; 3] = [
-    0x0009_3300_5010_81e0,
-    0x7023_3200_5050_706e,
-    0x8170_6048_0000_0000,
+const TEXT_27: [u16; TEXT_GROUPS] = [
+    0x0009,
+    0x3300,
+    0x5010,
+    0x81e0,
+    0x7023,
+    0x3200,
+    0x5050,
+    0x706e,
+    0x8170,
+    0x6048,
+    0,
+    0,
 ];
 
 // DT1 [m-]: b T [w] | a T | [w] &
-const TEXT_28: [u64; 3] = [0x0007_3300_91e0_6012, 0x3200_604e_9150_7036, 0];
+const TEXT_28: [u16; TEXT_GROUPS] = [
+    0x0007,
+    0x3300,
+    0x91e0,
+    0x6012,
+    0x3200,
+    0x604e,
+    0x9150,
+    0x7036,
+    0,
+    0,
+    0,
+    0,
+];
 
 // DT2 <f>: a ! T <w> &
-const TEXT_29: [u64; 3] = [0x0004_3200_5010_81e0, 0x7023_0000_0000_0000, 0];
+const TEXT_29: [u16; TEXT_GROUPS] = [0x0004, 0x3200, 0x5010, 0x81e0, 0x7023, 0, 0, 0, 0, 0, 0, 0];
 
 // DT2 [f]: a T [w] |
-const TEXT_30: [u64; 3] = [0x0003_3200_91e0_6012, 0, 0];
+const TEXT_30: [u16; TEXT_GROUPS] = [0x0003, 0x3200, 0x91e0, 0x6012, 0, 0, 0, 0, 0, 0, 0, 0];
 
 // DT2 <f->: a ! T & <w>
-const TEXT_31: [u64; 3] = [0x0004_3200_5010_702e, 0x8130_0000_0000_0000, 0];
+const TEXT_31: [u16; TEXT_GROUPS] = [0x0004, 0x3200, 0x5010, 0x702e, 0x8130, 0, 0, 0, 0, 0, 0, 0];
 
 // DT2 [f-]: a T | [w]
-const TEXT_32: [u64; 3] = [0x0003_3200_601e_9120, 0, 0];
+const TEXT_32: [u16; TEXT_GROUPS] = [0x0003, 0x3200, 0x601e, 0x9120, 0, 0, 0, 0, 0, 0, 0, 0];
 
 // DS <m>: a ! a ! T & <w> &
-const TEXT_33: [u64; 3] = [0x0007_3200_5010_3200, 0x5030_704e_8150_7026, 0];
+const TEXT_33: [u16; TEXT_GROUPS] = [
+    0x0007,
+    0x3200,
+    0x5010,
+    0x3200,
+    0x5030,
+    0x704e,
+    0x8150,
+    0x7026,
+    0,
+    0,
+    0,
+    0,
+];
 
 // DS [m]: a a T | [w] |
-const TEXT_34: [u64; 3] = [0x0005_3200_3200_602e, 0x9130_6014_0000_0000, 0];
+const TEXT_34: [u16; TEXT_GROUPS] = [
+    0x0005,
+    0x3200,
+    0x3200,
+    0x602e,
+    0x9130,
+    0x6014,
+    0,
+    0,
+    0,
+    0,
+    0,
+    0,
+];
 
-fn text(row: u8) -> [u64; 3]
+fn text(row: u8) -> [u16; TEXT_GROUPS]
     requires { ⌜ (copyCount ≤ row) × (row < rowCount) ⌝ }
     ensures { λ r. ⌜ r ≡ textAt row ⌝ }
 {
@@ -145,13 +281,18 @@ fn text(row: u8) -> [u64; 3]
     }
 }
 
-// Group q of a text.
-fn group(x: [u64; 3], q: usize) -> usize
-    requires { ⌜ q < 12 ⌝ }
-    ensures { λ r. ⌜ (r ≡ groupIn x q) × (r < 65536) ⌝ }
+pub fn widen(x: u16) -> usize
+    ensures { λ r. ⌜ (r ≡ x) × (r < 65536) ⌝ }
 {
-    let shift = 48 - 16 * (q % 4);
-    ((x[q / 4] >> shift) % 0x10000) as usize
+    x as usize
+}
+
+// Group q of a text. Texts and parameters are lent: the compiler would copy them for each node of a block otherwise.
+fn group(x: &[u16; TEXT_GROUPS], q: usize) -> usize
+    requires { ⌜ q < textGroups ⌝ }
+    ensures { λ r. ⌜ (r ≡ getD (now (x .entry)) q 0) × (r < 65536) ⌝ }
+{
+    widen(x[q])
 }
 
 // How many nodes the block has, whatever the numbers that it refers to.
@@ -163,7 +304,8 @@ pub fn size(s: Spelling) -> usize
     if row < COPIES {
         return 1;
     }
-    group(text(row), 0)
+    let x = text(row);
+    group(&x, 0)
 }
 
 fn low(x: usize) -> u8
@@ -179,15 +321,12 @@ fn high(x: usize) -> u8
     (x / 256) as u8
 }
 
-// Writes one node at number i, where there is room for it.
+// Writes one node at number i.
 pub fn put_node(out: &mut [u8], i: usize, kind: u8, param: u8, left: usize, right: usize)
-    requires { ⌜ (i < 65536) × (left < 65536) × (right < 65536) ⌝ }
+    requires { ⌜ (6 * i + 6 ≤ length (now out)) × (i < 65536) × (left < 65536) × (right < 65536) ⌝ }
     ensures { λ _. ⌜ now (out .exit) ≡ put (now (out .entry)) i (record { kind = kind; param = param; left = left; right = right }) ⌝ }
 {
     let o = NODE_BYTES * i;
-    if out.len() < o + NODE_BYTES {
-        return;
-    }
     let l0 = low(left);
     let l1 = high(left);
     let r0 = low(right);
@@ -228,7 +367,7 @@ fn within(kind: u8, lo: u8, hi: u8, x: usize) -> usize
 
 // Writes a copy of a node at number i.
 fn write_copy(out: &mut [u8], i: usize, kind: u8, param: u8, t: usize, u: usize)
-    requires { ⌜ (kind < copyCount) × (i < 65536) × (t < 65536) × (u < 65536) ⌝ }
+    requires { ⌜ (kind < copyCount) × (6 * i + 6 ≤ length (now out)) × (i < 65536) × (t < 65536) × (u < 65536) ⌝ }
     ensures { λ _. ⌜ now (out .exit) ≡ put (now (out .entry)) i (copyOf kind param t u) ⌝ }
 {
     let p = kept(kind, param);
@@ -260,9 +399,9 @@ fn child(c: usize, at: usize, t: usize) -> usize
 }
 
 // Writes the node of group g at number i, where the block begins at number at.
-fn put_group(out: &mut [u8], i: usize, g: usize, ps: [u8; 8], at: usize, t: usize)
-    requires { ⌜ (i < 65536) × (g < 65536) × (at < 60000) × (t < 60000) ⌝ }
-    ensures { λ _. ⌜ now (out .exit) ≡ put (now (out .entry)) i (decode ps at t (nodeOf g)) ⌝ }
+fn put_group(out: &mut [u8], i: usize, g: usize, ps: &[u8; 8], at: usize, t: usize)
+    requires { ⌜ (6 * i + 6 ≤ length (now out)) × (i < 65536) × (g < 65536) × (at < 60000) × (t < 60000) ⌝ }
+    ensures { λ _. ⌜ now (out .exit) ≡ put (now (out .entry)) i (decode (now (ps .entry)) at t (nodeOf g)) ⌝ }
 {
     let p = ps[g / 0x100 % 8];
     let l = child(g / 0x10 % 0x10, at, t);
@@ -273,22 +412,24 @@ fn put_group(out: &mut [u8], i: usize, g: usize, ps: [u8; 8], at: usize, t: usiz
 // Writes a row from number at on; t is the image of the old node's child.
 fn write_row(out: &mut [u8], at: usize, s: Spelling, t: usize)
     requires { ⌜ (copyCount ≤ s .row) × (s .row < rowCount) × (at < 60000) × (t < 60000) ⌝ }
+    requires { ⌜ 6 * (at + size (rowSpelled s t)) ≤ length (now out) ⌝ }
     ensures { λ _. ⌜ now (out .exit) ≡ puts (now (out .entry)) at 0 (emit (rowSpelled s t) at) ⌝ }
 {
     let ps = params(s);
     let x = text(s.row);
-    let n = group(x, 0);
+    let n = group(&x, 0);
     let mut j = 0;
     while j < n {
-        put_group(out, at + j, group(x, j + 1), ps, at, t);
+        put_group(out, at + j, group(&x, j + 1), &ps, at, t);
         j += 1;
     }
 }
 
-// Writes the block from number at on; t and u are the images of the old node's children. Nodes that do not fit are left out. The rows of
-// leaves have no child; two calls keep `write_row` apart from whoever calls this.
+// Writes the block from number at on; t and u are the images of the old node's children. The rows of leaves have no child; two calls keep
+// `write_row` apart from whoever calls this.
 pub fn write(out: &mut [u8], at: usize, s: Spelling, t: usize, u: usize)
     requires { ⌜ (s .row < rowCount) × (at < 60000) × (t < 60000) × (u < 60000) ⌝ }
+    requires { ⌜ 6 * (at + size (spelled s t u)) ≤ length (now out) ⌝ }
     ensures { λ _. ⌜ now (out .exit) ≡ puts (now (out .entry)) at 0 (emit (spelled s t u) at) ⌝ }
 {
     if s.row < COPIES {

@@ -1,6 +1,8 @@
 -- Laws of one edit, by topic.
 -- a block has a node
 pub mod Sizes
+-- nodes that fit
+pub mod Fits
 -- a copy of a node has the children of the node
 pub mod Shapes
 -- images and starts; bytes written; blocks emitted

@@ -1,12 +1,12 @@
 -- How far rewriting through one edit has come: the images of a table's first nodes, and the nodes written for them.
 use mathlib.Core.Path.{_≡_}
 use mathlib.Core.List.{List, [], _∷_, _++_}
-use mathlib.Core.Bool.{cond}
+use mathlib.Core.Bool.{true, cond}
 use mathlib.Core.Logic.{_⊎_}
 use Prim.Native.Nat.{ℕ, zero, suc, _+_, _*_, _≤_, _<_}
 use lib.ListN.{length, getD}
 use lib.Dec.{ltb}
-use Rattle.semantics.specs.Table.{Node, kindOf}
+use Rattle.semantics.specs.Table.{Node, kindOf, nodeFits}
 use Rattle.semantics.specs.Edit.{Edit, CN1, CN2, AP, DP, AT, DT1, DT2, AS, DS}
 use Rattle.semantics.specs.Block.{Block, old, block, root, emit}
 use Rattle.condition.specs.Bytes.{nodeAt, bytesOf}
@@ -67,10 +67,6 @@ pub record Numbered (s : List ℕ) (e : Edit) (images : List ℕ) (n : ℕ) : Ty
   pub imaged : (j : ℕ) → j < n → getD images j 0 ≡ imageOf e s j
   pub few : startOf e s n ≤ 22528
 
--- the image of a child c of node i, 0 where c is not lower
-unfoldable pub imageIn : List ℕ → ℕ → ℕ → ℕ
-imageIn images i c = cond (ltb c i) (getD images c 0) 0
-
 -- the number of the first node of node i's block, by the images
 unfoldable pub startIn : List ℕ → ℕ → ℕ
 startIn images zero = 0
@@ -117,19 +113,28 @@ pub record Rowed (s : List ℕ) (e : Edit) (rows : List ℕ) (n : ℕ) : Type 0 
 abbrev pub NoneEmitted : List ℕ → ℕ → Type 0
 NoneEmitted rows n = (j : ℕ) → j < n → getD rows j 0 ≡ emittedRow → ⊥
 
--- what emitting the nodes below n needs: images and rows, the edit's numbers a and b, and a whole buffer
+-- the first pass has come to node n, whose block begins with number `next`
+pub record Numbering (s : List ℕ) (e : Edit) (images rows : List ℕ) (n next : ℕ) : Type 0 where
+  pub numbered : Numbered s e images n
+  pub rowed : Rowed s e rows n
+  pub none : NoneEmitted rows n
+  pub here : next ≡ startOf e s n
+  pub small : next ≤ 11 * n
+
+-- what emitting the nodes below n needs: nodes that meet item 8 nowhere, images and rows, the edit's numbers a and b, and a buffer with room for the blocks
 pub record Emittable (s : List ℕ) (e : Edit) (images rows out : List ℕ) (a b n : ℕ) : Type 0 where
   pub whole : length s ≡ tableBytes
+  pub fits : (j : ℕ) → j < n → nodeFits j (nodeAt s j) ≡ true
+  pub few : startOf e s n ≤ tableNodes
   pub numbered : Numbered s e images n
   pub rowed : Rowed s e rows n
   pub first : a ≡ firstOf e
   pub second : b ≡ secondOf e
   pub room : length out ≡ tableBytes
 
--- the block of node j stands in a buffer, as far as there is room
+-- the block of node j stands in a buffer
 unfoldable pub Stands : List ℕ → Edit → List ℕ → ℕ → Type 0
-Stands s e out j = (p : ℕ) → 6 * startOf e s j ≤ p → p < 6 * startOf e s (suc j) → p < tableBytes
-    → getD out p 0 ≡ getD (bytesOf (stateAt e s (suc j) .out)) p 0
+Stands s e out j = (p : ℕ) → 6 * startOf e s j ≤ p → p < 6 * startOf e s (suc j) → getD out p 0 ≡ getD (bytesOf (stateAt e s (suc j) .out)) p 0
 
 -- some nodes more are emitted: their blocks stand, and no block that stood is spoiled
 pub record Emitting (s : List ℕ) (e : Edit) (rows out rows′ out′ : List ℕ) : Type 0 where

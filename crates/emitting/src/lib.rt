@@ -2,6 +2,7 @@
 // docs/SPEC.md, "Rewriting".
 use blocks::put_node;
 use blocks::size;
+use blocks::widen;
 use blocks::write;
 use condition::kind;
 use condition::left;
@@ -10,7 +11,6 @@ use condition::right;
 use limits::AND;
 use limits::DIA;
 use limits::HERE;
-use limits::KINDS;
 use limits::LABEL;
 use limits::MU;
 use limits::NAME;
@@ -23,18 +23,19 @@ use limits::TRUE;
 use limits::VAR;
 use sheet::Op;
 use spelling::Spelling;
+use spelling::spell;
 ghost use mathlib.Core.Path.{_≡_};
 ghost use mathlib.Core.Bool.{true, false};
 ghost use Prim.Native.Nat.{_+_, _≤_, _<_};
 ghost use lib.ListN.{length, getD};
 ghost use Rattle.semantics.specs.Edit.{legal};
+ghost use Rattle.semantics.specs.Table.{nodesFit};
 ghost use Rattle.semantics.specs.Block.{rewriteTable};
-ghost use Rattle.condition.specs.Bytes.{nodes};
+ghost use Rattle.condition.specs.Bytes.{nodeAt, nodes};
 ghost use Rattle.sheet.specs.Bytes.{editOf};
-ghost use Rattle.limits.specs.Limits.{tableNodes, tableBytes, orNo, diaNo, slotNo};
-ghost use Rattle.spelling.specs.Spelling.{firstOf, secondOf, Spells};
+ghost use Rattle.limits.specs.Limits.{tableNodes, tableBytes, kinds, orNo, diaNo, slotNo};
 ghost use Rattle.blocks.specs.Write.{TableWritten};
-ghost use Rattle.emitting.specs.State.{startOf, startIn, Numbered, imageIn, emittedRow, spellingOf, firstKind, endKind, Rowed, NoneEmitted, Emittable, Emitting, Deep, ChildrenEmitted, OneEmitted, TwoEmitted, lowerOf, higherOf};
+ghost use Rattle.emitting.specs.State.{startIn, Numbering, emittedRow, firstKind, endKind, NoneEmitted, Emittable, Emitting, Deep, ChildrenEmitted, OneEmitted, TwoEmitted, lowerOf, higherOf};
 
 // Tables, images and rows are lent as whole arrays: a call passes a pointer for each, in a register, and a last call becomes a jump.
 
@@ -48,21 +49,12 @@ fn narrow(x: usize) -> u16
     x as u16
 }
 
-fn widen(x: u16) -> usize
-    ensures { λ r. ⌜ (r ≡ x) × (r < 65536) ⌝ }
+// The image of node c.
+fn image(images: &[u16; TABLE_NODES], c: usize) -> usize
+    requires { ⌜ c < tableNodes ⌝ }
+    ensures { λ r. ⌜ (r ≡ getD (now (images .entry)) c 0) × (r < 65536) ⌝ }
 {
-    x as usize
-}
-
-// The image of the child c of node i, and 0 where c is not lower.
-fn image(images: &[u16; TABLE_NODES], i: usize, c: usize) -> usize
-    requires { ⌜ i ≤ tableNodes ⌝ }
-    ensures { λ r. ⌜ r ≡ imageIn (now (images .entry)) i c ⌝ }
-{
-    if c < i {
-        return widen(images[c]);
-    }
-    0
+    widen(images[c])
 }
 
 // The number of the first node of node c's block: the one after the image before it.
@@ -73,18 +65,15 @@ fn start(images: &[u16; TABLE_NODES], c: usize) -> usize
     if c < 1 {
         return 0;
     }
-    widen(images[c - 1]) + 1
+    image(images, c - 1) + 1
 }
 
-// Whether node c is below i and not emitted.
-fn waits(rows: &[u8; TABLE_NODES], i: usize, c: usize) -> bool
-    requires { ⌜ i ≤ tableNodes ⌝ }
-    ensures { λ r. ⌜ (r ≡ false → c < i → getD (now (rows .entry)) c 0 ≡ emittedRow) ⌝ }
+// Whether node c is not emitted.
+fn waits(rows: &[u8; TABLE_NODES], c: usize) -> bool
+    requires { ⌜ c < tableNodes ⌝ }
+    ensures { λ r. ⌜ (r ≡ false → getD (now (rows .entry)) c 0 ≡ emittedRow) × (r ≡ true → getD (now (rows .entry)) c 0 ≡ emittedRow → ⊥) ⌝ }
 {
-    if c < i {
-        return rows[c] != EMITTED;
-    }
-    false
+    rows[c] != EMITTED
 }
 
 // An edit changes nodes of the kinds from `first_kind` to below `end_kind` at most.
@@ -120,48 +109,59 @@ fn end_kind(e: Op) -> u8
     }
 }
 
-// The row of a node of this kind, with parameter w: the kind itself where the edit changes no node of it.
-fn row_of(e: Op, from: u8, to: u8, kind: u8, w: u8) -> u8
-    requires { ⌜ (from ≡ firstKind (editOf e)) × (to ≡ endKind (editOf e)) × (legal (editOf e) ≡ true) ⌝ }
-    ensures { λ r. ⌜ Spells (editOf e) kind w (spellingOf (editOf e) w r) ⌝ }
+// A node of this kind is copied, whatever its parameter.
+fn copied(from: u8, to: u8, kind: u8) -> bool
+    ensures { λ r. ⌜ (r ≡ true → from ≤ kind → to ≤ kind) ⌝ }
 {
-    if kind < from {
-        return kind;
-    }
-    if to <= kind {
-        if kind < KINDS {
-            return kind;
-        }
-    }
-    let s = spelling::spell(e, kind, w);
-    s.row
+    (kind < from) | (to <= kind)
 }
 
-// The first pass: the rows of the first n nodes, and their images by the sizes of their blocks. Gives how many nodes the blocks have.
+// Node i gets its row, and its image by the size of its block, which begins with number `next`. Gives the number after the block.
+fn number_node(
+    table: &[u8; TABLE_BYTES],
+    i: usize,
+    e: Op,
+    from: u8,
+    to: u8,
+    next: usize,
+    images: &mut [u16; TABLE_NODES],
+    rows: &mut [u8; TABLE_NODES],
+) -> usize
+    requires { ⌜ Numbering (now table) (editOf e) (now images) (now rows) i next × (length (now table) ≡ tableBytes) × (i < tableNodes) × (nodeAt (now table) i .kind < kinds) ⌝ }
+    requires { ⌜ (from ≡ firstKind (editOf e)) × (to ≡ endKind (editOf e)) × (legal (editOf e) ≡ true) ⌝ }
+    ensures { λ r. ⌜ Numbering (now (table .entry)) (editOf e) (now (images .exit)) (now (rows .exit)) (i + 1) r ⌝ }
+{
+    let k = kind(table, i);
+    if copied(from, to, k) {
+        images[i] = narrow(next);
+        rows[i] = k;
+        return next + 1;
+    }
+    let s = spell(e, k, param(table, i));
+    let end = next + size(s);
+    images[i] = narrow(end - 1);
+    rows[i] = s.row;
+    end
+}
+
+// The first pass: the rows and the images of the first n nodes. Gives how many nodes the blocks have.
 fn number(
     table: &[u8; TABLE_BYTES],
     n: usize,
     e: Op,
-    a: u8,
-    b: u8,
     images: &mut [u16; TABLE_NODES],
     rows: &mut [u8; TABLE_NODES],
 ) -> usize
     requires { ⌜ (length (now table) ≡ tableBytes) × (n ≤ tableNodes) × (length (now images) ≡ tableNodes) × (length (now rows) ≡ tableNodes) ⌝ }
-    requires { ⌜ (a ≡ firstOf (editOf e)) × (b ≡ secondOf (editOf e)) × (legal (editOf e) ≡ true) ⌝ }
-    ensures { λ r. ⌜ (r ≡ startOf (editOf e) (now (table .entry)) n) × (r ≤ 22528) × Numbered (now (table .entry)) (editOf e) (now (images .exit)) n ⌝ }
-    ensures { λ _. ⌜ Rowed (now (table .entry)) (editOf e) (now (rows .exit)) n × NoneEmitted (now (rows .exit)) n ⌝ }
+    requires { ⌜ (legal (editOf e) ≡ true) × (nodesFit 0 (nodes (now table) n) ≡ true) ⌝ }
+    ensures { λ r. ⌜ Numbering (now (table .entry)) (editOf e) (now (images .exit)) (now (rows .exit)) n r ⌝ }
 {
     let from = first_kind(e);
     let to = end_kind(e);
     let mut i = 0;
     let mut next = 0;
     while i < n {
-        let w = param(table, i);
-        let row = row_of(e, from, to, kind(table, i), w);
-        next += size(Spelling { row, w, a, b });
-        images[i] = narrow(next - 1);
-        rows[i] = row;
+        next = number_node(table, i, e, from, to, next, images, rows);
         i += 1;
     }
     next
@@ -182,8 +182,8 @@ fn two_children(row: u8) -> bool
 }
 
 // Node c is emitted: its block is written, copies of most kinds at once. Gives whether one of its children waits. A field that the
-// node's kind does not use may be taken for a child, here and in `emit_under`: in an accepted condition it is 0, and a node that is emitted early
-// is emitted right. The edit stands in the contract alone.
+// node's kind does not use is 0, and is taken for a child here and in `emit_under`: a node that is emitted early is emitted right. The edit stands
+// in the contract alone.
 fn emit(
     table: &[u8; TABLE_BYTES],
     images: &[u16; TABLE_NODES],
@@ -196,7 +196,7 @@ fn emit(
 ) -> bool
     requires { ⌜ Emittable (now table) (editOf e) (now images) (now rows) (now out) a b (c + 1) ⌝ }
     ensures { λ _. ⌜ Emitting (now (table .entry)) (editOf e) (now (rows .entry)) (now (out .entry)) (now (rows .exit)) (now (out .exit)) × (getD (now (rows .exit)) c 0 ≡ emittedRow) ⌝ }
-    ensures { λ r. ⌜ OneEmitted (now (table .entry)) (now (rows .entry)) (now (rows .exit)) c (r ≡ true) ⌝ }
+    ensures { λ r. ⌜ OneEmitted (now (table .entry)) (now (rows .entry)) (now (rows .exit)) c (r ≡ true) × (r ≡ true → 0 < c) ⌝ }
 {
     let row = rows[c];
     if row == EMITTED {
@@ -204,21 +204,21 @@ fn emit(
     }
     rows[c] = EMITTED;
     let w = param(table, c);
-    let last = widen(images[c]);
+    let last = image(images, c);
     if row < NOT {
         put_node(out, last, row, w, 0, 0);
         return false;
     }
     let l = left(table, c);
-    let t = image(images, c, l);
-    let on_left = waits(rows, c, l);
+    let t = image(images, l);
+    let on_left = waits(rows, l);
     if one_child(row) {
         put_node(out, last, row, w, t, 0);
         return on_left;
     }
     let r = right(table, c);
-    let u = image(images, c, r);
-    let on_right = waits(rows, c, r);
+    let u = image(images, r);
+    let on_right = waits(rows, r);
     if two_children(row) {
         put_node(out, last, row, 0, t, u);
         return on_left | on_right;
@@ -228,8 +228,8 @@ fn emit(
     on_left | on_right
 }
 
-// Node c is emitted, where it is below i. Gives 1 where one of its children waits, and else 0.
-fn emit_below(
+// Node c is emitted. Gives 1 where one of its children waits, and else 0.
+fn emit_one(
     table: &[u8; TABLE_BYTES],
     images: &[u16; TABLE_NODES],
     rows: &mut [u8; TABLE_NODES],
@@ -237,25 +237,20 @@ fn emit_below(
     e: Op,
     a: u8,
     b: u8,
-    i: usize,
     c: usize,
 ) -> u8
-    requires { ⌜ Emittable (now table) (editOf e) (now images) (now rows) (now out) a b i ⌝ }
-    ensures { λ _. ⌜ Emitting (now (table .entry)) (editOf e) (now (rows .entry)) (now (out .entry)) (now (rows .exit)) (now (out .exit)) × (c < i → getD (now (rows .exit)) c 0 ≡ emittedRow) ⌝ }
-    ensures { λ r. ⌜ (r ≤ 1) × (r ≡ 1 → c < i) ⌝ }
-    ensures { λ r. ⌜ OneEmitted (now (table .entry)) (now (rows .entry)) (now (rows .exit)) c (r ≡ 1) ⌝ }
+    requires { ⌜ Emittable (now table) (editOf e) (now images) (now rows) (now out) a b (c + 1) ⌝ }
+    ensures { λ _. ⌜ Emitting (now (table .entry)) (editOf e) (now (rows .entry)) (now (out .entry)) (now (rows .exit)) (now (out .exit)) × (getD (now (rows .exit)) c 0 ≡ emittedRow) ⌝ }
+    ensures { λ r. ⌜ (r ≤ 1) × (r ≡ 1 → 0 < c) × OneEmitted (now (table .entry)) (now (rows .entry)) (now (rows .exit)) c (r ≡ 1) ⌝ }
 {
-    if i <= c {
-        return 0;
-    }
     if emit(table, images, rows, out, e, a, b, c) {
         return 1;
     }
     0
 }
 
-// Nodes lo and hi are emitted, where they are below i. Gives 2 where a child of lo waits, and 1 more where a child of hi does. A loop, so that
-// `emit` is called at one point and put there by the compiler.
+// Nodes lo and hi are emitted. Gives 2 where a child of lo waits, and 1 more where a child of hi does. A loop, so that `emit` is called at one
+// point and put there by the compiler.
 fn emit_two(
     table: &[u8; TABLE_BYTES],
     images: &[u16; TABLE_NODES],
@@ -264,20 +259,19 @@ fn emit_two(
     e: Op,
     a: u8,
     b: u8,
-    i: usize,
     lo: usize,
     hi: usize,
 ) -> u8
-    requires { ⌜ Emittable (now table) (editOf e) (now images) (now rows) (now out) a b i ⌝ }
-    ensures { λ _. ⌜ Emitting (now (table .entry)) (editOf e) (now (rows .entry)) (now (out .entry)) (now (rows .exit)) (now (out .exit)) × (lo < i → getD (now (rows .exit)) lo 0 ≡ emittedRow) × (hi < i → getD (now (rows .exit)) hi 0 ≡ emittedRow) ⌝ }
-    ensures { λ r. ⌜ (2 ≤ r → lo < i) × (r ≡ 1 → hi < i) × (3 ≤ r → hi < i) ⌝ }
+    requires { ⌜ Emittable (now table) (editOf e) (now images) (now rows) (now out) a b (hi + 1) × (lo ≤ hi) ⌝ }
+    ensures { λ _. ⌜ Emitting (now (table .entry)) (editOf e) (now (rows .entry)) (now (out .entry)) (now (rows .exit)) (now (out .exit)) × (getD (now (rows .exit)) lo 0 ≡ emittedRow) × (getD (now (rows .exit)) hi 0 ≡ emittedRow) ⌝ }
+    ensures { λ r. ⌜ (2 ≤ r → 0 < lo) × (r ≡ 1 → 0 < hi) × (3 ≤ r → 0 < hi) ⌝ }
     ensures { λ r. ⌜ TwoEmitted (now (table .entry)) (now (rows .entry)) (now (rows .exit)) lo hi r ⌝ }
 {
     let mut c = lo;
     let mut waiting = 0u8;
     let mut done = 0usize;
     while done < 2 {
-        waiting = 2 * waiting + emit_below(table, images, rows, out, e, a, b, i, c);
+        waiting = 2 * waiting + emit_one(table, images, rows, out, e, a, b, c);
         c = hi;
         done += 1;
     }
@@ -302,9 +296,9 @@ fn higher(x: usize, y: usize) -> usize
     x
 }
 
-// The second pass, by recursion on children: l and r, the children of node i (or one node twice, as `emit_open` has it), are emitted where they
-// are below i, and then what is below them. What is below the higher one comes first: what it shares with the lower one is emitted by then, so
-// that the calls stay shallow.
+// The second pass, by recursion on children: l and r, the children of a node (or one node twice, as `emit_open` has it), are emitted, and then
+// what is below them. What is below the higher one comes first: what it shares with the lower one is emitted by then, so that the calls stay
+// shallow.
 fn emit_children(
     table: &[u8; TABLE_BYTES],
     images: &[u16; TABLE_NODES],
@@ -313,17 +307,16 @@ fn emit_children(
     e: Op,
     a: u8,
     b: u8,
-    i: usize,
     l: usize,
     r: usize,
 )
-    requires { ⌜ Emittable (now table) (editOf e) (now images) (now rows) (now out) a b i ⌝ }
-    ensures { λ _. ⌜ Emitting (now (table .entry)) (editOf e) (now (rows .entry)) (now (out .entry)) (now (rows .exit)) (now (out .exit)) × (l < i → getD (now (rows .exit)) l 0 ≡ emittedRow) × (r < i → getD (now (rows .exit)) r 0 ≡ emittedRow) ⌝ }
+    requires { ⌜ Emittable (now table) (editOf e) (now images) (now rows) (now out) a b (higherOf l r + 1) ⌝ }
+    ensures { λ _. ⌜ Emitting (now (table .entry)) (editOf e) (now (rows .entry)) (now (out .entry)) (now (rows .exit)) (now (out .exit)) × (getD (now (rows .exit)) l 0 ≡ emittedRow) × (getD (now (rows .exit)) r 0 ≡ emittedRow) ⌝ }
     ensures { λ _. ⌜ Deep (now (table .entry)) (now (rows .entry)) (now (rows .exit)) ⌝ }
 {
     let lo = lower(l, r);
     let hi = higher(l, r);
-    let waiting = emit_two(table, images, rows, out, e, a, b, i, lo, hi);
+    let waiting = emit_two(table, images, rows, out, e, a, b, lo, hi);
     if waiting < 1 {
         return;
     }
@@ -350,13 +343,13 @@ fn emit_under(
     b: u8,
     i: usize,
 )
-    requires { ⌜ Emittable (now table) (editOf e) (now images) (now rows) (now out) a b i × (i < tableNodes) ⌝ }
+    requires { ⌜ Emittable (now table) (editOf e) (now images) (now rows) (now out) a b (i + 1) × (0 < i) ⌝ }
     ensures { λ _. ⌜ Emitting (now (table .entry)) (editOf e) (now (rows .entry)) (now (out .entry)) (now (rows .exit)) (now (out .exit)) ⌝ }
     ensures { λ _. ⌜ Deep (now (table .entry)) (now (rows .entry)) (now (rows .exit)) × ChildrenEmitted (now (table .entry)) (now (rows .exit)) i ⌝ }
 {
     let l = left(table, i);
     let r = right(table, i);
-    emit_children(table, images, rows, out, e, a, b, i, l, r);
+    emit_children(table, images, rows, out, e, a, b, l, r);
 }
 
 // Node i, unless it is emitted already, and what is below it are emitted.
@@ -377,7 +370,7 @@ fn emit_open(
     if rows[i] == EMITTED {
         return;
     }
-    emit_children(table, images, rows, out, e, a, b, i + 1, i, i);
+    emit_children(table, images, rows, out, e, a, b, i, i);
 }
 
 // The second pass, from the last node down, so that nodes which no higher node reaches are emitted too.
@@ -403,7 +396,7 @@ fn emit_down(
     }
 }
 
-// The first n nodes of a table, rewritten for one edit. Gives how many nodes that makes; those that fit are written.
+// The first n nodes of a table, rewritten for one edit. Gives how many nodes that makes; they are written where they fit.
 pub fn rewrite(
     table: &[u8; TABLE_BYTES],
     n: usize,
@@ -413,12 +406,15 @@ pub fn rewrite(
     out: &mut [u8; TABLE_BYTES],
 ) -> usize
     requires { ⌜ (length (now table) ≡ tableBytes) × (n ≤ tableNodes) × (length (now images) ≡ tableNodes) × (length (now rows) ≡ tableNodes) × (length (now out) ≡ tableBytes) ⌝ }
-    requires { ⌜ legal (editOf e) ≡ true ⌝ }
-    ensures { λ r. ⌜ (r ≡ length (rewriteTable (editOf e) (nodes (now (table .entry)) n))) × TableWritten (now (out .exit)) (rewriteTable (editOf e) (nodes (now (table .entry)) n)) × (r ≤ 22528) ⌝ }
+    requires { ⌜ (legal (editOf e) ≡ true) × (nodesFit 0 (nodes (now table) n) ≡ true) ⌝ }
+    ensures { λ r. ⌜ (r ≡ length (rewriteTable (editOf e) (nodes (now (table .entry)) n))) × TableWritten (now (out .exit)) (rewriteTable (editOf e) (nodes (now (table .entry)) n)) ⌝ }
     ensures { λ _. ⌜ (length (now (images .exit)) ≡ tableNodes) × (length (now (rows .exit)) ≡ tableNodes) × (length (now (out .exit)) ≡ tableBytes) ⌝ }
 {
-    let s = spelling::spell(e, TRUE, 0);
-    let made = number(table, n, e, s.a, s.b, images, rows);
+    let made = number(table, n, e, images, rows);
+    if TABLE_NODES < made {
+        return made;
+    }
+    let s = spell(e, TRUE, 0);
     emit_down(table, images, rows, out, e, s.a, s.b, n);
     made
 }

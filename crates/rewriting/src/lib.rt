@@ -11,7 +11,8 @@ ghost use Prim.Native.Nat.{_-_, _≤_};
 ghost use lib.ListN.{length, take, replicate};
 ghost use Rattle.finite.specs.Bytes.{Bytes};
 ghost use Rattle.semantics.specs.Edit.{sheetLegal};
-ghost use Rattle.condition.specs.Bytes.{nodes};
+ghost use Rattle.semantics.specs.Table.{nodesFit};
+ghost use Rattle.condition.specs.Bytes.{nodes, tableOf};
 ghost use Rattle.sheet.specs.Bytes.{editsOf};
 ghost use Rattle.limits.specs.Limits.{tableNodes, tableBytes};
 ghost use Rattle.rewriting.specs.State.{Passed, Finished, Rewrote};
@@ -37,7 +38,7 @@ fn passes(
     rows: &mut [u8; TABLE_NODES],
 ) -> usize
     requires { ⌜ (n ≤ tableNodes) × (length (now table) ≡ tableBytes) × (length (now spare) ≡ tableBytes) × (length (now images) ≡ tableNodes) × (length (now rows) ≡ tableNodes) ⌝ }
-    requires { ⌜ Bytes (now table) ⌝ }
+    requires { ⌜ Bytes (now table) × (nodesFit 0 (nodes (now table) n) ≡ true) ⌝ }
     requires { ⌜ sheetLegal (editsOf (now sheet)) ≡ true ⌝ }
     ensures { λ r. ⌜ Passed (editsOf (now (sheet .entry))) (nodes (now (table .entry)) n) (now (table .exit)) r × (length (now (table .exit)) ≡ tableBytes) ⌝ }
 {
@@ -91,7 +92,7 @@ fn rewrite_with(
 ) -> Rewriting
     requires { ⌜ (length (now table) ≤ tableBytes) × (length (now result) ≡ tableBytes) ⌝ }
     requires { ⌜ Bytes (now work) × (length (now work) ≡ tableBytes) × (length (now spare) ≡ tableBytes) × (length (now images) ≡ tableNodes) × (length (now rows) ≡ tableNodes) ⌝ }
-    requires { ⌜ sheetLegal (editsOf (now sheet)) ≡ true ⌝ }
+    requires { ⌜ (nodesFit 0 (tableOf (now table)) ≡ true) × (sheetLegal (editsOf (now sheet)) ≡ true) ⌝ }
     ensures { λ r. ⌜ Rewrote (now (table .entry)) (now (sheet .entry)) (now (result .entry)) (now (result .exit)) (verdictOf r) (nodesOf r) ⌝ }
 {
     copy(work, table, table.len());
@@ -121,7 +122,7 @@ fn no_rows() -> [u8; TABLE_NODES]
 // A table rewritten for a sheet: its bytes and then zeros in result, and zeros alone where item 14 is met.
 pub fn rewrite_sheet(table: &[u8], sheet: &[u8], result: &mut [u8]) -> Rewriting
     requires { ⌜ (length (now table) ≤ tableBytes) × (length (now result) ≡ tableBytes) ⌝ }
-    requires { ⌜ sheetLegal (editsOf (now sheet)) ≡ true ⌝ }
+    requires { ⌜ (nodesFit 0 (tableOf (now table)) ≡ true) × (sheetLegal (editsOf (now sheet)) ≡ true) ⌝ }
     ensures { λ r. ⌜ Rewrote (now (table .entry)) (now (sheet .entry)) (now (result .entry)) (now (result .exit)) (verdictOf r) (nodesOf r) ⌝ }
 {
     let mut work = no_table();

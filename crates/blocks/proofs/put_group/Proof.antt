@@ -5,8 +5,8 @@ use Rattle.blocks.specs.Texts.{nodeOf, decode}
 use Rattle.blocks.proofs.put_group.Statement.{statement}
 use Rattle.blocks.proofs.put_group.Tie as tie
 
-array-read-p : tie.Need-array-read-p
-array-read-p c = omega arith
+element-copy-out-p : tie.Need-element-copy-out-p
+element-copy-out-p c = omega arith
 
 child-requires : tie.Need-child-requires
 child-requires c κs = omega arith
@@ -32,4 +32,4 @@ returns c =
 pub put-group-spec : {M : Type 1} → statement M
 put-group-spec =
     tie.close
-    (tie.spec array-read-p child-requires child-requires-2 low-requires put-node-requires same-length returns)
+    (tie.spec element-copy-out-p child-requires child-requires-2 low-requires put-node-requires same-length returns)

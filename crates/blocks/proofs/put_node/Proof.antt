@@ -1,25 +1,12 @@
--- One node written: six bytes, or none where there is no room.
-use Prim.Native.Nat.{_+_, _*_, _<_}
+-- One node written: six bytes.
 use native.Mathlib.Omega.{arith}
-use lib.ListN.{length, length-set}
-use Rattle.finite.specs.Laws.Below.{below-in}
-use Rattle.limits.specs.Limits.{nodeSize}
-use Rattle.blocks.specs.Write.{put}
-use Rattle.blocks.specs.Laws.Write.{put-room}
+use lib.ListN.{length-set}
+use Rattle.blocks.specs.Laws.Write.{put-bytes}
 use Rattle.blocks.proofs.put_node.Statement.{statement}
 use Rattle.blocks.proofs.put_node.Tie as tie
 
 mul-o : tie.Need-mul-o
 mul-o c = omega arith
-
-add-if1 : tie.Need-add-if1
-add-if1 c = omega arith
-
-returns : tie.Need-returns
-unfolding put
-returns c =
-    let a = c .before .before .args in let h : length (a .out .now) < nodeSize * a .i + nodeSize = omega arith in
-    simp (below-in _ _ h)
 
 low-requires : tie.Need-low-requires
 low-requires c κs = tt
@@ -69,19 +56,16 @@ slice-write-out-6 c = simp length-set (omega arith)
 same-length : tie.Need-same-length
 same-length c = simp length-set
 
-returns-2 : tie.Need-returns-2
-returns-2 c =
-    let p = c .before .before .before in let a = p .before .before .before .args in
-    put-room _ (a .i) _ _ (a .left) (a .right) (omega arith) (p .low .ensures) (c .before .before .high .ensures) (c .before .low2 .ensures)
-    (c .high2 .ensures)
+returns : tie.Need-returns
+returns c =
+    let p = c .before .before .before in let a = p .before .before .args in
+    put-bytes _ (a .i) _ _ (a .left) (a .right) (p .low .ensures) (c .before .before .high .ensures) (c .before .low2 .ensures) (c .high2 .ensures)
 
 pub put-node-spec : {M : Type 1} → statement M
 put-node-spec =
     tie.close
     (tie.spec
     mul-o
-    add-if1
-    returns
     low-requires
     high-requires
     low-requires-2
@@ -98,4 +82,4 @@ put-node-spec =
     add-out-5
     slice-write-out-6
     same-length
-    returns-2)
+    returns)

@@ -14,7 +14,7 @@ group-requires : tie.Need-group-requires
 group-requires c κs = omega arith
 
 returns-2 : tie.Need-returns-2
-returns-2 c = sized-row _ (omega arith) (omega arith) (c .before .text .ensures) (c .group .ensures .0)
+returns-2 c = sized-row _ (omega arith) (omega arith) (c .before .before .text .ensures) (c .group .ensures .0)
 
 pub size-spec : {M : Type 1} → statement M
 size-spec = tie.close (tie.spec returns text-requires group-requires returns-2)

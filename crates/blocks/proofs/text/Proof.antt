@@ -5,7 +5,7 @@ use native.Mathlib.Omega.{arith}
 use Rattle.semantics.specs.Table.{kindNo}
 use Rattle.semantics.specs.Block.{size, root, emit}
 use Rattle.spelling.specs.Rows.{rows}
-use Rattle.blocks.specs.Texts.{coded, codedAt, groupOf, groupsOf, wordOf, textOf, textAt}
+use Rattle.blocks.specs.Texts.{coded, codedAt, groupOf, textOf, textAt}
 use Rattle.finite.specs.Laws.Arms.{missed}
 use Rattle.blocks.proofs.text.Statement.{statement}
 use Rattle.blocks.proofs.text.Tie as tie
@@ -15,7 +15,7 @@ last-row : (n : ℕ) → 34 ≤ n → n ≤ 34 → n ≡ 34
 last-row n g h = omega arith
 
 pub text-spec : {M : Type 1} → statement M
-unfolding rows coded codedAt groupOf groupsOf wordOf textOf textAt size root emit kindNo
+unfolding rows coded codedAt groupOf textOf textAt size root emit kindNo
 text-spec =
     tie.close
     (tie.spec

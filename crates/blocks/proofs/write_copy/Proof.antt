@@ -15,7 +15,7 @@ within-requires-2 : tie.Need-within-requires-2
 within-requires-2 c κs = tt
 
 put-node-requires : tie.Need-put-node-requires
-put-node-requires c κs = (omega arith, omega arith, omega arith)
+put-node-requires c κs = (omega arith, omega arith, omega arith, omega arith)
 
 same-length : tie.Need-same-length
 same-length c = omega arith

@@ -17,7 +17,7 @@ use Rattle.semantics.specs.Laws.Emit.{emit-length}
 use Rattle.condition.specs.Laws.Limits.{each-kind}
 use Rattle.spelling.specs.declared.Spelling.{Spelling}
 use Rattle.spelling.specs.Rows.{copyCount, rowCount, copies, rows}
-use Rattle.blocks.specs.Texts.{coded, codedAt, groupOf, nodeOf, groupsOf, wordOf, textOf, textAt, groupIn, childOf, decode}
+use Rattle.blocks.specs.Texts.{coded, codedAt, groupOf, nodeOf, textOf, textAt, childOf, decode}
 use Rattle.spelling.specs.Spelling.{reverseOf, paramsOf, rowSpelled, spelled, Sized, usedBy, keptBy, copyOf}
 use Rattle.blocks.specs.Write.{put, puts}
 use Rattle.blocks.specs.Laws.Write.{firsts, firsts-map, Put}
@@ -26,22 +26,22 @@ use Rattle.blocks.specs.Laws.Write.{firsts, firsts-map, Put}
 
 -- node j of the text x
 abbrev nodeAt : List ℕ → ℕ → Node
-nodeAt x j = nodeOf (groupIn x (j + 1))
+nodeAt x j = nodeOf (getD x (j + 1) 0)
 
 -- all rows: the text has the nodes
 texts-right : map (λ B. firsts (nodeAt (textOf B)) (size B)) coded ≡ map (λ B. emit B 1) coded
-unfolding firsts groupIn nodeOf textOf wordOf groupsOf groupOf emit root size kindNo coded rows
+unfolding firsts nodeOf textOf groupOf emit root size kindNo coded rows
 texts-right = refl
 
 -- a row has 1 to 11 nodes, and the text's first group says how many
 few : ℕ → Bool
-few r = let n = size (codedAt r) in below 0 n && (below n 12 && same (groupIn (textOf (codedAt r)) 0) n)
+few r = let n = size (codedAt r) in below 0 n && (below n 12 && same (getD (textOf (codedAt r)) 0 0) n)
 
 all-few : all (rowCount - copyCount) few ≡ true
-unfolding all below same few groupIn textOf wordOf groupsOf groupOf emit root size kindNo codedAt coded rows
+unfolding all below same few textOf groupOf emit root size kindNo codedAt coded rows
 all-few = refl
 
-row-few : (r : ℕ) → r < rowCount - copyCount → (1 ≤ size (codedAt r)) × (size (codedAt r) ≤ 11) × (groupIn (textOf (codedAt r)) 0 ≡ size (codedAt r))
+row-few : (r : ℕ) → r < rowCount - copyCount → (1 ≤ size (codedAt r)) × (size (codedAt r) ≤ 11) × (getD (textOf (codedAt r)) 0 0 ≡ size (codedAt r))
 unfolding few
 row-few r h =
     let t = all-out (rowCount - copyCount) few all-few r h in let q = and-r (below 0 _) _ t in
@@ -120,17 +120,20 @@ module _ (s : Spelling) (t : ℕ) where
   row-size = ap size (row-filled 0) ∙ size-fill (paramsOf s) 0 t (codedAt (s .row - copyCount))
 
   module _ (g : copyCount ≤ s .row) (h : s .row < rowCount) where
-    pub text-few : {x : List ℕ} {n : ℕ} → x ≡ textAt (s .row) → n ≡ groupIn x 0 → n ≤ 11
+    -- the text says how many nodes there are
+    pub text-size : {x : List ℕ} {n : ℕ} → x ≡ textAt (s .row) → n ≡ getD x 0 0 → (n ≤ 11) × (n ≡ size (rowSpelled s t))
     unfolding textAt
-    text-few ex en = let f = row-few (s .row - copyCount) (omega arith) in omega (arith, en ∙ ap (λ (l : List ℕ). groupIn l 0) ex ∙ f .2)
+    text-size ex en =
+        let f = row-few (s .row - copyCount) (omega arith) in let e = en ∙ ap (λ (l : List ℕ). getD l 0 0) ex ∙ f .2 in
+        (omega arith, e ∙ sym row-size)
 
     -- the whole text is written
-    pub row-written : {o : List ℕ} {at : ℕ} {ps x : List ℕ} {n : ℕ} {out : List ℕ} → ps ≡ paramsOf s → x ≡ textAt (s .row) → n ≡ groupIn x 0
+    pub row-written : {o : List ℕ} {at : ℕ} {ps x : List ℕ} {n : ℕ} {out : List ℕ} → ps ≡ paramsOf s → x ≡ textAt (s .row) → n ≡ getD x 0 0
         → Put o at (nodeIn ps at t x) n out → out ≡ puts o at 0 (emit (rowSpelled s t) at)
     unfolding textAt
     row-written {o} {at} {n = n} ep ex en w =
         let f = row-few (s .row - copyCount) (omega arith) in let B = codedAt (s .row - copyCount) in
-        let e : n ≡ size B = en ∙ ap (λ (l : List ℕ). groupIn l 0) ex ∙ f .2 in
+        let e : n ≡ size B = en ∙ ap (λ (l : List ℕ). getD l 0 0) ex ∙ f .2 in
         w .is ∙ ap (puts o at 0)
         (rw (ep, ex, e) (firsts-map (decode (paramsOf s) at t) (nodeAt (textOf B)) (size B))
         ∙ ap (map (decode (paramsOf s) at t)) (text-right (s .row - copyCount))
@@ -174,10 +177,10 @@ sized-copy s h = record {
   few = omega arith;
 }
 
-pub sized-row : (s : Spelling) {x : List ℕ} {n : ℕ} → copyCount ≤ s .row → s .row < rowCount → x ≡ textAt (s .row) → n ≡ groupIn x 0 → Sized s n
+pub sized-row : (s : Spelling) {x : List ℕ} {n : ℕ} → copyCount ≤ s .row → s .row < rowCount → x ≡ textAt (s .row) → n ≡ getD x 0 0 → Sized s n
 unfolding textAt
 sized-row s g h ex en =
-    let f = row-few (s .row - copyCount) (omega arith) in let e = en ∙ ap (λ (l : List ℕ). groupIn l 0) ex ∙ f .2 in
+    let f = row-few (s .row - copyCount) (omega arith) in let e = en ∙ ap (λ (l : List ℕ). getD l 0 0) ex ∙ f .2 in
     record { right = λ t u. e ∙ sym (ap size (spelled-row s t u g) ∙ row-size s t); some = omega arith; few = omega arith }
 
 -- a copy is written

@@ -1,14 +1,11 @@
 -- Laws of writing nodes into a buffer.
 use mathlib.Core.Path.{_≡_, refl, _∙_, ap}
 use mathlib.Core.List.{List, [], _∷_, _++_, map, map-append}
-use Prim.Native.Nat.{ℕ, zero, suc, _+_, _*_, _/_, _%_, _≤_}
+use Prim.Native.Nat.{ℕ, zero, suc, _+_, _*_, _/_, _%_}
 use native.Mathlib.Omega.{arith}
 use native.Mathlib.Numerals.{add-one, towards-suc}
 use lib.ListN.{length, set, length-append}
 use lib.Seq.{length-sets}
-use Rattle.finite.specs.Tests.{below}
-use Rattle.finite.specs.Laws.Bools.{either, look}
-use Rattle.finite.specs.Laws.Below.{below-not}
 use Rattle.limits.specs.Limits.{nodeSize}
 use Rattle.semantics.specs.Table.{Node}
 use Rattle.condition.specs.Bytes.{nodeBytes}
@@ -18,22 +15,20 @@ use Rattle.blocks.specs.Write.{put, puts}
 
 pub length-put : (o : List ℕ) (i : ℕ) (x : Node) → length (put o i x) ≡ length o
 unfolding put
-length-put o i x =
-    either (look (below (length o) (nodeSize * i + nodeSize))) (λ e. rw (e, put) refl) (λ e. rw (e, put) (length-sets o (nodeSize * i) (nodeBytes x)))
+length-put o i x = length-sets o (nodeSize * i) (nodeBytes x)
 
 pub length-puts : (o : List ℕ) (at j : ℕ) (xs : List Node) → length (puts o at j xs) ≡ length o
 unfolding puts
 length-puts o at j [] = refl
 length-puts o at j (x ∷ xs) = length-puts (put o (at + j) x) at (suc j) xs ∙ length-put o (at + j) x
 
--- ---- a node that fits, byte by byte
+-- ---- a node, byte by byte
 
-pub put-room : (o : List ℕ) (i k p l r : ℕ) {l0 l1 r0 r1 : ℕ} → nodeSize * i + nodeSize ≤ length o → l0 ≡ l % 256 → l1 ≡ l / 256
-    → r0 ≡ r % 256 → r1 ≡ r / 256
+pub put-bytes : (o : List ℕ) (i k p l r : ℕ) {l0 l1 r0 r1 : ℕ} → l0 ≡ l % 256 → l1 ≡ l / 256 → r0 ≡ r % 256 → r1 ≡ r / 256
     → set (set (set (set (set (set o (6 * i) k) (6 * i + 1) p) (6 * i + 2) l0) (6 * i + 3) l1) (6 * i + 4) r0) (6 * i + 5) r1
     ≡ put o i (record { kind = k; param = p; left = l; right = r })
 unfolding put nodeBytes
-put-room o i k p l r h e0 e1 e2 e3 = rw (below-not (length o) (nodeSize * i + nodeSize) h) (simp (e0, e1, e2, e3, towards-suc))
+put-bytes o i k p l r e0 e1 e2 e3 = simp (e0, e1, e2, e3, towards-suc)
 
 -- ---- one node more
 

@@ -1,23 +1,42 @@
--- The first pass, and the second.
-use Rattle.emitting.specs.Laws.Emitted.{counted}
+-- The first pass, and the second where there is room for its blocks.
+use native.Mathlib.Omega.{arith}
+use Rattle.emitting.specs.Laws.Fits.{nodes-fit}
+use Rattle.emitting.specs.Laws.Emitted.{counted, none-written}
 use Rattle.emitting.proofs.rewrite.Statement.{statement}
 use Rattle.emitting.proofs.rewrite.Tie as tie
 
-spell-requires : tie.Need-spell-requires
-spell-requires c κs = c .pre .1
-
 number-requires : tie.Need-number-requires
-number-requires c κs = let x = c .before .before in let p = x .before .pre in ((p .0 .0, p .0 .1, p .0 .2, p .0 .3), (x .spell .ensures .first, x .spell .ensures .second, p .1))
-
-emit-down-requires : tie.Need-emit-down-requires
-emit-down-requires c κs =
-    let n = c .before .before .before in let x = n .before .before .before in let p = x .before .pre .0 in
-    (record { whole = p .0; numbered = n .number .ensures .0 .2; rowed = n .number .ensures .1 .0; first = x .spell .ensures .first; second = x .spell .ensures .second; room = p .4 }, n .number .ensures .1 .1)
+number-requires c κs = let p = c .before .before .pre in ((p .0 .0, p .0 .1, p .0 .2, p .0 .3), p .1)
 
 returns : tie.Need-returns
 returns c =
-    let n = c .before .before .before .before in let r = counted (n .number .ensures .0 .2) (n .number .ensures .0 .0) in
-    ((r .0, c .emit-down .ensures .0, r .1), (n .number .ensures .0 .2 .size, c .emit-down .ensures .1 .0, c .emit-down .ensures .1 .1))
+    let n = c .before in let s = n .before .before .before in let m = n .number .ensures in let r = counted m in
+    ((r, none-written (s .args .out .now) _ r (omega arith) (s .pre .0 .4)), (m .numbered .size, m .rowed .size, s .pre .0 .4))
+
+spell-requires : tie.Need-spell-requires
+spell-requires c κs = c .before .before .before .before .pre .1 .0
+
+emit-down-requires : tie.Need-emit-down-requires
+emit-down-requires c κs =
+    let x = c .before .before .before in let n = x .before .before in let s = n .before .before .before in
+    let m = n .number .ensures in let p = s .pre in (
+      record {
+        whole = p .0 .0;
+        fits = nodes-fit (s .args .table .now) (s .args .n) (p .1 .1);
+        few = omega (arith, m .here, x .before .if1 .left);
+        numbered = m .numbered;
+        rowed = m .rowed;
+        first = x .spell .ensures .first;
+        second = x .spell .ensures .second;
+        room = p .0 .4;
+      },
+      m .none,
+    )
+
+returns-2 : tie.Need-returns-2
+returns-2 c =
+    let n = c .before .before .before .before .before .before in let m = n .number .ensures in let d = c .emit-down .ensures in
+    ((counted m, d .0), (m .numbered .size, d .1 .0, d .1 .1))
 
 pub rewrite-spec : {M : Type 1} → statement M
-rewrite-spec = tie.close (tie.spec spell-requires number-requires emit-down-requires returns)
+rewrite-spec = tie.close (tie.spec number-requires returns spell-requires emit-down-requires returns-2)

@@ -7,20 +7,14 @@ use Rattle.emitting.proofs.start.Tie as tie
 returns : tie.Need-returns
 returns c = start-first _ (c .if1 .taken)
 
-mul-widen : tie.Need-mul-widen
-mul-widen c = omega arith
-
-element-copy-out-widen : tie.Need-element-copy-out-widen
-element-copy-out-widen c = omega arith
-
-widen-requires : tie.Need-widen-requires
-widen-requires c κs = tt
+image-requires : tie.Need-image-requires
+image-requires c κs = omega arith
 
 add-result : tie.Need-add-result
-add-result c = omega (arith, c .widen .ensures .1)
+add-result c = omega (arith, c .image .ensures .1)
 
 returns-2 : tie.Need-returns-2
-returns-2 c = start-after _ _ (omega arith) (c .widen .ensures .0)
+returns-2 c = start-after _ _ (omega arith) (c .image .ensures .0)
 
 pub start-spec : {M : Type 1} → statement M
-start-spec = tie.close (tie.spec returns mul-widen element-copy-out-widen widen-requires add-result returns-2)
+start-spec = tie.close (tie.spec returns image-requires add-result returns-2)

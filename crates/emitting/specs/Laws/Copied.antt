@@ -9,7 +9,7 @@ use Rattle.condition.specs.Laws.Limits.{each-kind}
 use Rattle.limits.specs.Limits.{kinds}
 use Rattle.spelling.specs.Rows.{copies, rows}
 use Rattle.spelling.specs.declared.Spelling.{Spelling}
-use Rattle.spelling.specs.Spelling.{firstOf, secondOf, spelled, Spells}
+use Rattle.spelling.specs.Spelling.{spelled, Spells}
 use Rattle.emitting.specs.State.{spellingOf, firstKind, endKind}
 
 -- kind k is not one of those that edit e changes, and is known
@@ -77,21 +77,6 @@ kept {e} {k} w h g = record {
   right = λ t u. copied w t u e k (h, g);
 }
 
--- what the first kinds are below
-pub first-low : (e : Edit) → firstKind e ≤ 8
-first-low (CN1 n1 n2) = omega arith
-first-low (CN2 n1 n2 f) = omega arith
-first-low (AP n q) = omega arith
-first-low (DP n q) = omega arith
-first-low (AT f n1 n2) = omega arith
-first-low (DT1 f n1 n2) = omega arith
-first-low (DT2 f n) = omega arith
-first-low (AS n s) = omega arith
-first-low (DS n) = omega arith
-
 -- a spelling is its row's
 pub by-row : {e : Edit} {k w : ℕ} {x : Spelling} → Spells e k w x → Spells e k w (spellingOf e w (x .row))
-by-row {e} {k} {w} {x} S =
-    subst (λ (n : ℕ). Spells e k w (record { row = x .row; w = n; a = firstOf e; b = secondOf e })) (S .own)
-    (subst (λ (n : ℕ). Spells e k w (record { row = x .row; w = x .w; a = n; b = secondOf e })) (S .first)
-    (subst (λ (n : ℕ). Spells e k w (record { row = x .row; w = x .w; a = x .a; b = n })) (S .second) S))
+by-row {e} {k} {w} {x} S = let q : x ≡ spellingOf e w (x .row) = rw (← S .own, ← S .first, ← S .second) refl in subst (Spells e k w) q S

@@ -3,12 +3,12 @@ use mathlib.Core.Path.{_≡_, refl, sym, _∙_, ap, subst}
 use mathlib.Core.List.{List}
 use mathlib.Core.Logic.{_⊎_, inl, inr}
 use mathlib.Core.Bool.{Bool, true, false, _||_, not}
-use Prim.Native.Nat.{ℕ, _+_, _*_, _≤_, _<_}
+use Prim.Native.Nat.{ℕ, _+_, _*_, _-_, _≤_, _<_}
 use native.Mathlib.Omega.{arith}
-use lib.ListN.{getD, set}
-use lib.Seq.{getD-set-other}
+use lib.ListN.{length, getD, set}
+use lib.Seq.{getD-set-same, getD-set-other}
 use lib.Dec.{ltb}
-use Rattle.finite.specs.Laws.Bools.{either, look}
+use Rattle.finite.specs.Laws.Bools.{either, look, clash, or-out}
 use Rattle.finite.specs.Laws.Below.{equal?}
 use Rattle.semantics.specs.Edit.{Edit}
 use Rattle.condition.specs.Bytes.{nodeAt}
@@ -97,37 +97,58 @@ pub not-off : {b : Bool} → not b ≡ false → b ≡ true
 not-off {b = true} h = refl
 not-off {b = false} h = sym h
 
+pub not-on : {b : Bool} → not b ≡ true → b ≡ false
+not-on {b = true} h = sym h
+not-on {b = false} h = refl
+
 -- a field is emitted, and so is the child, where the kind uses it
-there : (rows : List ℕ) (lo hi k c i : ℕ) → (c < i → getD rows c 0 ≡ emittedRow) → usedChild lo hi k c i < i → getD rows (usedChild lo hi k c i) 0 ≡ emittedRow
+there : (rows : List ℕ) (lo hi k c i : ℕ) → getD rows c 0 ≡ emittedRow → usedChild lo hi k c i < i → getD rows (usedChild lo hi k c i) 0 ≡ emittedRow
 there rows lo hi k c i h =
     either (look (ltb k lo)) (λ q. rw q (λ g. absurd (omega arith)))
-    (λ q. either (look (ltb k hi)) (λ z. rw (q, z) h) (λ z. rw (q, z) (λ g. absurd (omega arith))))
+    (λ q. either (look (ltb k hi)) (λ z. rw (q, z) (λ g. h)) (λ z. rw (q, z) (λ g. absurd (omega arith))))
 
 module _ (s rows : List ℕ) (i : ℕ) where
-  left-there : {l : ℕ} → l ≡ nodeAt s i .left → (l < i → getD rows l 0 ≡ emittedRow) → leftAt s i < i → getD rows (leftAt s i) 0 ≡ emittedRow
+  left-there : {l : ℕ} → l ≡ nodeAt s i .left → getD rows l 0 ≡ emittedRow → leftAt s i < i → getD rows (leftAt s i) 0 ≡ emittedRow
   unfolding leftAt
-  left-there e h = there rows notNo slotNo (nodeAt s i .kind) (nodeAt s i .left) i (subst (λ (m : ℕ). m < i → getD rows m 0 ≡ emittedRow) e h)
+  left-there e h = there rows notNo slotNo (nodeAt s i .kind) (nodeAt s i .left) i (subst (λ (m : ℕ). getD rows m 0 ≡ emittedRow) e h)
 
-  right-there : {r : ℕ} → r ≡ nodeAt s i .right → (r < i → getD rows r 0 ≡ emittedRow) → rightAt s i < i → getD rows (rightAt s i) 0 ≡ emittedRow
+  right-there : {r : ℕ} → r ≡ nodeAt s i .right → getD rows r 0 ≡ emittedRow → rightAt s i < i → getD rows (rightAt s i) 0 ≡ emittedRow
   unfolding rightAt
-  right-there e h = there rows orNo diaNo (nodeAt s i .kind) (nodeAt s i .right) i (subst (λ (m : ℕ). m < i → getD rows m 0 ≡ emittedRow) e h)
+  right-there e h = there rows orNo diaNo (nodeAt s i .kind) (nodeAt s i .right) i (subst (λ (m : ℕ). getD rows m 0 ≡ emittedRow) e h)
 
 -- both children of a node
-pub below-both : {s rows : List ℕ} {i l r : ℕ} → l ≡ nodeAt s i .left → r ≡ nodeAt s i .right → (l < i → getD rows l 0 ≡ emittedRow)
-    → (r < i → getD rows r 0 ≡ emittedRow) → ChildrenEmitted s rows i
+pub below-both : {s rows : List ℕ} {i l r : ℕ} → l ≡ nodeAt s i .left → r ≡ nodeAt s i .right → getD rows l 0 ≡ emittedRow
+    → getD rows r 0 ≡ emittedRow → ChildrenEmitted s rows i
 below-both {s} {rows} {i} el er a b = record { left = left-there s rows i el a; right = right-there s rows i er b }
 
-module _ {s rows rows′ : List ℕ} {c : ℕ} (e : rows′ ≡ set rows c emittedRow) where
-  pub one-leaf : (leftAt s c ≡ c) × (rightAt s c ≡ c) → OneEmitted s rows rows′ c (false ≡ true)
-  one-leaf h = one-set e (inl (record { left = λ g. absurd (omega (arith, h .0)); right = λ g. absurd (omega (arith, h .1)) }))
+-- what tells whether node l waits
+abbrev Tells : List ℕ → ℕ → Bool → Type 0
+Tells rows l b = (b ≡ false → getD rows l 0 ≡ emittedRow) × (b ≡ true → getD rows l 0 ≡ emittedRow → ⊥)
 
-  pub one-waits : {l : ℕ} {left : Bool} → l ≡ nodeAt s c .left → (left ≡ false → l < c → getD rows′ l 0 ≡ emittedRow) → rightAt s c ≡ c
-      → OneEmitted s rows rows′ c (left ≡ true)
-  one-waits {l} {left} el a h =
-      one-set e (either (look left) inr (λ q. inl (record { left = left-there s rows′ c el (a q); right = λ g. absurd (omega (arith, h)) })))
+above : (rows : List ℕ) {rows′ : List ℕ} {c l : ℕ} {b : Bool} → rows′ ≡ set rows c emittedRow → c < length rows → Tells rows′ l b → l ≤ c - 1 → b ≡ true → 0 < c
+above rows {rows′} {c} {l} e i t h q =
+    either
+    (equal? c 0)
+    (λ z. let g : l ≡ c = omega arith in absurd (t .1 q (rw (g, e) (getD-set-same rows c emittedRow 0 i))))
+    (λ z. omega arith)
 
-  pub two-wait : {l r : ℕ} {left right : Bool} → l ≡ nodeAt s c .left → (left ≡ false → l < c → getD rows′ l 0 ≡ emittedRow) → r ≡ nodeAt s c .right
-      → (right ≡ false → r < c → getD rows′ r 0 ≡ emittedRow) → OneEmitted s rows rows′ c ((left || right) ≡ true)
-  two-wait {l} {r} {left} {right} el a er b =
-      one-set e (either (look left) (λ q. inr (rw q refl))
-      (λ q. either (look right) (λ z. inr (rw (q, z) refl)) (λ z. inl (below-both el er (a q) (b z)))))
+-- node c is emitted, and is not 0 where one of its children waits
+module _ {s rows rows′ : List ℕ} {c : ℕ} (e : rows′ ≡ set rows c emittedRow) (i : c < length rows) where
+  pub one-leaf : (leftAt s c ≡ c) × (rightAt s c ≡ c) → OneEmitted s rows rows′ c (false ≡ true) × (false ≡ true → 0 < c)
+  one-leaf h =
+      (one-set e (inl (record { left = λ g. absurd (omega (arith, h .0)); right = λ g. absurd (omega (arith, h .1)) })), λ q. clash q refl)
+
+  pub one-waits : {l : ℕ} {left : Bool} → l ≡ nodeAt s c .left → Tells rows′ l left → l ≤ c - 1 → rightAt s c ≡ c
+      → OneEmitted s rows rows′ c (left ≡ true) × (left ≡ true → 0 < c)
+  one-waits {l} {left} el t b h = (
+    one-set e (either (look left) inr (λ q. inl (record { left = left-there s rows′ c el (t .0 q); right = λ g. absurd (omega (arith, h)) }))),
+    above rows e i t b,
+  )
+
+  pub two-wait : {l r : ℕ} {left right : Bool} → l ≡ nodeAt s c .left → Tells rows′ l left → l ≤ c - 1 → r ≡ nodeAt s c .right → Tells rows′ r right
+      → r ≤ c - 1 → OneEmitted s rows rows′ c ((left || right) ≡ true) × ((left || right) ≡ true → 0 < c)
+  two-wait {l} {r} {left} {right} el t b er u d = (
+    one-set e (either (look left) (λ q. inr (rw q refl))
+        (λ q. either (look right) (λ z. inr (rw (q, z) refl)) (λ z. inl (below-both el er (t .0 q) (u .0 z))))),
+    λ q. either (or-out left right q) (above rows e i t b) (above rows e i u d),
+  )

@@ -1,8 +1,11 @@
 -- The second pass for one edit: blocks written in any order, each at its number.
 use mathlib.Core.Path.{_≡_, refl, sym, _∙_, ap, ap₂, subst}
 use mathlib.Core.List.{List, _++_}
+use mathlib.Core.Bool.{true}
 use Prim.Native.Nat.{ℕ, zero, suc, _+_, _*_, _-_, _≤_, _<_}
 use native.Mathlib.Omega.{arith}
+use native.Mathlib.Numerals.{add-one}
+use borrow.Author.Tests.{ltb-true, ltb-false}
 use lib.ListN.{length, getD, set, take, length-set, List·getD-append}
 use lib.Dec.{ltb}
 use lib.Seq.{getD-take, getD-set-same, getD-set-other, getD-append-add, ext-getD, length-take-le}
@@ -10,21 +13,22 @@ use Rattle.finite.specs.Tests.{below}
 use Rattle.finite.specs.Laws.Bools.{either, look}
 use Rattle.finite.specs.Laws.Below.{below-in, below-out, below-not, not-below, equal?}
 use Rattle.semantics.specs.Edit.{Edit}
-use Rattle.semantics.specs.Table.{kindOf, Node}
+use Rattle.semantics.specs.Table.{kindOf, Node, nodeFits}
 use Rattle.semantics.specs.Block.{Block, old, size, emit, block, rewriteTable}
 use Rattle.semantics.specs.Laws.Emit.{emit-length}
 use Rattle.condition.specs.Bytes.{nodeAt, nodes, bytesOf}
 use Rattle.condition.specs.Laws.Bytes.{length-bytes}
-use Rattle.limits.specs.Limits.{tableBytes, notNo, orNo, diaNo, slotNo, kinds}
+use Rattle.limits.specs.Limits.{tableNodes, tableBytes, notNo, orNo, diaNo, slotNo, kinds}
 use Rattle.spelling.specs.declared.Spelling.{Spelling}
 use Rattle.spelling.specs.Rows.{rowCount}
 use Rattle.spelling.specs.Spelling.{spelled, Spells, Sized, keptBy, usedBy, copyOf}
 use Rattle.blocks.specs.Laws.Rows.{sized-copy, copy-written}
 use Rattle.blocks.specs.Write.{put, puts, TableWritten}
 use Rattle.blocks.specs.Laws.Write.{length-puts}
-use Rattle.emitting.specs.State.{blockIn, step, stateAt, leftAt, rightAt, startOf, startIn, Numbered, imageIn, emittedRow, spellingOf, NoneEmitted, Emittable, Stands, Emitting, lowerOf, higherOf, OneEmitted, TwoEmitted}
+use Rattle.emitting.specs.State.{blockIn, step, stateAt, leftAt, rightAt, startOf, startIn, Numbered, Numbering, emittedRow, spellingOf, NoneEmitted, Emittable, Stands, Emitting, lowerOf, higherOf, OneEmitted, TwoEmitted}
 use Rattle.emitting.specs.Laws.State.{state-out}
-use Rattle.emitting.specs.Laws.Numbered.{blockAt, start-more, starts-up, start-is, numbered-low, start-none, image-is, image-last, rowed-low}
+use Rattle.emitting.specs.Laws.Numbered.{blockAt, start-more, starts-up, start-is, numbered-low, start-none, image-is, image-small, image-last, rowed-low}
+use Rattle.emitting.specs.Laws.Fits.{fields-low, first-leaf}
 use Rattle.emitting.specs.Laws.Shapes.{leaf-alone, one-alone}
 use Rattle.emitting.specs.Laws.Deep.{one-none, one-more, two-more}
 use Rattle.emitting.specs.Laws.Puts.{puts-low, puts-high, puts-in, bytes-append}
@@ -46,18 +50,18 @@ module _ (s : List ℕ) (e : Edit) (out : List ℕ) (i : ℕ) (out′ : List ℕ
   block-end : startOf e s (suc i) ≡ startOf e s i + length (emit (blockAt e s i) (startOf e s i))
   block-end = start-more e s i ∙ ap (λ (m : ℕ). startOf e s i + m) (sym (emit-length (blockAt e s i) (startOf e s i)))
 
-  stands-new : length out ≡ tableBytes → Stands s e out′ i
+  stands-new : length out ≡ tableBytes → startOf e s (suc i) ≤ tableNodes → Stands s e out′ i
   unfolding Stands
-  stands-new l p a b c =
+  stands-new l f p a b =
       let z : p ≡ length (bytesOf (stateAt e s i .out)) + (p - 6 * (startOf e s i + 0)) = omega (arith, bytes-start e s i) in
       ap (λ (o : List ℕ). getD o p 0) h
-      ∙ puts-in out (startOf e s i) 0 (emit (blockAt e s i) (startOf e s i)) p l (omega arith) (omega (arith, block-end)) c
+      ∙ puts-in out (startOf e s i) 0 (emit (blockAt e s i) (startOf e s i)) p (omega arith) (omega (arith, block-end)) (omega arith)
       ∙ sym (getD-append-add (bytesOf (stateAt e s i .out)) (bytesOf (emit (blockAt e s i) (startOf e s i))) (p - 6 * (startOf e s i + 0)) 0)
       ∙ ap₂ (λ (l : List ℕ) (m : ℕ). getD l m 0) (sym (bytes-more e s i)) (sym z)
 
   stands-still : (j : ℕ) → (j ≡ i → ⊥) → Stands s e out j → Stands s e out′ j
   unfolding Stands
-  stands-still j ne S p a b c =
+  stands-still j ne S p a b =
       ap (λ (o : List ℕ). getD o p 0) h
       ∙ either
       (look (below j i))
@@ -65,10 +69,11 @@ module _ (s : List ℕ) (e : Edit) (out : List ℕ) (i : ℕ) (out′ : List ℕ
       puts-low out (startOf e s i) 0 (emit (blockAt e s i) (startOf e s i)) p (omega (arith, starts-up e s (suc j) i lt)))
       (λ q. let le : i ≤ j = not-below j i q in let gt : suc i ≤ j = omega arith in
       puts-high out (startOf e s i) 0 (emit (blockAt e s i) (startOf e s i)) p (omega (arith, starts-up e s (suc i) j gt, block-end)))
-      ∙ S p a b c
+      ∙ S p a b
 
-  emitting-one : (rows : List ℕ) → i < length rows → length out ≡ tableBytes → Emitting s e rows out (set rows i emittedRow) out′
-  emitting-one rows b l =
+  emitting-one : (rows : List ℕ) → i < length rows → length out ≡ tableBytes → startOf e s (suc i) ≤ tableNodes
+      → Emitting s e rows out (set rows i emittedRow) out′
+  emitting-one rows b l f =
       let here : getD (set rows i emittedRow) i 0 ≡ emittedRow = getD-set-same rows i emittedRow 0 b in
       let other : (j : ℕ) → (j ≡ i → ⊥) → getD (set rows i emittedRow) j 0 ≡ getD rows j 0 = λ j q. getD-set-other rows i j emittedRow 0 q in
       record {
@@ -76,8 +81,8 @@ module _ (s : List ℕ) (e : Edit) (out : List ℕ) (i : ℕ) (out′ : List ℕ
         room = ap length h ∙ length-puts out (startOf e s i) 0 (emit (blockAt e s i) (startOf e s i));
         stays = λ j p. either (equal? j i) (λ q. rw q here) (λ q. other j q ∙ p);
         same = λ j ne. either (equal? j i) (λ q. absurd (ne (rw q here))) (λ q. other j q);
-        stand = λ j ne p. either (equal? j i) (λ q. subst (Stands s e out′) (sym q) (stands-new l)) (λ q. absurd (ne (sym (other j q) ∙ p)));
-        keeps = λ j S. either (equal? j i) (λ q. subst (Stands s e out′) (sym q) (stands-new l)) (λ q. stands-still j q S);
+        stand = λ j ne p. either (equal? j i) (λ q. subst (Stands s e out′) (sym q) (stands-new l f)) (λ q. absurd (ne (sym (other j q) ∙ p)));
+        keeps = λ j S. either (equal? j i) (λ q. subst (Stands s e out′) (sym q) (stands-new l f)) (λ q. stands-still j q S);
       }
 
 -- ---- the steps of the code
@@ -105,6 +110,8 @@ pub emittable-then : {s : List ℕ} {e : Edit} {images rows out rows′ out′ :
     → Emitting s e rows out rows′ out′ → Emittable s e images rows′ out′ a b n
 emittable-then {s} {e} {images} {rows} {out} {rows′} {out′} {a} {b} {n} Y P = record {
   whole = Y .whole;
+  fits = Y .fits;
+  few = Y .few;
   numbered = Y .numbered;
   rowed = record {
     size = P .size ∙ Y .rowed .size;
@@ -119,8 +126,10 @@ emittable-then {s} {e} {images} {rows} {out} {rows′} {out′} {a} {b} {n} Y P 
 
 pub emittable-low : {s : List ℕ} {e : Edit} {images rows out : List ℕ} {a b n : ℕ} → Emittable s e images rows out a b n → (i : ℕ) → i ≤ n
     → Emittable s e images rows out a b i
-emittable-low Y i h = record {
+emittable-low {s} {e} {n = n} Y i h = record {
   whole = Y .whole;
+  fits = λ j q. Y .fits j (omega arith);
+  few = omega (arith, starts-up e s i n h, Y .few);
   numbered = numbered-low (Y .numbered) i h;
   rowed = rowed-low (Y .rowed) i h;
   first = Y .first;
@@ -147,14 +156,19 @@ module _ {s : List ℕ} {e : Edit} {images rows out : List ℕ} {a b : ℕ} (c :
   unfolding rightAt
   one-here h = one-alone spells-here h _ c
 
-  module _ {l r t u : ℕ} (el : l ≡ nodeAt s c .left) (eq : r ≡ nodeAt s c .right) (et : t ≡ imageIn images c l) (eu : u ≡ imageIn images c r) where
+  module _ {l r t u : ℕ} (el : l ≡ nodeAt s c .left) (eq : r ≡ nodeAt s c .right) (et : t ≡ getD images l 0) (eu : u ≡ getD images r 0) where
     block-here : spelled (record { row = row; w = p; a = a; b = b }) t u ≡ blockAt e s c
     unfolding blockIn
     block-here =
         let M : Numbered s e images c = numbered-low (Y .numbered) c (omega arith) in
-        let im : List ℕ = stateAt e s c .images in
+        let im : List ℕ = stateAt e s c .images in let f = Y .fits c (omega arith) in let low = fields-low c (nodeAt s c) f in
         spells-here .right t u
-        ∙ ap₂ (λ (x y : ℕ). block e (kindOf (nodeAt s c .kind)) (nodeAt s c .param) (old x) (old y)) (et ∙ image-is M l ∙ ap (λ (m : ℕ). getD im m 0) el) (eu ∙ image-is M r ∙ ap (λ (m : ℕ). getD im m 0) eq)
+        ∙ either
+        (equal? c 0)
+        (λ z. first-leaf (nodeAt s c) (subst (λ (m : ℕ). nodeFits m (nodeAt s c) ≡ true) z f) e _ _ _ _ _)
+        (λ z. ap₂ (λ (x y : ℕ). block e (kindOf (nodeAt s c .kind)) (nodeAt s c .param) (old x) (old y))
+        (et ∙ image-is M l (omega (arith, low .0)) ∙ ap (λ (m : ℕ). getD im m 0) el)
+        (eu ∙ image-is M r (omega (arith, low .1)) ∙ ap (λ (m : ℕ). getD im m 0) eq))
 
     -- the block begins at number m
     pub emitted : {m : ℕ} {rows′ out′ : List ℕ} → m ≡ startIn images c
@@ -165,16 +179,41 @@ module _ {s : List ℕ} {e : Edit} {images rows out : List ℕ} {a b : ℕ} (c :
         let w : out′ ≡ puts out (startOf e s c) 0 (emit (blockAt e s c) (startOf e s c)) =
         eo ∙ ap₂ (λ (B : Block) (i : ℕ). puts out i 0 (emit B i)) block-here at in
         let i : c < length rows = omega (arith, Y .rowed .size, Y .numbered .most) in
-        rw e′ (emitting-one s e out c out′ w rows i (Y .room), getD-set-same rows c emittedRow 0 i)
+        let f : startOf e s (suc c) ≤ tableNodes = subst (λ (n : ℕ). startOf e s n ≤ tableNodes) (add-one c) (Y .few) in
+        rw e′ (emitting-one s e out c out′ w rows i (Y .room) f, getD-set-same rows c emittedRow 0 i)
+
+    -- and there is room for it
+    pub block-room : {m : ℕ} → m ≡ startIn images c → 6 * (m + size (spelled (record { row = row; w = p; a = a; b = b }) t u)) ≤ length out
+    block-room em =
+        omega (arith, em, start-is (Y .numbered) c (omega arith), ap size block-here, start-more e s c, ap (startOf e s) (add-one c), Y .few, Y .room)
 
     -- a block of one node begins with its image
     alone : {m : ℕ} → Sized (record { row = row; w = p; a = a; b = b }) 1 → m ≡ getD images c 0 → m ≡ startIn images c
     alone Z em =
         omega (arith, em, Y .numbered .imaged c (omega arith), image-last e s c, start-more e s c, Z .right t u, ap size block-here, start-is (Y .numbered) c (omega arith))
 
-pub start-small : {s : List ℕ} {e : Edit} {images rows out : List ℕ} {a b : ℕ} (c : ℕ) → Emittable s e images rows out a b (c + 1) → startIn images c ≤ 22528
-start-small {s} {e} c Y =
-    omega (arith, start-is (Y .numbered) c (omega arith), starts-up e s c (c + 1) (omega arith), Y .numbered .few)
+-- where node c's block stands, and the images of its fields
+module _ {s : List ℕ} {e : Edit} {images rows out : List ℕ} {a b : ℕ} (c : ℕ) (Y : Emittable s e images rows out a b (c + 1)) where
+  pub start-small : startIn images c ≤ tableNodes
+  start-small = omega (arith, start-is (Y .numbered) c (omega arith), starts-up e s c (c + 1) (omega arith), Y .few)
+
+  pub in-rows : c < length rows
+  in-rows = omega (arith, Y .rowed .size, Y .numbered .most)
+
+  pub image-room : {m : ℕ} → m ≡ getD images c 0 → m < tableNodes
+  image-room q = omega (arith, image-small (Y .numbered) c (omega arith) q, Y .few)
+
+  pub left-low : {l : ℕ} → l ≡ nodeAt s c .left → l ≤ c - 1
+  left-low q = omega (arith, fields-low c (nodeAt s c) (Y .fits c (omega arith)) .0)
+
+  pub right-low : {r : ℕ} → r ≡ nodeAt s c .right → r ≤ c - 1
+  right-low q = omega (arith, fields-low c (nodeAt s c) (Y .fits c (omega arith)) .1)
+
+  pub left-small : {l t : ℕ} → l ≡ nodeAt s c .left → t ≡ getD images l 0 → t < tableNodes
+  left-small {l} q z = omega (arith, image-small (Y .numbered) l (omega (arith, left-low q)) z, Y .few)
+
+  pub right-small : {r u : ℕ} → r ≡ nodeAt s c .right → u ≡ getD images r 0 → u < tableNodes
+  right-small {r} q z = omega (arith, image-small (Y .numbered) r (omega (arith, right-low q)) z, Y .few)
 
 -- ---- copies, written at once
 
@@ -198,7 +237,7 @@ copy-two k p t u g h =
 module _ {s : List ℕ} {e : Edit} {images rows out : List ℕ} {a b : ℕ} (c : ℕ) (Y : Emittable s e images rows out a b (c + 1)) {row p m : ℕ}
     (er : row ≡ getD rows c 0) (ne : row ≡ emittedRow → ⊥) (ep : p ≡ nodeAt s c .param) (em : m ≡ getD images c 0) {rows′ out′ : List ℕ}
     (e′ : rows′ ≡ set rows c emittedRow) where
-  copy-emitted : {t u : ℕ} (x : Node) → row < kinds → x ≡ copyOf row p t u → t ≡ imageIn images c (nodeAt s c .left) → u ≡ imageIn images c (nodeAt s c .right)
+  copy-emitted : {t u : ℕ} (x : Node) → row < kinds → x ≡ copyOf row p t u → t ≡ getD images (nodeAt s c .left) 0 → u ≡ getD images (nodeAt s c .right) 0
       → out′ ≡ put out m x → Emitting s e rows out rows′ out′ × (getD rows′ c 0 ≡ emittedRow)
   copy-emitted {t} {u} x h ex et eu eo =
       let y : Spelling = record { row = row; w = p; a = a; b = b } in
@@ -208,34 +247,34 @@ module _ {s : List ℕ} {e : Edit} {images rows out : List ℕ} {a b : ℕ} (c :
       → Emitting s e rows out rows′ out′ × (getD rows′ c 0 ≡ emittedRow)
   emitted-leaf h eo = copy-emitted _ (omega arith) (copy-leaf row p _ _ h) refl refl eo
 
-  pub emitted-one : {l t : ℕ} → (diaNo ≤ row) × (row < slotNo) → l ≡ nodeAt s c .left → t ≡ imageIn images c l
+  pub emitted-one : {l t : ℕ} → (diaNo ≤ row) × (row < slotNo) → l ≡ nodeAt s c .left → t ≡ getD images l 0
       → out′ ≡ put out m (record { kind = row; param = p; left = t; right = 0 }) → Emitting s e rows out rows′ out′ × (getD rows′ c 0 ≡ emittedRow)
-  emitted-one {l} {t} h el et eo = copy-emitted _ (omega arith) (copy-one row p t _ (h .0) (h .1)) (et ∙ ap (imageIn images c) el) refl eo
+  emitted-one {l} {t} h el et eo = copy-emitted _ (omega arith) (copy-one row p t _ (h .0) (h .1)) (et ∙ ap (λ (m : ℕ). getD images m 0) el) refl eo
 
-  pub emitted-two : {l t r u : ℕ} → (orNo ≤ row) × (row < diaNo) → l ≡ nodeAt s c .left → t ≡ imageIn images c l → r ≡ nodeAt s c .right → u ≡ imageIn images c r
+  pub emitted-two : {l t r u : ℕ} → (orNo ≤ row) × (row < diaNo) → l ≡ nodeAt s c .left → t ≡ getD images l 0 → r ≡ nodeAt s c .right → u ≡ getD images r 0
       → out′ ≡ put out m (record { kind = row; param = 0; left = t; right = u }) → Emitting s e rows out rows′ out′ × (getD rows′ c 0 ≡ emittedRow)
   emitted-two {l} {t} {r} {u} h el et eq eu eo =
-      copy-emitted _ (omega arith) (copy-two row p t u (h .0) (h .1)) (et ∙ ap (imageIn images c) el) (eu ∙ ap (imageIn images c) eq) eo
+      copy-emitted _ (omega arith) (copy-two row p t u (h .0) (h .1)) (et ∙ ap (λ (m : ℕ). getD images m 0) el) (eu ∙ ap (λ (m : ℕ). getD images m 0) eq) eo
 
 -- ---- two nodes, one after the other
 
 -- after so many of lo and hi: c is the next one, and waiting tells whose children wait
-pub record EmittedOfTwo (s : List ℕ) (e : Edit) (rows out : List ℕ) (i lo hi : ℕ) (rows′ out′ : List ℕ) (c waiting done : ℕ) : Type 0 where
+pub record EmittedOfTwo (s : List ℕ) (e : Edit) (rows out : List ℕ) (lo hi : ℕ) (rows′ out′ : List ℕ) (c waiting done : ℕ) : Type 0 where
   pub few : done ≤ 2
   pub small : done ≤ 1 → waiting ≤ done
   pub first : done ≡ 0 → c ≡ lo
   pub then : 1 ≤ done → c ≡ hi
   pub emitting : Emitting s e rows out rows′ out′
-  pub lo-emitted : 1 ≤ done → lo < i → getD rows′ lo 0 ≡ emittedRow
-  pub hi-emitted : 2 ≤ done → hi < i → getD rows′ hi 0 ≡ emittedRow
-  pub lo-next : done ≡ 1 → 1 ≤ waiting → lo < i
-  pub lo-waits : 2 ≤ done → 2 ≤ waiting → lo < i
-  pub hi-alone : 2 ≤ done → waiting ≡ 1 → hi < i
-  pub hi-too : 2 ≤ done → 3 ≤ waiting → hi < i
+  pub lo-emitted : 1 ≤ done → getD rows′ lo 0 ≡ emittedRow
+  pub hi-emitted : 2 ≤ done → getD rows′ hi 0 ≡ emittedRow
+  pub lo-next : done ≡ 1 → 1 ≤ waiting → 0 < lo
+  pub lo-waits : 2 ≤ done → 2 ≤ waiting → 0 < lo
+  pub hi-alone : 2 ≤ done → waiting ≡ 1 → 0 < hi
+  pub hi-too : 2 ≤ done → 3 ≤ waiting → 0 < hi
   pub lo-owed : done ≤ 1 → OneEmitted s rows rows′ lo (1 ≤ waiting)
   pub owed : 2 ≤ done → TwoEmitted s rows rows′ lo hi waiting
 
-pub of-two-none : {s : List ℕ} {e : Edit} {rows out : List ℕ} {i lo hi : ℕ} → EmittedOfTwo s e rows out i lo hi rows out lo 0 0
+pub of-two-none : {s : List ℕ} {e : Edit} {rows out : List ℕ} {lo hi : ℕ} → EmittedOfTwo s e rows out lo hi rows out lo 0 0
 of-two-none = record {
   few = omega arith;
   small = λ h. omega arith;
@@ -252,11 +291,11 @@ of-two-none = record {
   owed = λ h. absurd (omega arith);
 }
 
-pub of-two-more : {s : List ℕ} {e : Edit} {rows out rows₁ out₁ rows₂ out₂ : List ℕ} {i lo hi c waiting done r : ℕ}
-    → EmittedOfTwo s e rows out i lo hi rows₁ out₁ c waiting done → done < 2
-    → Emitting s e rows₁ out₁ rows₂ out₂ × (c < i → getD rows₂ c 0 ≡ emittedRow) → (r ≤ 1) × (r ≡ 1 → c < i)
-    → OneEmitted s rows₁ rows₂ c (r ≡ 1) → EmittedOfTwo s e rows out i lo hi rows₂ out₂ hi (2 * waiting + r) (done + 1)
-of-two-more {s} {e} {rows} {out} {rows₁} {out₁} {rows₂} {out₂} {i} {lo} {hi} {c} {waiting} {done} {r} T b P q O =
+pub of-two-more : {s : List ℕ} {e : Edit} {rows out rows₁ out₁ rows₂ out₂ : List ℕ} {lo hi c waiting done r : ℕ}
+    → EmittedOfTwo s e rows out lo hi rows₁ out₁ c waiting done → done < 2
+    → Emitting s e rows₁ out₁ rows₂ out₂ × (getD rows₂ c 0 ≡ emittedRow) → (r ≤ 1) × (r ≡ 1 → 0 < c) × OneEmitted s rows₁ rows₂ c (r ≡ 1)
+    → EmittedOfTwo s e rows out lo hi rows₂ out₂ hi (2 * waiting + r) (done + 1)
+of-two-more {s} {e} {rows} {out} {rows₁} {out₁} {rows₂} {out₂} {lo} {hi} {c} {waiting} {done} {r} T b P q =
     let small = T .small (omega arith) in
     let at : done ≡ 1 → c ≡ hi = λ h. T .then (omega arith) in
     record {
@@ -265,40 +304,54 @@ of-two-more {s} {e} {rows} {out} {rows₁} {out₁} {rows₂} {out₂} {i} {lo} 
       first = λ h. absurd (omega arith);
       then = λ h. refl;
       emitting = emitting-then (T .emitting) (P .0);
-      lo-emitted = λ h l.
+      lo-emitted = λ h.
           either
           (equal? done 0)
-          (λ z. subst (λ (m : ℕ). getD rows₂ m 0 ≡ emittedRow) (T .first z) (P .1 (omega (arith, T .first z))))
-          (λ z. P .0 .stays lo (T .lo-emitted (omega arith) l));
-      hi-emitted = λ h l.
-          let e₁ : done ≡ 1 = omega arith in
-          subst (λ (m : ℕ). getD rows₂ m 0 ≡ emittedRow) (at e₁) (P .1 (omega (arith, at e₁)));
+          (λ z. subst (λ (m : ℕ). getD rows₂ m 0 ≡ emittedRow) (T .first z) (P .1))
+          (λ z. P .0 .stays lo (T .lo-emitted (omega arith)));
+      hi-emitted = λ h. let e₁ : done ≡ 1 = omega arith in subst (λ (m : ℕ). getD rows₂ m 0 ≡ emittedRow) (at e₁) (P .1);
       lo-next = λ h g. let z : done ≡ 0 = omega arith in omega (arith, T .first z, q .1 (omega (arith, q .0)));
       lo-waits = λ h g. T .lo-next (omega arith) (omega (arith, q .0));
       hi-alone = λ h g. let e₁ : done ≡ 1 = omega arith in omega (arith, at e₁, q .1 (omega (arith, q .0)));
       hi-too = λ h g. let e₁ : done ≡ 1 = omega arith in omega (arith, at e₁, q .1 (omega (arith, q .0)));
-      lo-owed = λ h. one-more (T .lo-owed (omega arith)) (P .0) O (T .first (omega arith));
-      owed = λ h. two-more (T .lo-owed (omega arith)) (P .0) O (T .then (omega arith));
+      lo-owed = λ h. one-more (T .lo-owed (omega arith)) (P .0) (q .2) (T .first (omega arith));
+      owed = λ h. two-more (T .lo-owed (omega arith)) (P .0) (q .2) (T .then (omega arith));
     }
 
+-- the next one is not above hi
+pub next-low : {s : List ℕ} {e : Edit} {rows out rows′ out′ : List ℕ} {lo hi c waiting done : ℕ} → EmittedOfTwo s e rows out lo hi rows′ out′ c waiting done
+    → lo ≤ hi → c ≤ hi
+next-low {done = done} T h = either (equal? done 0) (λ z. omega (arith, T .first z)) (λ z. omega (arith, T .then (omega arith)))
+
 -- after both
-pub both-of-two : {s : List ℕ} {e : Edit} {rows out rows′ out′ : List ℕ} {i lo hi c waiting done : ℕ} → EmittedOfTwo s e rows out i lo hi rows′ out′ c waiting done
-    → 2 ≤ done → (Emitting s e rows out rows′ out′ × (lo < i → getD rows′ lo 0 ≡ emittedRow) × (hi < i → getD rows′ hi 0 ≡ emittedRow))
-    × (((2 ≤ waiting → lo < i) × (waiting ≡ 1 → hi < i) × (3 ≤ waiting → hi < i)) × TwoEmitted s rows rows′ lo hi waiting)
+pub both-of-two : {s : List ℕ} {e : Edit} {rows out rows′ out′ : List ℕ} {lo hi c waiting done : ℕ} → EmittedOfTwo s e rows out lo hi rows′ out′ c waiting done
+    → 2 ≤ done → (Emitting s e rows out rows′ out′ × (getD rows′ lo 0 ≡ emittedRow) × (getD rows′ hi 0 ≡ emittedRow))
+    × (((2 ≤ waiting → 0 < lo) × (waiting ≡ 1 → 0 < hi) × (3 ≤ waiting → 0 < hi)) × TwoEmitted s rows rows′ lo hi waiting)
 both-of-two T h = ((T .emitting, T .lo-emitted (omega arith), T .hi-emitted h), ((T .lo-waits h, T .hi-alone h, T .hi-too h), T .owed h))
 
 -- both children are emitted, whichever is the lower, and then more nodes
-pub children : {s : List ℕ} {e : Edit} {rows out rows₁ out₁ rows₂ out₂ : List ℕ} {i l r lo hi : ℕ} → lo ≡ lowerOf l r → hi ≡ higherOf l r
-    → Emitting s e rows out rows₁ out₁ × (lo < i → getD rows₁ lo 0 ≡ emittedRow) × (hi < i → getD rows₁ hi 0 ≡ emittedRow)
-    → Emitting s e rows₁ out₁ rows₂ out₂
-    → Emitting s e rows out rows₂ out₂ × (l < i → getD rows₂ l 0 ≡ emittedRow) × (r < i → getD rows₂ r 0 ≡ emittedRow)
-children {s} {e} {rows} {out} {rows₁} {out₁} {rows₂} {out₂} {i} {l} {r} {lo} {hi} el eh P Q =
-    let at : (c x : ℕ) → c ≡ x → (c < i → getD rows₁ c 0 ≡ emittedRow) → x < i → getD rows₂ x 0 ≡ emittedRow =
-    λ c x q p h. Q .stays x (subst (λ (m : ℕ). m < i → getD rows₁ m 0 ≡ emittedRow) q p h) in
+pub children : {s : List ℕ} {e : Edit} {rows out rows₁ out₁ rows₂ out₂ : List ℕ} (l r : ℕ) {lo hi : ℕ} → lo ≡ lowerOf l r → hi ≡ higherOf l r
+    → Emitting s e rows out rows₁ out₁ × (getD rows₁ lo 0 ≡ emittedRow) × (getD rows₁ hi 0 ≡ emittedRow) → Emitting s e rows₁ out₁ rows₂ out₂
+    → Emitting s e rows out rows₂ out₂ × (getD rows₂ l 0 ≡ emittedRow) × (getD rows₂ r 0 ≡ emittedRow)
+children {s} {e} {rows} {out} {rows₁} {out₁} {rows₂} {out₂} l r {lo} {hi} el eh P Q =
+    let at : (c x : ℕ) → c ≡ x → getD rows₁ c 0 ≡ emittedRow → getD rows₂ x 0 ≡ emittedRow =
+    λ c x q p. Q .stays x (subst (λ (m : ℕ). getD rows₁ m 0 ≡ emittedRow) q p) in
     either
     (look (ltb l r))
     (λ q. (emitting-then (P .0) Q, at lo l (el ∙ rw q refl) (P .1), at hi r (eh ∙ rw q refl) (P .2)))
     (λ q. (emitting-then (P .0) Q, at hi l (eh ∙ rw q refl) (P .2), at lo r (el ∙ rw q refl) (P .1)))
+
+-- the lower one of two numbers is not above the higher one
+pub lower-first : (l r : ℕ) → lowerOf l r ≤ higherOf l r
+lower-first l r =
+    either (look (ltb l r)) (λ q. rw q (omega (arith, ltb-true l r q))) (λ q. rw q (omega (arith, ltb-false l r q)))
+
+pub higher-same : (i : ℕ) → higherOf i i ≡ i
+higher-same i = either (look (ltb i i)) (λ q. rw q refl) (λ q. rw q refl)
+
+-- and the higher one is below i where both are
+pub higher-below : (l r : ℕ) {i : ℕ} → l < i → r < i → higherOf l r < i
+higher-below l r a b = either (look (ltb l r)) (λ q. rw q b) (λ q. rw q a)
 
 -- ---- all blocks
 
@@ -314,18 +367,18 @@ emitted-more {s} {e} {rows} {out} {rows′} {out′} {top} {n} P h here D j a b 
     (λ q. rw q here)
     (λ q. P .stays j (D j (omega arith) b))
 
-all-stand : (s : List ℕ) (e : Edit) (out : List ℕ) (n : ℕ) → ((j : ℕ) → j < n → Stands s e out j) → (p : ℕ) → p < 6 * startOf e s n → p < tableBytes
+all-stand : (s : List ℕ) (e : Edit) (out : List ℕ) (n : ℕ) → ((j : ℕ) → j < n → Stands s e out j) → (p : ℕ) → p < 6 * startOf e s n
     → getD out p 0 ≡ getD (bytesOf (stateAt e s n .out)) p 0
 unfolding Stands
-all-stand s e out zero S p h b = absurd (omega (arith, start-none e s))
-all-stand s e out (suc n) S p h b =
+all-stand s e out zero S p h = absurd (omega (arith, start-none e s))
+all-stand s e out (suc n) S p h =
     either
     (look (below p (6 * startOf e s n)))
     (λ q. let lt : p < 6 * startOf e s n = below-out p _ q in
-    all-stand s e out n (λ j g. S j (omega arith)) p lt b
+    all-stand s e out n (λ j g. S j (omega arith)) p lt
     ∙ sym (ap (λ (l : List ℕ). getD l p 0) (bytes-more e s n)
     ∙ List·getD-append (bytesOf (stateAt e s n .out)) _ 0 p (omega (arith, bytes-start e s n))))
-    (λ q. S n (omega arith) p (not-below p _ q) h b)
+    (λ q. S n (omega arith) p (not-below p _ q) h)
 
 state-written : (s : List ℕ) (e : Edit) (out : List ℕ) (n : ℕ) → length out ≡ tableBytes → ((j : ℕ) → j < n → Stands s e out j) → TableWritten out (stateAt e s n .out)
 unfolding TableWritten startOf
@@ -333,7 +386,7 @@ state-written s e out n l S h =
     let xs = stateAt e s n .out in
     let k : length (take (6 * length xs) out) ≡ 6 * length xs = length-take-le (6 * length xs) out (omega arith) in
     ext-getD 0 (take (6 * length xs) out) (bytesOf xs) (k ∙ sym (length-bytes xs))
-    (λ p q. let g : p < 6 * length xs = omega arith in getD-take (6 * length xs) out p 0 g ∙ all-stand s e out n S p g (omega arith))
+    (λ p q. let g : p < 6 * length xs = omega arith in getD-take (6 * length xs) out p 0 g ∙ all-stand s e out n S p g)
 
 pub all-written : {s : List ℕ} {e : Edit} {rows out rows′ out′ : List ℕ} {n : ℕ} → Emitting s e rows out rows′ out′ → NoneEmitted rows n
     → EmittedFrom rows′ 0 n → length out ≡ tableBytes → TableWritten out′ (rewriteTable e (nodes s n))
@@ -341,7 +394,11 @@ all-written {s} {e} {rows} {out} {rows′} {out′} {n} P N D l =
     subst (λ (xs : List Node). TableWritten out′ xs) (state-out e s n)
     (state-written s e out′ n (P .room ∙ l) (λ j g. P .stand j (N j g) (D j (omega arith) g)))
 
-pub counted : {s : List ℕ} {e : Edit} {images : List ℕ} {n r : ℕ} → Numbered s e images n → r ≡ startOf e s n
-    → (r ≡ length (rewriteTable e (nodes s n))) × (r ≤ 22528)
+-- how many nodes there are; and nothing is said of a table that does not fit
+pub counted : {s : List ℕ} {e : Edit} {images rows : List ℕ} {n r : ℕ} → Numbering s e images rows n r → r ≡ length (rewriteTable e (nodes s n))
 unfolding startOf
-counted {s} {e} {images} {n} {r} N h = (h ∙ ap length (state-out e s n), omega (arith, N .few))
+counted {s} {e} {n = n} N = N .here ∙ ap length (state-out e s n)
+
+pub none-written : (out : List ℕ) (xs : List Node) {r : ℕ} → r ≡ length xs → tableNodes < r → length out ≡ tableBytes → TableWritten out xs
+unfolding TableWritten
+none-written out xs q h l f = absurd (omega arith)

@@ -5,11 +5,9 @@ use Prim.Native.Nat.{ℕ, zero, suc, _+_, _*_, _-_, _≤_, _<_}
 use native.Mathlib.Omega.{arith}
 use native.Mathlib.Nat.{not-suc-le-zero}
 use native.Mathlib.Numerals.{add-one}
-use borrow.Author.Tests.{ltb-true, ltb-false}
-use lib.ListN.{length, getD, set, length-append, length-set, List·getD-eq-default}
+use lib.ListN.{length, getD, set, length-append, length-set}
 use lib.Seq.{getD-at, getD-set-same, getD-set-other}
-use lib.Dec.{ltb}
-use Rattle.finite.specs.Laws.Bools.{either, look}
+use Rattle.finite.specs.Laws.Bools.{either}
 use Rattle.finite.specs.Laws.Below.{equal?}
 use Rattle.semantics.specs.Edit.{Edit}
 use Rattle.semantics.specs.Table.{kindOf}
@@ -17,10 +15,12 @@ use Rattle.semantics.specs.Block.{Block, old, end, on, join, size, root, block}
 use Rattle.semantics.specs.Laws.Emit.{emit-length}
 use Rattle.condition.specs.Bytes.{nodeAt}
 use Rattle.limits.specs.Limits.{tableNodes}
-use Rattle.spelling.specs.Spelling.{firstOf, secondOf, Spells, Sized}
-use Rattle.emitting.specs.State.{blockIn, step, stateAt, imageOf, startOf, startIn, Numbered, imageIn, spellingOf, Rowed, NoneEmitted}
+use Rattle.spelling.specs.declared.Spelling.{Spelling}
+use Rattle.spelling.specs.Spelling.{Spells, Sized}
+use Rattle.emitting.specs.State.{blockIn, step, stateAt, imageOf, startOf, startIn, Numbered, Numbering, spellingOf, Rowed, NoneEmitted}
 use Rattle.emitting.specs.Laws.State.{images-length, image-at}
 use Rattle.emitting.specs.Laws.Sizes.{block-some}
+use Rattle.emitting.specs.Laws.Copied.{by-row}
 
 -- ---- starts and images
 
@@ -58,7 +58,7 @@ image-last e s i =
 
 -- ---- the loop
 
-pub numbered-none : (s : List ℕ) (e : Edit) (images : List ℕ) → length images ≡ tableNodes → Numbered s e images 0
+numbered-none : (s : List ℕ) (e : Edit) (images : List ℕ) → length images ≡ tableNodes → Numbered s e images 0
 unfolding startOf stateAt
 numbered-none s e images h = record {
   size = h;
@@ -76,14 +76,14 @@ start-none e s = refl
 module _ {s : List ℕ} {e : Edit} {images : List ℕ} {n : ℕ} (N : Numbered s e images n) (k p next r : ℕ)
     (ek : k ≡ nodeAt s n .kind) (ep : p ≡ nodeAt s n .param) (en : next ≡ startOf e s n)
     (er : (t u : ℕ) → r ≡ size (block e (kindOf k) p (old t) (old u))) where
-  pub next-start : next + r ≡ startOf e s (n + 1)
+  next-start : next + r ≡ startOf e s (n + 1)
   unfolding blockIn
   next-start =
       let g : r ≡ size (blockAt e s n) =
       er _ _ ∙ ap₂ (λ (x y : ℕ). size (block e (kindOf x) y (old (getD (stateAt e s n .images) (nodeAt s n .left) 0)) (old (getD (stateAt e s n .images) (nodeAt s n .right) 0)))) ek ep in
       rw add-one (omega (arith, start-more e s n))
 
-  pub numbered-more : n < tableNodes → 6 * n + 6 ≤ length s → r ≤ 11 → next ≤ 11 * n → (v : ℕ) → v ≡ next + r - 1 → Numbered s e (set images n v) (n + 1)
+  numbered-more : n < tableNodes → 6 * n + 6 ≤ length s → r ≤ 11 → next ≤ 11 * n → (v : ℕ) → v ≡ next + r - 1 → Numbered s e (set images n v) (n + 1)
   numbered-more h f l m v ev =
       let here : v ≡ imageOf e s n = omega (arith, image-last e s n, next-start, ap (startOf e s) (add-one n)) in
       record {
@@ -97,10 +97,6 @@ module _ {s : List ℕ} {e : Edit} {images : List ℕ} {n : ℕ} (N : Numbered s
             (λ g. getD-set-other images n j v 0 g ∙ N .imaged j (omega arith));
         few = omega (arith, next-start);
       }
-
-pub ended : {s : List ℕ} {e : Edit} {images : List ℕ} {i n next : ℕ} → i ≡ n → Numbered s e images i → next ≡ startOf e s i
-    → Numbered s e images n × (next ≡ startOf e s n)
-ended {s} {e} {images} {i} {n} {next} q N h = subst (λ (m : ℕ). Numbered s e images m × (next ≡ startOf e s m)) q (N, h)
 
 -- ---- starts by images
 
@@ -120,19 +116,11 @@ start-first images {c} h = let z : c ≡ 0 = omega arith in rw z refl
 
 -- ---- rows
 
--- its size is the block's
-pub sized : {e : Edit} {k p row a b r : ℕ} → Spells e k p (spellingOf e p row) → a ≡ firstOf e → b ≡ secondOf e
-    → Sized (record { row = row; w = p; a = a; b = b }) r → (t u : ℕ) → r ≡ size (block e (kindOf k) p (old t) (old u))
-sized {e} {k} {p} {row} {a} {b} {r} S ea eb Z t u =
-    let z : Sized (spellingOf e p row) r = subst (λ (m : ℕ). Sized (record { row = row; w = p; a = m; b = secondOf e }) r) ea
-    (subst (λ (m : ℕ). Sized (record { row = row; w = p; a = a; b = m }) r) eb Z) in
-    z .right t u ∙ ap size (S .right t u)
-
-pub rowed-none : (s : List ℕ) (e : Edit) (rows : List ℕ) → length rows ≡ tableNodes → Rowed s e rows 0 × NoneEmitted rows 0
+rowed-none : (s : List ℕ) (e : Edit) (rows : List ℕ) → length rows ≡ tableNodes → Rowed s e rows 0 × NoneEmitted rows 0
 rowed-none s e rows h = (record { size = h; spells = λ j q. absurd (not-suc-le-zero q) }, λ j q. absurd (not-suc-le-zero q))
 
 -- one row more
-pub rowed-more : {s : List ℕ} {e : Edit} {rows : List ℕ} {n k p row : ℕ} → Rowed s e rows n × NoneEmitted rows n → n < tableNodes
+rowed-more : {s : List ℕ} {e : Edit} {rows : List ℕ} {n k p row : ℕ} → Rowed s e rows n × NoneEmitted rows n → n < tableNodes
     → k ≡ nodeAt s n .kind → p ≡ nodeAt s n .param → Spells e k p (spellingOf e p row)
     → Rowed s e (set rows n row) (n + 1) × NoneEmitted (set rows n row) (n + 1)
 rowed-more {s} {e} {rows} {n} {k} {p} {row} R b ek ep S =
@@ -153,9 +141,6 @@ rowed-more {s} {e} {rows} {n} {k} {p} {row} R b ek ep S =
           (λ g. R .1 j (omega arith) (sym (getD-set-other rows n j row 0 g) ∙ z)),
     )
 
-pub rowed-ended : {s : List ℕ} {e : Edit} {rows : List ℕ} {i n : ℕ} → i ≡ n → Rowed s e rows i × NoneEmitted rows i → Rowed s e rows n × NoneEmitted rows n
-rowed-ended {s} {e} {rows} q R = subst (λ (m : ℕ). Rowed s e rows m × NoneEmitted rows m) q R
-
 pub rowed-low : {s : List ℕ} {e : Edit} {rows : List ℕ} {n : ℕ} → Rowed s e rows n → (i : ℕ) → i ≤ n → Rowed s e rows i
 rowed-low R i h = record { size = R .size; spells = λ j q. R .spells j (omega arith) }
 
@@ -170,19 +155,38 @@ numbered-low {s} {e} {images} {n} N i h = record {
   few = omega (arith, N .few, starts-up e s i n h);
 }
 
-pub image-is : {s : List ℕ} {e : Edit} {images : List ℕ} {i : ℕ} → Numbered s e images i → (c : ℕ) → imageIn images i c ≡ getD (stateAt e s i .images) c 0
-unfolding imageIn
-image-is {s} {e} {images} {i} N c =
-    either
-    (look (ltb c i))
-    (λ q. rw q (let h : c < i = ltb-true c i q in N .imaged c h ∙ sym (image-at e s i c h)))
-    (λ q. rw q (sym (List·getD-eq-default (stateAt e s i .images) 0 (omega (arith, images-length e s i, ltb-false c i q)))))
+pub image-is : {s : List ℕ} {e : Edit} {images : List ℕ} {i : ℕ} → Numbered s e images i → (c : ℕ) → c < i → getD images c 0 ≡ getD (stateAt e s i .images) c 0
+image-is {s} {e} {images} {i} N c h = N .imaged c h ∙ sym (image-at e s i c h)
 
 -- and it is small
-pub image-small : {s : List ℕ} {e : Edit} {images : List ℕ} {i r : ℕ} → Numbered s e images i → (c : ℕ) → r ≡ imageIn images i c → r < 60000
-unfolding imageIn
-image-small {s} {e} {images} {i} N c h =
-    either
-    (look (ltb c i))
-    (λ q. (let l : c < i = ltb-true c i q in let g : suc c ≤ i = l in omega (arith, h, rw q at h, N .imaged c l, image-last e s c, starts-up e s (suc c) i g, N .few)))
-    (λ q. omega (arith, rw q at h))
+pub image-small : {s : List ℕ} {e : Edit} {images : List ℕ} {i r : ℕ} → Numbered s e images i → (c : ℕ) → c < i → r ≡ getD images c 0 → r < startOf e s i
+image-small {s} {e} {images} {i} N c h q = let g : suc c ≤ i = h in omega (arith, N .imaged c h, image-last e s c, starts-up e s (suc c) i g)
+
+-- ---- the first pass
+
+pub numbering-none : {s : List ℕ} {e : Edit} {images rows : List ℕ} → length images ≡ tableNodes → length rows ≡ tableNodes → Numbering s e images rows 0 0
+numbering-none {s} {e} {images} {rows} h g = record {
+  numbered = numbered-none s e images h;
+  rowed = rowed-none s e rows g .0;
+  none = rowed-none s e rows g .1;
+  here = start-none e s;
+  small = omega arith;
+}
+
+-- one node more: the spelling x of its block, which has r nodes, and its image v
+pub numbering-more : {s : List ℕ} {e : Edit} {images rows : List ℕ} {n next k p r v : ℕ} {x : Spelling} → Numbering s e images rows n next → n < tableNodes
+    → 6 * n + 6 ≤ length s → k ≡ nodeAt s n .kind → p ≡ nodeAt s n .param → Spells e k p x → Sized x r → v ≡ next + r - 1
+    → Numbering s e (set images n v) (set rows n (x .row)) (n + 1) (next + r)
+numbering-more {s} {e} {images} {rows} {n} {next} {k} {p} {r} {v} N h f ek ep S Z ev =
+    let er : (t u : ℕ) → r ≡ size (block e (kindOf k) p (old t) (old u)) = λ t u. Z .right t u ∙ ap size (S .right t u) in
+    let R = rowed-more (N .rowed, N .none) h ek ep (by-row S) in
+    record {
+      numbered = numbered-more (N .numbered) k p next r ek ep (N .here) er h f (Z .few) (N .small) v ev;
+      rowed = R .0;
+      none = R .1;
+      here = next-start (N .numbered) k p next r ek ep (N .here) er;
+      small = omega (arith, Z .few, N .small);
+    }
+
+pub numbering-ended : {s : List ℕ} {e : Edit} {images rows : List ℕ} {i n next : ℕ} → i ≡ n → Numbering s e images rows i next → Numbering s e images rows n next
+numbering-ended {s} {e} {images} {rows} {i} {n} {next} q N = subst (λ (m : ℕ). Numbering s e images rows m next) q N

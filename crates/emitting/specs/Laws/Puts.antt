@@ -7,10 +7,10 @@ use lib.ListN.{length, getD, set, length-set, List·getD-append}
 use lib.Seq.{sets, getD-set-same, getD-set-other, getD-append-add}
 use Rattle.finite.specs.Tests.{below}
 use Rattle.finite.specs.Laws.Bools.{either, look}
-use Rattle.finite.specs.Laws.Below.{below-not, below-out, not-below, equal?}
+use Rattle.finite.specs.Laws.Below.{below-out, not-below, equal?}
 use Rattle.semantics.specs.Table.{Node}
 use Rattle.condition.specs.Bytes.{nodeBytes, bytesOf}
-use Rattle.limits.specs.Limits.{nodeSize, tableBytes}
+use Rattle.limits.specs.Limits.{nodeSize}
 use Rattle.blocks.specs.Write.{put, puts}
 use Rattle.blocks.specs.Laws.Write.{length-put}
 
@@ -34,20 +34,15 @@ sets-in (a ∷ vs) l i p h k b =
 
 put-low : (o : List ℕ) (i : ℕ) (x : Node) (p : ℕ) → p < 6 * i → getD (put o i x) p 0 ≡ getD o p 0
 unfolding put
-put-low o i x p h =
-    either (look (below (length o) (nodeSize * i + nodeSize))) (λ e. rw (e, put) refl) (λ e. rw (e, put) (sets-low (nodeBytes x) o (nodeSize * i) p h))
+put-low o i x p h = sets-low (nodeBytes x) o (nodeSize * i) p h
 
 put-high : (o : List ℕ) (i : ℕ) (x : Node) (p : ℕ) → 6 * i + 6 ≤ p → getD (put o i x) p 0 ≡ getD o p 0
 unfolding put nodeBytes
-put-high o i x p h =
-    either (look (below (length o) (nodeSize * i + nodeSize))) (λ e. rw (e, put) refl) (λ e. rw (e, put) (sets-high (nodeBytes x) o (nodeSize * i) p h))
+put-high o i x p h = sets-high (nodeBytes x) o (nodeSize * i) p h
 
-put-in : (o : List ℕ) (i : ℕ) (x : Node) (p : ℕ) → length o ≡ tableBytes → 6 * i ≤ p → p < 6 * i + 6 → p < tableBytes
-    → getD (put o i x) p 0 ≡ getD (nodeBytes x) (p - 6 * i) 0
+put-in : (o : List ℕ) (i : ℕ) (x : Node) (p : ℕ) → 6 * i ≤ p → p < 6 * i + 6 → p < length o → getD (put o i x) p 0 ≡ getD (nodeBytes x) (p - 6 * i) 0
 unfolding put nodeBytes
-put-in o i x p l h k b =
-    let fits : nodeSize * i + nodeSize ≤ length o = omega arith in
-    rw (below-not (length o) (nodeSize * i + nodeSize) fits) (sets-in (nodeBytes x) o (nodeSize * i) p h k (omega arith))
+put-in o i x p h k b = sets-in (nodeBytes x) o (nodeSize * i) p h k b
 
 pub puts-low : (o : List ℕ) (at j : ℕ) (xs : List Node) (p : ℕ) → p < 6 * (at + j) → getD (puts o at j xs) p 0 ≡ getD o p 0
 unfolding puts
@@ -60,18 +55,18 @@ puts-high o at j [] p h = refl
 puts-high o at j (x ∷ xs) p h =
     puts-high (put o (at + j) x) at (suc j) xs p (omega arith) ∙ put-high o (at + j) x p (omega arith)
 
-pub puts-in : (o : List ℕ) (at j : ℕ) (xs : List Node) (p : ℕ) → length o ≡ tableBytes → 6 * (at + j) ≤ p → p < 6 * (at + j + length xs)
-    → p < tableBytes → getD (puts o at j xs) p 0 ≡ getD (bytesOf xs) (p - 6 * (at + j)) 0
+pub puts-in : (o : List ℕ) (at j : ℕ) (xs : List Node) (p : ℕ) → 6 * (at + j) ≤ p → p < 6 * (at + j + length xs) → p < length o
+    → getD (puts o at j xs) p 0 ≡ getD (bytesOf xs) (p - 6 * (at + j)) 0
 unfolding puts bytesOf nodeBytes
-puts-in o at j [] p l h k b = absurd (omega arith)
-puts-in o at j (x ∷ xs) p l h k b =
+puts-in o at j [] p h k b = absurd (omega arith)
+puts-in o at j (x ∷ xs) p h k b =
     either
     (look (below p (6 * (at + j) + 6)))
     (λ e. let q : p < 6 * (at + j) + 6 = below-out p _ e in puts-low (put o (at + j) x) at (suc j) xs p (omega arith)
-    ∙ put-in o (at + j) x p l h q b
+    ∙ put-in o (at + j) x p h q b
     ∙ sym (List·getD-append (nodeBytes x) (bytesOf xs) 0 (p - 6 * (at + j)) (omega arith)))
     (λ e. let q : 6 * (at + j) + 6 ≤ p = not-below p _ e in let z : p - 6 * (at + j) ≡ 6 + (p - 6 * (at + suc j)) = omega arith in
-    puts-in (put o (at + j) x) at (suc j) xs p (length-put o (at + j) x ∙ l) (omega arith) (omega arith) b
+    puts-in (put o (at + j) x) at (suc j) xs p (omega arith) (omega arith) (omega (arith, length-put o (at + j) x))
     ∙ sym (getD-append-add (nodeBytes x) (bytesOf xs) (p - 6 * (at + suc j)) 0)
     ∙ ap (λ (m : ℕ). getD (nodeBytes x ++ bytesOf xs) m 0) (sym z))
 

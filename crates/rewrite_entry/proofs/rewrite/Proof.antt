@@ -1,5 +1,5 @@
 -- `rewrite_entry::rewrite` meets its contract: it is judged, then it rewrites or refuses.
-use Rattle.rewrite_entry.specs.Laws.Rewriting.{accepted-size, accepted-table, accepted-legal, answered-rewritten, answered-refused}
+use Rattle.rewrite_entry.specs.Laws.Rewriting.{accepted-size, accepted-table, accepted-fits, accepted-legal, answered-rewritten, answered-refused}
 use mathlib.Core.Path.{sym, _∙_}
 use borrow.Author.Needs.{needs}
 use Rattle.rewrite_entry.proofs.rewrite.Statement.{statement}
@@ -12,7 +12,7 @@ enum-told : tie.Need-enum-told
 enum-told c = search needs
 
 rewrite-sheet-requires : tie.Need-rewrite-sheet-requires
-rewrite-sheet-requires c κs = let e = sym (c .before .before .before .judge .ensures) ∙ c .before .enum-told .given .1 in ((accepted-table _ _ _ e, accepted-size _ _ _ e), accepted-legal _ _ _ e)
+rewrite-sheet-requires c κs = let e = sym (c .before .before .before .judge .ensures) ∙ c .before .enum-told .given .1 in ((accepted-table _ _ _ e, accepted-size _ _ _ e), (accepted-fits _ _ _ e, accepted-legal _ _ _ e))
 
 enum-known-v : tie.Need-enum-known-v
 enum-known-v c = search needs

@@ -10,6 +10,7 @@ use Rattle.verdict.specs.Laws.{then-assoc}
 use Rattle.verdict.specs.declared.Verdict.{Verdict}
 use Rattle.verdict.specs.declared.Verdict.the-variants.{Accepted, Refused}
 use Rattle.semantics.specs.Edit.{sheetLegal}
+use Rattle.semantics.specs.Table.{nodesFit}
 use Rattle.condition.specs.Bytes.{tableOf}
 use Rattle.condition.specs.Refusal.{conditionVerdict}
 use Rattle.condition.specs.Laws.Verdict.{accepted-sound}
@@ -59,6 +60,9 @@ module _ (len : ℕ) (table sheet : List ℕ) where
 
     pub accepted-table : length table ≤ tableBytes
     accepted-table = accepted-sound table (parts .1) .few
+
+    pub accepted-fits : nodesFit 0 (tableOf table) ≡ true
+    accepted-fits = accepted-sound table (parts .1) .fits
 
     pub accepted-legal : sheetLegal (editsOf sheet) ≡ true
     accepted-legal = accepted-sheet sheet (parts .2) .are-legal

@@ -5,7 +5,7 @@ use native.Mathlib.Omega.{arith}
 use lib.ListN.{length}
 use Rattle.condition.specs.Bytes.{nodes}
 use Rattle.limits.specs.Limits.{tableNodes, tableBytes}
-use Rattle.rewriting.specs.Laws.Passes.{Passing, passing-start, passing-more, passing-long, passing-done, legal-at}
+use Rattle.rewriting.specs.Laws.Passes.{Passing, passing-start, passing-more, passing-long, passing-done, passing-fits, legal-at}
 use Rattle.rewriting.proofs.passes.Statement.{statement}
 use Rattle.rewriting.proofs.passes.Tie as tie
 
@@ -32,7 +32,7 @@ edit-at-requires c κs = omega arith
 rewrite-requires : tie.Need-rewrite-requires Inv-loop μ-loop
 rewrite-requires c κs =
     let e = c .before .before .before .before in let l = e .before .before in let i = l .loop .inv in
-    ((i .0, i .6 .few, i .2, i .3, i .1), legal-at _ _ (e .edit-at .ensures) (omega arith) (l .before .before .pre .1 .1))
+    ((i .0, i .6 .few, i .2, i .3, i .1), (legal-at _ _ (e .edit-at .ensures) (omega arith) (l .before .before .pre .1 .1), passing-fits (i .6)))
 
 returns : tie.Need-returns Inv-loop μ-loop
 returns c =
@@ -53,8 +53,8 @@ loop-less c = omega arith
 loop-again : tie.Need-loop-again Inv-loop μ-loop
 loop-again c =
     let r = c .before .before .before .before .before in let e = r .before .before .before .before .before in let i = e .before .before .loop .inv in
-    let q = r .rewrite .ensures in
-    (omega (arith, c .copy .kept, i .0), q .1 .2, q .1 .0, q .1 .1, i .4, omega arith, passing-more (i .6) (omega arith) (e .edit-at .ensures) _ (q .0 .0) (q .0 .1) (omega arith) (q .1 .2) (c .copy .ensures))
+    let q = r .rewrite .ensures in let g = legal-at _ _ (e .edit-at .ensures) (omega arith) (e .before .before .before .before .pre .1 .1) in
+    (omega (arith, c .copy .kept, i .0), q .1 .2, q .1 .0, q .1 .1, i .4, omega arith, passing-more (i .6) (omega arith) (e .edit-at .ensures) _ (q .0 .0) (q .0 .1) (omega arith) (q .1 .2) (c .copy .ensures) g)
 
 returns-2 : tie.Need-returns-2 Inv-loop μ-loop
 returns-2 c = let i = c .before .loop .inv in (passing-done (omega arith) (i .6), i .0)

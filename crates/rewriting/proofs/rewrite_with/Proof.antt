@@ -1,6 +1,6 @@
 -- The table is copied and rewritten.
 use native.Mathlib.Omega.{arith}
-use Rattle.rewriting.specs.Laws.Buffers.{bytes-copied}
+use Rattle.rewriting.specs.Laws.Buffers.{bytes-copied, copied}
 use Rattle.rewriting.specs.Laws.Passes.{rewrote, passed-copied}
 use Rattle.rewriting.proofs.rewrite_with.Statement.{statement}
 use Rattle.rewriting.proofs.rewrite_with.Tie as tie
@@ -12,7 +12,7 @@ passes-requires : tie.Need-passes-requires
 passes-requires c κs =
     let k = c .before .before .before .before in let b = k .before .before .before .before in let s = b .before in
     let w = s .pre .1 .0 in
-    ((omega (arith, s .pre .0 .0), omega (arith, k .copy .kept, w .1), w .2, w .3, w .4), (bytes-copied (s .args .table .now) (s .args .work .now) _ (k .copy .ensures) (λ i. omega (arith, b .shared-slice-known .given i)) (w .0), s .pre .1 .1))
+    ((omega (arith, s .pre .0 .0), omega (arith, k .copy .kept, w .1), w .2, w .3, w .4), ((bytes-copied (s .args .table .now) (s .args .work .now) _ (k .copy .ensures) (λ i. omega (arith, b .shared-slice-known .given i)) (w .0), rw (copied (s .args .table .now) (s .args .work .now) _ (k .copy .ensures)) (s .pre .1 .1 .0)), s .pre .1 .1 .1))
 
 finish-requires : tie.Need-finish-requires
 finish-requires c κs =

@@ -13,8 +13,9 @@ use Rattle.finite.specs.Laws.Below.{below-in, below-out, below-not, not-below}
 use Rattle.verdict.specs.declared.Verdict.{Verdict}
 use Rattle.verdict.specs.declared.Verdict.the-variants.{Accepted, Refused}
 use Rattle.semantics.specs.Edit.{Edit, DS, legal, sheetLegal}
-use Rattle.semantics.specs.Table.{Node}
+use Rattle.semantics.specs.Table.{Node, nodesFit}
 use Rattle.semantics.specs.Block.{rewriteTable, rewriteSheet}
+use Rattle.semantics.specs.Laws.Rewrite.{table-fits}
 use Rattle.condition.specs.Bytes.{nodes, tableOf, bytesOf}
 use Rattle.condition.specs.Laws.Bytes.{length-nodes}
 use Rattle.sheet.specs.Bytes.{editAt, editsOf}
@@ -52,9 +53,10 @@ pub record Passing (sheet : List ℕ) (xs : List Node) (o : List ℕ) (count k :
   pub short : tooLong (drop k (editsOf sheet)) xs ≡ false
   pub counts : count ≡ length (rewriteSheet (drop k (editsOf sheet)) xs)
   pub bytes : take (6 * length (rewriteSheet (drop k (editsOf sheet)) xs)) o ≡ bytesOf (rewriteSheet (drop k (editsOf sheet)) xs)
+  pub fits : nodesFit 0 (rewriteSheet (drop k (editsOf sheet)) xs) ≡ true
 
-pub passing-start : (sheet s : List ℕ) (n k : ℕ) → ((i : ℕ) → getD s i 0 < 256) → 6 * n ≤ length s → n ≤ tableNodes → k ≡ length sheet / 4
-    → Passing sheet (nodes s n) s n k
+pub passing-start : (sheet s : List ℕ) (n k : ℕ) → ((i : ℕ) → getD s i 0 < 256) × (nodesFit 0 (nodes s n) ≡ true) → 6 * n ≤ length s → n ≤ tableNodes
+    → k ≡ length sheet / 4 → Passing sheet (nodes s n) s n k
 unfolding rewriteSheet tooLong
 passing-start sheet s n k h g m d =
     let all : length (editsOf sheet) ≤ k = omega (arith, edits-length sheet) in
@@ -64,8 +66,14 @@ passing-start sheet s n k h g m d =
       few = m;
       short = rw e refl;
       counts = rw e (sym (length-nodes s n));
-      bytes = rw (e, length-nodes s n) (take-table s n h g);
+      bytes = rw (e, length-nodes s n) (take-table s n (h .0) g);
+      fits = rw e (h .1);
     }
+
+-- the nodes that the table has by then fit
+pub passing-fits : {sheet : List ℕ} {xs : List Node} {o : List ℕ} {count k : ℕ} → Passing sheet xs o count k → nodesFit 0 (nodes o count) ≡ true
+passing-fits {sheet} {xs} {o} {count} {k} P =
+    rw (P .counts, read-table o (rewriteSheet (drop k (editsOf sheet)) xs) (P .bytes)) (P .fits)
 
 -- one edit more
 module _ {sheet : List ℕ} {xs : List Node} {o : List ℕ} {count j k : ℕ} {e : Edit}
@@ -85,9 +93,9 @@ module _ {sheet : List ℕ} {xs : List Node} {o : List ℕ} {count j k : ℕ} {e
 
   pub passing-more : (spare : List ℕ) {made : ℕ} {o′ : List ℕ} → made ≡ length (rewriteTable e (nodes o count))
       → TableWritten spare (rewriteTable e (nodes o count)) → made ≤ tableNodes → length spare ≡ tableBytes
-      → o′ ≡ take (6 * made) spare ++ drop (6 * made) o → Passing sheet xs o′ made k
+      → o′ ≡ take (6 * made) spare ++ drop (6 * made) o → legal e ≡ true → Passing sheet xs o′ made k
   unfolding TableWritten
-  passing-more spare {made} {o′} em w f l eo =
+  passing-more spare {made} {o′} em w f l eo lg =
       let n : made ≡ length (rewriteSheet (drop k (editsOf sheet)) xs) = em ∙ ap length next-table in
       let b : take (6 * made) spare ≡ bytesOf (rewriteSheet (drop k (editsOf sheet)) xs) =
       ap (λ (m : ℕ). take (6 * m) spare) em ∙ w (omega arith) ∙ ap bytesOf next-table in
@@ -97,6 +105,7 @@ module _ {sheet : List ℕ} {xs : List Node} {o : List ℕ} {count j k : ℕ} {e
         short = next-long ∙ below-not tableNodes _ (let le : length (rewriteSheet (drop k (editsOf sheet)) xs) ≤ tableNodes = omega arith in le);
         counts = n;
         bytes = rw (← n, eo) (take-at (take (6 * made) spare) (drop (6 * made) o) (6 * made) (length-take-le (6 * made) spare (omega arith)) ∙ b);
+        fits = rw (← next-table) (table-fits e lg (nodes o count) (passing-fits P));
       }
 
   pub passing-long : {made : ℕ} (o′ : List ℕ) → made ≡ length (rewriteTable e (nodes o count)) → tableNodes < made
