@@ -2,14 +2,41 @@
 //!
 //! Each line: the input and its size, the time of a call of the library and of the Rust function in microseconds, and their ratio.
 //! Times are medians of processor time; calls of the two are interleaved. All answers and buffers are compared; a difference ends the run.
+//!
+//! With `--cfg before` an earlier build of the library is timed too (bench/beside). A line then gives the times of the earlier build, of the
+//! present one and of the Rust, the ratio of present to earlier, in how many samples the present was slower, and the ratio to the Rust.
 
 mod desk;
 mod inputs;
 mod library;
 mod stack;
 
-use desk::{E, NODES, SET, SITE, SLOTS, TABLE, WORK};
+use desk::{Applied, Classed, Done, Listed, Results, Rewritten, E, NODES, SET, SITE, SLOTS, TABLE, WORK};
 use std::time::Duration;
+
+/// The five functions of a desk.
+struct Desk {
+    list: fn(&[u8], &[u8], &mut [u8], &mut [u8]) -> Listed,
+    apply: fn(&[u8], &[u8], &mut [u8]) -> Applied,
+    rewrite: fn(&[u8], &[u8], &mut [u8]) -> Rewritten,
+    classes: fn(&[u8], &mut [u8]) -> Classed,
+    job: fn(&[u8], Results) -> Done,
+}
+
+const RUST: Desk = Desk { list: desk::list, apply: desk::apply, rewrite: desk::rewrite, classes: desk::classes, job: desk::job };
+
+/// What is timed: the library or the two builds of it, then the Rust.
+static SIDES: &[fn(&Call, &mut Buffers) -> Vec<u32>] = &[
+    Call::library,
+    #[cfg(before)]
+    Call::before,
+    Call::rust,
+];
+
+// How many samples of a side there are, and about how long one takes. Two builds differ by little, so they get more samples; short ones,
+// since the machine seldom changes its speed within a short pair.
+const SAMPLES: usize = if cfg!(before) { 41 } else { 15 };
+const SAMPLE: Duration = Duration::from_micros(if cfg!(before) { 400 } else { 800 });
 
 /// Results and work buffers, for one side.
 #[derive(PartialEq)]
@@ -28,9 +55,9 @@ impl Buffers {
         Buffers { site: of(SITE), table: of(TABLE), after: of(SET), today: of(SET), classes: of(SLOTS), work: of(WORK) }
     }
 
-    fn results(&mut self) -> desk::Results<'_> {
+    fn results(&mut self) -> Results<'_> {
         let Buffers { site, table, after, today, classes, work } = self;
-        desk::Results { site, table, after, today, classes, work }
+        Results { site, table, after, today, classes, work }
     }
 }
 
@@ -49,52 +76,41 @@ impl Call {
         Call::Job(file, site, cond, sheet)
     }
 
-    /// The answer's numbers: the reason, W and the counts.
     fn library(&self, out: &mut Buffers) -> Vec<u32> {
-        match self {
-            Call::List(site, cond) => {
-                let r = library::list(site, cond, &mut out.after, &mut out.work);
-                vec![r.reason, r.place, r.count]
-            }
-            Call::Apply(site, sheet) => {
-                let r = library::apply(site, sheet, &mut out.site);
-                vec![r.reason, r.place]
-            }
-            Call::Rewrite(cond, sheet) => {
-                let r = library::rewrite(cond, sheet, &mut out.table);
-                vec![r.reason, r.place, r.nodes]
-            }
-            Call::Classes(site) => {
-                let r = library::classes(site, &mut out.classes);
-                vec![r.reason, r.place, r.count]
-            }
-            Call::Job(file, ..) => {
-                let r = library::job(file, out.results());
-                vec![r.reason, r.place, r.after, r.today, r.nodes, r.classes]
-            }
-        }
+        self.answer(&library::NOW, out)
+    }
+
+    #[cfg(before)]
+    fn before(&self, out: &mut Buffers) -> Vec<u32> {
+        self.answer(&library::BEFORE, out)
     }
 
     fn rust(&self, out: &mut Buffers) -> Vec<u32> {
+        self.answer(&RUST, out)
+    }
+
+    /// The answer's numbers: the reason, W and the counts. Inlined, so that each side calls its functions directly.
+    #[inline(always)]
+    fn answer(&self, desk: &Desk, out: &mut Buffers) -> Vec<u32> {
         match self {
             Call::List(site, cond) => {
-                let r = desk::list(site, cond, &mut out.after, &mut out.work);
+                let r = (desk.list)(site, cond, &mut out.after, &mut out.work);
                 vec![r.reason, r.place, r.count]
             }
             Call::Apply(site, sheet) => {
-                let r = desk::apply(site, sheet, &mut out.site);
+                let r = (desk.apply)(site, sheet, &mut out.site);
                 vec![r.reason, r.place]
             }
             Call::Rewrite(cond, sheet) => {
-                let r = desk::rewrite(cond, sheet, &mut out.table);
+                let r = (desk.rewrite)(cond, sheet, &mut out.table);
                 vec![r.reason, r.place, r.nodes]
             }
             Call::Classes(site) => {
-                let r = desk::classes(site, &mut out.classes);
+                let r = (desk.classes)(site, &mut out.classes);
                 vec![r.reason, r.place, r.count]
             }
             Call::Job(file, ..) => {
-                let r = desk::job(file, out.results());
+                let r = (desk.job)(file, out.results());
                 vec![r.reason, r.place, r.after, r.today, r.nodes, r.classes]
             }
         }
@@ -152,34 +168,61 @@ fn time(turns: u32, mut f: impl FnMut()) -> Duration {
     (now() - start) / turns
 }
 
-fn median(mut times: Vec<Duration>) -> f64 {
-    times.sort();
-    times[times.len() / 2].as_secs_f64() * 1e6
+fn median(values: &[f64]) -> f64 {
+    let mut values = values.to_vec();
+    values.sort_by(f64::total_cmp);
+    values[values.len() / 2]
 }
 
 fn title(text: &str) {
     println!("\n{text}");
     let (what, outcome) = ("input", "outcome");
-    println!("{what:44} slots   arcs nodes edits  {outcome:24} library µs     Rust µs ratio");
+    let two = " before µs      now µs     Rust µs now/before slower now/Rust";
+    let times = if cfg!(before) { two } else { "library µs     Rust µs ratio" };
+    println!("{what:44} slots   arcs nodes edits  {outcome:24} {times}");
+}
+
+/// The columns behind the outcome, from the times of each side in microseconds. Two builds are compared sample by sample, since the ratio
+/// of their medians varies more from run to run.
+fn columns(times: &[Vec<f64>]) -> String {
+    match times {
+        [now, rust] => {
+            let (now, rust) = (median(now), median(rust));
+            format!("{now:>10.1}  {rust:>10.1} {:>5.2}", now / rust)
+        }
+        [now, before, rust] => {
+            let ratios: Vec<f64> = now.iter().zip(before).map(|(now, before)| now / before).collect();
+            let slower = format!("{}/{}", ratios.iter().filter(|&&ratio| ratio > 1.0).count(), ratios.len());
+            let (now, before, rust, ratio) = (median(now), median(before), median(rust), median(&ratios));
+            format!("{before:>10.2}  {now:>10.2}  {rust:>10.2} {ratio:>10.3} {slower:>6} {:>8.2}", now / rust)
+        }
+        _ => unreachable!("two sides or three"),
+    }
+}
+
+/// The side that is sampled as the `n`th: all in turn, the Rust last. Two builds take turns at going first.
+fn turn(n: usize) -> usize {
+    let (round, side, libraries) = (n / SIDES.len(), n % SIDES.len(), SIDES.len() - 1);
+    if side < libraries { (side + round) % libraries } else { side }
 }
 
 fn measure(what: &str, call: Call) {
-    let (mut ours, mut theirs) = (Buffers::new(), Buffers::new());
-    let (answer, other) = (call.library(&mut ours), call.rust(&mut theirs));
-    assert!(answer == other && ours == theirs, "{what}: the library and the Rust differ, {answer:?} and {other:?}");
-    assert_eq!(answer[0], 0, "{what}: refused");
-    let once = time(1, || drop(std::hint::black_box(call.library(&mut ours))));
-    let turns = (Duration::from_micros(800).as_nanos() / once.as_nanos().max(1)).clamp(1, 1000) as u32;
-    let samples = if once > Duration::from_millis(30) { 5 } else { 15 };
-    let (mut a, mut b) = (Vec::new(), Vec::new());
-    for _ in 0..samples {
-        a.push(time(turns, || drop(std::hint::black_box(call.library(&mut ours)))));
-        b.push(time(turns, || drop(std::hint::black_box(call.rust(&mut theirs)))));
+    let mut out: Vec<Buffers> = SIDES.iter().map(|_| Buffers::new()).collect();
+    let answers: Vec<Vec<u32>> = SIDES.iter().zip(&mut out).map(|(side, out)| side(&call, out)).collect();
+    let same = answers.iter().all(|answer| *answer == answers[0]) && out.iter().all(|buffers| *buffers == out[0]);
+    assert!(same, "{what}: the sides differ, {answers:?}");
+    assert_eq!(answers[0][0], 0, "{what}: refused");
+    let mut sample = |side: usize, turns| time(turns, || drop(std::hint::black_box(SIDES[side](&call, &mut out[side]))));
+    let once = sample(0, 1);
+    let turns = (SAMPLE.as_nanos() / once.as_nanos().max(1)).clamp(1, 1000) as u32;
+    let samples = if once > Duration::from_millis(30) { 5 } else { SAMPLES };
+    let mut times = vec![Vec::new(); SIDES.len()];
+    for side in (0..samples * SIDES.len()).map(turn) {
+        times[side].push(sample(side, turns).as_secs_f64() * 1e6);
     }
-    let (a, b) = (median(a), median(b));
     let [slots, arcs, nodes, edits] = call.size().map(|n| n.map_or("-".to_string(), |n| n.to_string()));
-    let outcome = call.outcome(&answer);
-    println!("{what:44} {slots:>5} {arcs:>6} {nodes:>5} {edits:>5}  {outcome:24} {a:>10.1}  {b:>10.1} {:>5.2}", a / b);
+    let (outcome, columns) = (call.outcome(&answers[0]), columns(&times));
+    println!("{what:44} {slots:>5} {arcs:>6} {nodes:>5} {edits:>5}  {outcome:24} {columns}");
 }
 
 fn listing() {

@@ -125,12 +125,11 @@ pub record Numbering (s : List ℕ) (e : Edit) (images rows : List ℕ) (n next 
 pub record Emittable (s : List ℕ) (e : Edit) (images rows out : List ℕ) (a b n : ℕ) : Type 0 where
   pub whole : length s ≡ tableBytes
   pub fits : (j : ℕ) → j < n → nodeFits j (nodeAt s j) ≡ true
-  pub few : startOf e s n ≤ tableNodes
   pub numbered : Numbered s e images n
   pub rowed : Rowed s e rows n
   pub first : a ≡ firstOf e
   pub second : b ≡ secondOf e
-  pub room : length out ≡ tableBytes
+  pub room : 6 * startOf e s n ≤ length out
 
 -- the block of node j stands in a buffer
 unfoldable pub Stands : List ℕ → Edit → List ℕ → ℕ → Type 0

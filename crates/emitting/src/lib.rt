@@ -14,6 +14,7 @@ use limits::HERE;
 use limits::LABEL;
 use limits::MU;
 use limits::NAME;
+use limits::NODE_BYTES;
 use limits::NOT;
 use limits::OR;
 use limits::SLOT;
@@ -386,7 +387,7 @@ fn emit_down(
 )
     requires { ⌜ Emittable (now table) (editOf e) (now images) (now rows) (now out) a b n × NoneEmitted (now rows) n ⌝ }
     ensures { λ _. ⌜ TableWritten (now (out .exit)) (rewriteTable (editOf e) (nodes (now (table .entry)) n)) ⌝ }
-    ensures { λ _. ⌜ (length (now (rows .exit)) ≡ tableNodes) × (length (now (out .exit)) ≡ tableBytes) ⌝ }
+    ensures { λ _. ⌜ (length (now (rows .exit)) ≡ tableNodes) × (length (now (out .exit)) ≡ length (now (out .entry))) ⌝ }
 {
     let mut top = n;
     while 0 < top {
@@ -411,7 +412,7 @@ pub fn rewrite(
     ensures { λ _. ⌜ (length (now (images .exit)) ≡ tableNodes) × (length (now (rows .exit)) ≡ tableNodes) × (length (now (out .exit)) ≡ tableBytes) ⌝ }
 {
     let made = number(table, n, e, images, rows);
-    if TABLE_NODES < made {
+    if out.len() < NODE_BYTES * made {
         return made;
     }
     let s = spell(e, TRUE, 0);

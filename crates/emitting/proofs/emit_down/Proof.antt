@@ -34,7 +34,7 @@ loop-again c =
 returns : tie.Need-returns Inv-loop μ-loop
 returns c =
     let l = c .before .loop .inv in let s = c .before .before .pre in
-    (all-written (l .1) (s .1) (λ j a b. l .2 j (omega arith) b) (s .0 .room), (l .1 .size ∙ s .0 .rowed .size, l .1 .room ∙ s .0 .room))
+    (all-written (l .1) (s .1) (λ j a b. l .2 j (omega arith) b), (l .1 .size ∙ s .0 .rowed .size, l .1 .room))
 
 pub emit-down-spec : {M : Type 1} → statement M
 emit-down-spec =

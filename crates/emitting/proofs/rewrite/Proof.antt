@@ -1,4 +1,5 @@
 -- The first pass, and the second where there is room for its blocks.
+use mathlib.Core.Path.{_∙_}
 use native.Mathlib.Omega.{arith}
 use Rattle.emitting.specs.Laws.Fits.{nodes-fit}
 use Rattle.emitting.specs.Laws.Emitted.{counted, none-written}
@@ -8,10 +9,13 @@ use Rattle.emitting.proofs.rewrite.Tie as tie
 number-requires : tie.Need-number-requires
 number-requires c κs = let p = c .before .before .pre in ((p .0 .0, p .0 .1, p .0 .2, p .0 .3), p .1)
 
+mul-if1 : tie.Need-mul-if1
+mul-if1 c = omega (arith, c .number .ensures .numbered .few, c .number .ensures .here)
+
 returns : tie.Need-returns
 returns c =
     let n = c .before in let s = n .before .before .before in let m = n .number .ensures in let r = counted m in
-    ((r, none-written (s .args .out .now) _ r (omega arith) (s .pre .0 .4)), (m .numbered .size, m .rowed .size, s .pre .0 .4))
+    ((r, none-written (s .args .out .now) _ r (omega (arith, c .if1 .taken, s .pre .0 .4))), (m .numbered .size, m .rowed .size, s .pre .0 .4))
 
 spell-requires : tie.Need-spell-requires
 spell-requires c κs = c .before .before .before .before .pre .1 .0
@@ -23,20 +27,20 @@ emit-down-requires c κs =
       record {
         whole = p .0 .0;
         fits = nodes-fit (s .args .table .now) (s .args .n) (p .1 .1);
-        few = omega (arith, m .here, x .before .if1 .left);
         numbered = m .numbered;
         rowed = m .rowed;
         first = x .spell .ensures .first;
         second = x .spell .ensures .second;
-        room = p .0 .4;
+        room = omega (arith, m .here, x .before .if1 .left, p .0 .4);
       },
       m .none,
     )
 
 returns-2 : tie.Need-returns-2
 returns-2 c =
-    let n = c .before .before .before .before .before .before in let m = n .number .ensures in let d = c .emit-down .ensures in
-    ((counted m, d .0), (m .numbered .size, d .1 .0, d .1 .1))
+    let n = c .before .before .before .before .before .before in let s = n .before .before .before in
+    let m = n .number .ensures in let d = c .emit-down .ensures in
+    ((counted m, d .0), (m .numbered .size, d .1 .0, d .1 .1 ∙ s .pre .0 .4))
 
 pub rewrite-spec : {M : Type 1} → statement M
-rewrite-spec = tie.close (tie.spec number-requires returns spell-requires emit-down-requires returns-2)
+rewrite-spec = tie.close (tie.spec number-requires mul-if1 returns spell-requires emit-down-requires returns-2)

@@ -18,7 +18,7 @@ use Rattle.semantics.specs.Block.{Block, old, size, emit, block, rewriteTable}
 use Rattle.semantics.specs.Laws.Emit.{emit-length}
 use Rattle.condition.specs.Bytes.{nodeAt, nodes, bytesOf}
 use Rattle.condition.specs.Laws.Bytes.{length-bytes}
-use Rattle.limits.specs.Limits.{tableNodes, tableBytes, notNo, orNo, diaNo, slotNo, kinds}
+use Rattle.limits.specs.Limits.{notNo, orNo, diaNo, slotNo, kinds}
 use Rattle.spelling.specs.declared.Spelling.{Spelling}
 use Rattle.spelling.specs.Rows.{rowCount}
 use Rattle.spelling.specs.Spelling.{spelled, Spells, Sized, keptBy, usedBy, copyOf}
@@ -50,9 +50,9 @@ module _ (s : List ℕ) (e : Edit) (out : List ℕ) (i : ℕ) (out′ : List ℕ
   block-end : startOf e s (suc i) ≡ startOf e s i + length (emit (blockAt e s i) (startOf e s i))
   block-end = start-more e s i ∙ ap (λ (m : ℕ). startOf e s i + m) (sym (emit-length (blockAt e s i) (startOf e s i)))
 
-  stands-new : length out ≡ tableBytes → startOf e s (suc i) ≤ tableNodes → Stands s e out′ i
+  stands-new : 6 * startOf e s (suc i) ≤ length out → Stands s e out′ i
   unfolding Stands
-  stands-new l f p a b =
+  stands-new f p a b =
       let z : p ≡ length (bytesOf (stateAt e s i .out)) + (p - 6 * (startOf e s i + 0)) = omega (arith, bytes-start e s i) in
       ap (λ (o : List ℕ). getD o p 0) h
       ∙ puts-in out (startOf e s i) 0 (emit (blockAt e s i) (startOf e s i)) p (omega arith) (omega (arith, block-end)) (omega arith)
@@ -71,9 +71,8 @@ module _ (s : List ℕ) (e : Edit) (out : List ℕ) (i : ℕ) (out′ : List ℕ
       puts-high out (startOf e s i) 0 (emit (blockAt e s i) (startOf e s i)) p (omega (arith, starts-up e s (suc i) j gt, block-end)))
       ∙ S p a b
 
-  emitting-one : (rows : List ℕ) → i < length rows → length out ≡ tableBytes → startOf e s (suc i) ≤ tableNodes
-      → Emitting s e rows out (set rows i emittedRow) out′
-  emitting-one rows b l f =
+  emitting-one : (rows : List ℕ) → i < length rows → 6 * startOf e s (suc i) ≤ length out → Emitting s e rows out (set rows i emittedRow) out′
+  emitting-one rows b f =
       let here : getD (set rows i emittedRow) i 0 ≡ emittedRow = getD-set-same rows i emittedRow 0 b in
       let other : (j : ℕ) → (j ≡ i → ⊥) → getD (set rows i emittedRow) j 0 ≡ getD rows j 0 = λ j q. getD-set-other rows i j emittedRow 0 q in
       record {
@@ -81,8 +80,8 @@ module _ (s : List ℕ) (e : Edit) (out : List ℕ) (i : ℕ) (out′ : List ℕ
         room = ap length h ∙ length-puts out (startOf e s i) 0 (emit (blockAt e s i) (startOf e s i));
         stays = λ j p. either (equal? j i) (λ q. rw q here) (λ q. other j q ∙ p);
         same = λ j ne. either (equal? j i) (λ q. absurd (ne (rw q here))) (λ q. other j q);
-        stand = λ j ne p. either (equal? j i) (λ q. subst (Stands s e out′) (sym q) (stands-new l f)) (λ q. absurd (ne (sym (other j q) ∙ p)));
-        keeps = λ j S. either (equal? j i) (λ q. subst (Stands s e out′) (sym q) (stands-new l f)) (λ q. stands-still j q S);
+        stand = λ j ne p. either (equal? j i) (λ q. subst (Stands s e out′) (sym q) (stands-new f)) (λ q. absurd (ne (sym (other j q) ∙ p)));
+        keeps = λ j S. either (equal? j i) (λ q. subst (Stands s e out′) (sym q) (stands-new f)) (λ q. stands-still j q S);
       }
 
 -- ---- the steps of the code
@@ -111,7 +110,6 @@ pub emittable-then : {s : List ℕ} {e : Edit} {images rows out rows′ out′ :
 emittable-then {s} {e} {images} {rows} {out} {rows′} {out′} {a} {b} {n} Y P = record {
   whole = Y .whole;
   fits = Y .fits;
-  few = Y .few;
   numbered = Y .numbered;
   rowed = record {
     size = P .size ∙ Y .rowed .size;
@@ -121,7 +119,7 @@ emittable-then {s} {e} {images} {rows} {out} {rows′} {out′} {a} {b} {n} Y P 
   };
   first = Y .first;
   second = Y .second;
-  room = P .room ∙ Y .room;
+  room = omega (arith, P .room, Y .room);
 }
 
 pub emittable-low : {s : List ℕ} {e : Edit} {images rows out : List ℕ} {a b n : ℕ} → Emittable s e images rows out a b n → (i : ℕ) → i ≤ n
@@ -129,12 +127,11 @@ pub emittable-low : {s : List ℕ} {e : Edit} {images rows out : List ℕ} {a b 
 emittable-low {s} {e} {n = n} Y i h = record {
   whole = Y .whole;
   fits = λ j q. Y .fits j (omega arith);
-  few = omega (arith, starts-up e s i n h, Y .few);
   numbered = numbered-low (Y .numbered) i h;
   rowed = rowed-low (Y .rowed) i h;
   first = Y .first;
   second = Y .second;
-  room = Y .room;
+  room = omega (arith, starts-up e s i n h, Y .room);
 }
 
 -- node c is not emitted: its row, its parameter and the edit's numbers spell its block
@@ -179,13 +176,13 @@ module _ {s : List ℕ} {e : Edit} {images rows out : List ℕ} {a b : ℕ} (c :
         let w : out′ ≡ puts out (startOf e s c) 0 (emit (blockAt e s c) (startOf e s c)) =
         eo ∙ ap₂ (λ (B : Block) (i : ℕ). puts out i 0 (emit B i)) block-here at in
         let i : c < length rows = omega (arith, Y .rowed .size, Y .numbered .most) in
-        let f : startOf e s (suc c) ≤ tableNodes = subst (λ (n : ℕ). startOf e s n ≤ tableNodes) (add-one c) (Y .few) in
-        rw e′ (emitting-one s e out c out′ w rows i (Y .room) f, getD-set-same rows c emittedRow 0 i)
+        let f : 6 * startOf e s (suc c) ≤ length out = subst (λ (n : ℕ). 6 * startOf e s n ≤ length out) (add-one c) (Y .room) in
+        rw e′ (emitting-one s e out c out′ w rows i f, getD-set-same rows c emittedRow 0 i)
 
     -- and there is room for it
     pub block-room : {m : ℕ} → m ≡ startIn images c → 6 * (m + size (spelled (record { row = row; w = p; a = a; b = b }) t u)) ≤ length out
     block-room em =
-        omega (arith, em, start-is (Y .numbered) c (omega arith), ap size block-here, start-more e s c, ap (startOf e s) (add-one c), Y .few, Y .room)
+        omega (arith, em, start-is (Y .numbered) c (omega arith), ap size block-here, start-more e s c, ap (startOf e s) (add-one c), Y .room)
 
     -- a block of one node begins with its image
     alone : {m : ℕ} → Sized (record { row = row; w = p; a = a; b = b }) 1 → m ≡ getD images c 0 → m ≡ startIn images c
@@ -194,14 +191,14 @@ module _ {s : List ℕ} {e : Edit} {images rows out : List ℕ} {a b : ℕ} (c :
 
 -- where node c's block stands, and the images of its fields
 module _ {s : List ℕ} {e : Edit} {images rows out : List ℕ} {a b : ℕ} (c : ℕ) (Y : Emittable s e images rows out a b (c + 1)) where
-  pub start-small : startIn images c ≤ tableNodes
-  start-small = omega (arith, start-is (Y .numbered) c (omega arith), starts-up e s c (c + 1) (omega arith), Y .few)
+  pub start-small : startIn images c ≤ 22528
+  start-small = omega (arith, start-is (Y .numbered) c (omega arith), starts-up e s c (c + 1) (omega arith), Y .numbered .few)
 
   pub in-rows : c < length rows
   in-rows = omega (arith, Y .rowed .size, Y .numbered .most)
 
-  pub image-room : {m : ℕ} → m ≡ getD images c 0 → m < tableNodes
-  image-room q = omega (arith, image-small (Y .numbered) c (omega arith) q, Y .few)
+  pub image-room : {m : ℕ} → m ≡ getD images c 0 → 6 * m + 6 ≤ length out
+  image-room q = omega (arith, image-small (Y .numbered) c (omega arith) q, Y .room)
 
   pub left-low : {l : ℕ} → l ≡ nodeAt s c .left → l ≤ c - 1
   left-low q = omega (arith, fields-low c (nodeAt s c) (Y .fits c (omega arith)) .0)
@@ -209,11 +206,11 @@ module _ {s : List ℕ} {e : Edit} {images rows out : List ℕ} {a b : ℕ} (c :
   pub right-low : {r : ℕ} → r ≡ nodeAt s c .right → r ≤ c - 1
   right-low q = omega (arith, fields-low c (nodeAt s c) (Y .fits c (omega arith)) .1)
 
-  pub left-small : {l t : ℕ} → l ≡ nodeAt s c .left → t ≡ getD images l 0 → t < tableNodes
-  left-small {l} q z = omega (arith, image-small (Y .numbered) l (omega (arith, left-low q)) z, Y .few)
+  pub left-small : {l t : ℕ} → l ≡ nodeAt s c .left → t ≡ getD images l 0 → t < 22528
+  left-small {l} q z = omega (arith, image-small (Y .numbered) l (omega (arith, left-low q)) z, Y .numbered .few)
 
-  pub right-small : {r u : ℕ} → r ≡ nodeAt s c .right → u ≡ getD images r 0 → u < tableNodes
-  right-small {r} q z = omega (arith, image-small (Y .numbered) r (omega (arith, right-low q)) z, Y .few)
+  pub right-small : {r u : ℕ} → r ≡ nodeAt s c .right → u ≡ getD images r 0 → u < 22528
+  right-small {r} q z = omega (arith, image-small (Y .numbered) r (omega (arith, right-low q)) z, Y .numbered .few)
 
 -- ---- copies, written at once
 
@@ -380,25 +377,25 @@ all-stand s e out (suc n) S p h =
     ∙ List·getD-append (bytesOf (stateAt e s n .out)) _ 0 p (omega (arith, bytes-start e s n))))
     (λ q. S n (omega arith) p (not-below p _ q) h)
 
-state-written : (s : List ℕ) (e : Edit) (out : List ℕ) (n : ℕ) → length out ≡ tableBytes → ((j : ℕ) → j < n → Stands s e out j) → TableWritten out (stateAt e s n .out)
+state-written : (s : List ℕ) (e : Edit) (out : List ℕ) (n : ℕ) → ((j : ℕ) → j < n → Stands s e out j) → TableWritten out (stateAt e s n .out)
 unfolding TableWritten startOf
-state-written s e out n l S h =
+state-written s e out n S h =
     let xs = stateAt e s n .out in
     let k : length (take (6 * length xs) out) ≡ 6 * length xs = length-take-le (6 * length xs) out (omega arith) in
     ext-getD 0 (take (6 * length xs) out) (bytesOf xs) (k ∙ sym (length-bytes xs))
     (λ p q. let g : p < 6 * length xs = omega arith in getD-take (6 * length xs) out p 0 g ∙ all-stand s e out n S p g)
 
 pub all-written : {s : List ℕ} {e : Edit} {rows out rows′ out′ : List ℕ} {n : ℕ} → Emitting s e rows out rows′ out′ → NoneEmitted rows n
-    → EmittedFrom rows′ 0 n → length out ≡ tableBytes → TableWritten out′ (rewriteTable e (nodes s n))
-all-written {s} {e} {rows} {out} {rows′} {out′} {n} P N D l =
+    → EmittedFrom rows′ 0 n → TableWritten out′ (rewriteTable e (nodes s n))
+all-written {s} {e} {rows} {out} {rows′} {out′} {n} P N D =
     subst (λ (xs : List Node). TableWritten out′ xs) (state-out e s n)
-    (state-written s e out′ n (P .room ∙ l) (λ j g. P .stand j (N j g) (D j (omega arith) g)))
+    (state-written s e out′ n (λ j g. P .stand j (N j g) (D j (omega arith) g)))
 
 -- how many nodes there are; and nothing is said of a table that does not fit
 pub counted : {s : List ℕ} {e : Edit} {images rows : List ℕ} {n r : ℕ} → Numbering s e images rows n r → r ≡ length (rewriteTable e (nodes s n))
 unfolding startOf
 counted {s} {e} {n = n} N = N .here ∙ ap length (state-out e s n)
 
-pub none-written : (out : List ℕ) (xs : List Node) {r : ℕ} → r ≡ length xs → tableNodes < r → length out ≡ tableBytes → TableWritten out xs
+pub none-written : (out : List ℕ) (xs : List Node) {r : ℕ} → r ≡ length xs → length out < 6 * r → TableWritten out xs
 unfolding TableWritten
-none-written out xs q h l f = absurd (omega arith)
+none-written out xs q h f = absurd (omega arith)

@@ -1,18 +1,25 @@
 -- Laws of counting: how many numbers below a bound pass a test.
-use mathlib.Core.Path.{_≡_, sym, subst}
+use mathlib.Core.Path.{_≡_, refl, sym, subst}
 use mathlib.Core.Bool.{Bool, true, false}
 use Prim.Native.Nat.{ℕ, zero, suc, _+_, _≤_, _<_}
 use native.Mathlib.Nat.{add-zero, add-suc}
 use native.Mathlib.Omega.{arith}
-use Rattle.finite.specs.Tests.{count}
+use Rattle.finite.specs.Tests.{below, any, count}
 use Rattle.finite.specs.Laws.Bools.{either, look}
-use Rattle.finite.specs.Laws.Below.{equal?}
+use Rattle.finite.specs.Laws.Below.{below-in, equal?}
 
 pub count-le : (n : ℕ) (f : ℕ → Bool) → count n f ≤ n
 unfolding count
 count-le zero f = omega arith
 count-le (suc n) f =
     either (look (f n)) (λ e. rw (e, count) (omega (arith, count-le n f))) (λ e. rw (e, count) (omega (arith, count-le n f)))
+
+-- some number passes exactly where one is counted
+pub any-counted : (n : ℕ) (f : ℕ → Bool) → any n f ≡ below 0 (count n f)
+unfolding any below count
+any-counted zero f = refl
+any-counted (suc n) f =
+    either (look (f n)) (λ e. rw (e, count) (sym (below-in 0 (1 + count n f) (omega arith)))) (λ e. let z : 0 + count n f ≡ count n f = omega arith in rw (e, count, z) (any-counted n f))
 
 -- where more numbers pass, more are counted
 pub count-mono : (n : ℕ) (f g : ℕ → Bool) → ((x : ℕ) → x < n → f x ≡ true → g x ≡ true) → count n f ≤ count n g

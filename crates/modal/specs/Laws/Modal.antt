@@ -1,25 +1,24 @@
 -- The diamond of each kind of way, and the box by the diamond.
 use mathlib.Core.Path.{_≡_, sym, _∙_, ap}
-use mathlib.Core.Bool.{Bool, not, _&&_, _||_, and-true}
+use mathlib.Core.Bool.{Bool, not, _&&_, _||_}
 use mathlib.Core.List.{List}
 use Prim.Native.Nat.{ℕ, _+_, _-_, _≤_, _<_}
 use native.Mathlib.Omega.{arith}
-use lib.ListN.{replicate}
-use Rattle.finite.specs.Tests.{any, all}
+use Rattle.finite.specs.Tests.{below, any, all, count}
 use Rattle.finite.specs.Laws.Below.{below-not, any-cong}
+use Rattle.finite.specs.Laws.Count.{any-counted}
 use Rattle.finite.specs.Laws.Dual.{all-any}
-use Rattle.bitset.specs.Set.{setBytes, setSlots, has, Is}
-use Rattle.bitset.specs.Laws.Bytes.{has-full}
+use Rattle.bitset.specs.Set.{setSlots, has, Is}
 use Rattle.limits.specs.Limits.{slots, links}
 use Rattle.semantics.specs.Form.{every}
 use Rattle.semantics.specs.Holds.{Model, step}
 use Rattle.semantics.specs.Table.{wayOf}
 use Rattle.semantics.specs.Laws.Ways.{way-along, way-against}
 
--- a set meets the full one exactly if some slot is in it
-pub meets-full : (T : List ℕ) → any setSlots (λ t. has T t && has (replicate setBytes 255) t) ≡ any slots (λ t. has T t)
+-- some slot is in a set exactly if it has one
+pub some-counted : (T : List ℕ) {n : ℕ} → n ≡ count setSlots (has T) → any slots (λ t. has T t) ≡ below 0 n
 unfolding slots
-meets-full T = any-cong setSlots _ _ (λ t h. rw (has-full t h) (and-true (has T t)))
+some-counted T e = any-counted setSlots (has T) ∙ ap (below 0) (sym e)
 
 module _ (M : Model) (T R : List ℕ) (w : ℕ) where
   pub diamond-along : w < links → Is R (λ s. any slots (λ t. M .link w s t && has T t)) → Is R (λ s. any slots (λ t. step M (wayOf w) s t && has T t))
