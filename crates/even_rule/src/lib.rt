@@ -199,16 +199,6 @@ fn unite(words: &[u64; TABLE_NODES], free: &mut [u16], n: usize)
     }
 }
 
-fn zero(rows: &mut [u16])
-    ensures { λ _. ⌜ now (rows .exit) ≡ replicate (length (now (rows .entry))) 0 ⌝ }
-{
-    let mut k = 0;
-    while k < rows.len() {
-        rows[k] = 0;
-        k += 1;
-    }
-}
-
 fn no_words() -> [u64; TABLE_NODES]
     ensures { λ r. ⌜ r ≡ noMasks ⌝ }
 {
@@ -244,12 +234,11 @@ fn check_rules(table: &[u8], free: &mut [u16]) -> Verdict
     Verdict::Accepted
 }
 
-// Items 7 to 10, in this order. An accepted table's free variables are written to `free`, which is zero otherwise.
+// Items 7 to 10, in this order. An accepted table's free variables are written to `free`, which is zero before, and after a refusal.
 pub fn check(table: &[u8], free: &mut [u16]) -> Verdict
-    requires { ⌜ length (now free) ≡ tableNodes ⌝ }
+    requires { ⌜ now free ≡ noMasks ⌝ }
     ensures { λ r. ⌜ Checked (now (table .entry)) (now (free .exit)) r ⌝ }
 {
-    zero(free);
     if !condition::size_fits(table.len()) {
         return Verdict::Refused(7, 0);
     }

@@ -10,7 +10,8 @@ ghost use Rattle.site.specs.Layout.{siteBytes};
 ghost use Rattle.site.specs.Refusal.{siteVerdict};
 ghost use Rattle.condition.specs.Refusal.{conditionVerdict};
 ghost use Rattle.sheet.specs.Refusal.{sheetVerdict};
-ghost use Rattle.limits.specs.Limits.{tableNodes, tableBytes};
+ghost use Rattle.limits.specs.Limits.{tableBytes};
+ghost use Rattle.even_rule.specs.Free.{noMasks};
 ghost use Rattle.job_steps.specs.Steps.{PiecesJudged};
 ghost use Rattle.job_run.specs.Buffers.{buffersOf, Sized};
 ghost use Rattle.job_run.specs.Steps.{Sets, Zeros, Prepared, Listable, Finished, Ran};
@@ -53,7 +54,7 @@ fn refuse(
 
 // The verdict `first`, then items 3 to 12. The free variables of an accepted condition's nodes are written to `free`.
 fn judge(first: Verdict, site: &[u8], cond: &[u8], sheet: &[u8], free: &mut [u16]) -> Verdict
-    requires { ⌜ length (now free) ≡ tableNodes ⌝ }
+    requires { ⌜ now free ≡ noMasks ⌝ }
     ensures { λ r. ⌜ PiecesJudged (first then siteVerdict (now (site .entry)) then conditionVerdict (now (cond .entry)) then sheetVerdict (now (sheet .entry))) (now (cond .entry)) (now (free .exit)) r ⌝ }
 {
     match first {
@@ -72,7 +73,7 @@ fn prepare(
     changed: &mut [u8],
     table: &mut [u8],
 ) -> Rewriting
-    requires { ⌜ length (now free) ≡ tableNodes ⌝ }
+    requires { ⌜ now free ≡ noMasks ⌝ }
     requires { ⌜ (first ≡ Accepted → (length (now changed) ≡ siteBytes) × (length (now table) ≡ tableBytes)) ⌝ }
     ensures { λ r. ⌜ Prepared first (now (site .entry)) (now (cond .entry)) (now (sheet .entry)) (now (free .exit)) (now (changed .entry)) (now (changed .exit)) (now (table .entry)) (now (table .exit)) r ⌝ }
 {

@@ -1,6 +1,5 @@
 // Reads pieces of jobs on standard input and prints for each that it is accepted, or the item and W with which it is refused.
 use libc::STDOUT_FILENO;
-use limits::TABLE_NODES;
 use pieces::ROOM;
 use verdict::Verdict;
 
@@ -9,7 +8,7 @@ fn judge(kind: u8, piece: &[u8]) -> Verdict {
         return site::check(piece);
     }
     if kind == pieces::CONDITION {
-        let mut free = [0u16; TABLE_NODES];
+        let mut free = even_rule::no_masks();
         return even_rule::check(piece, &mut free);
     }
     sheet::check(piece)

@@ -2,63 +2,41 @@
 use Rattle.even_rule.specs.Laws.Answer.{answer-7, answer-8, all-fit}
 use Rattle.condition.specs.Laws.Verdict.{size-out}
 use borrow.Author.Tests.{not-true, not-false}
-use lib.ListN.{length, replicate}
+use lib.ListN.{length}
 use native.Mathlib.Omega.{arith}
-use Prim.Native.Nat.{ℕ}
-use mathlib.Core.Path.{sym, _∙_, ap}
+use mathlib.Core.Path.{sym, _∙_}
 use borrow.Author.Needs.{needs}
 use Rattle.even_rule.proofs.check.Statement.{statement}
 use Rattle.even_rule.proofs.check.Tie as tie
 
-zero-requires : tie.Need-zero-requires
-zero-requires c κs = search needs
-
 size-fits-requires : tie.Need-size-fits-requires
 size-fits-requires c κs = search needs
 
-same-length : tie.Need-same-length
-same-length c = search needs
-
 returns : tie.Need-returns
 returns c =
-    let a = c .before .before .before .before .before .before .before .before .args in
-    let p = c .before .before .before .before .before .before .before .before .pre in
-    answer-7 (a .table .now) (c .before .before .before .before .zero .last .0)
-    (c .before .before .before .before .zero .ensures ∙ ap (λ (n : ℕ). replicate n 0) p)
-    (sym (c .before .size-fits .ensures) ∙ not-true _ (c .if1 .taken))
+    let z = c .before in let s = z .before .before .before in
+    answer-7 (s .args .table .now) (s .args .free .now) (s .pre) (sym (z .size-fits .ensures) ∙ not-true _ (c .if1 .taken))
 
 first-unfit-requires : tie.Need-first-unfit-requires
 first-unfit-requires c κs = search needs
 
-cast-t11 : tie.Need-cast-t11
-cast-t11 c =
-    let a = c .before .before .before .before .before .before .before .before .before .before .args in
-    let p = c .before .before .before .before .before .before .before .before .before .before .pre in
-    let s = size-out (length (a .table .now))
-    (sym (c .before .before .before .size-fits .ensures) ∙ not-false _ (c .before .before .if1 .left)) in
-    omega (arith, s)
-
-same-length-2 : tie.Need-same-length-2
-same-length-2 c = search needs
+cast-t8 : tie.Need-cast-t8
+cast-t8 c =
+    let f = c .before .before in let z = f .before in let s = z .before .before .before in
+    omega (arith, size-out (length (s .args .table .now)) (sym (z .size-fits .ensures) ∙ not-false _ (f .if1 .left)))
 
 returns-2 : tie.Need-returns-2
 returns-2 c =
-    let a = c .before .before .before .before .before .before .before .before .before .before .args in
-    let p = c .before .before .before .before .before .before .before .before .before .before .pre in
-    let zeros = c .before .before .before .before .before .before .zero .ensures ∙ ap (λ (n : ℕ). replicate n 0) p in
-    let size = sym (c .before .before .before .size-fits .ensures) ∙ not-false _ (c .before .before .if1 .left) in
-    answer-8 (a .table .now) (c .before .before .before .before .before .before .zero .last .0) zeros size (c .before .first-unfit .result) (c .before .first-unfit .ensures) (c .if2 .taken)
+    let u = c .before in let f = u .before in let z = f .before in let s = z .before .before .before in
+    answer-8 (s .args .table .now) (s .args .free .now) (s .pre) (sym (z .size-fits .ensures) ∙ not-false _ (f .if1 .left)) (u .first-unfit .result) (u .first-unfit .ensures) (c .if2 .taken)
 
 check-rules-requires : tie.Need-check-rules-requires
 check-rules-requires c κs =
-    let a = c .before .before .before .before .before .before .before .before .before .before .before .args in
-    let p = c .before .before .before .before .before .before .before .before .before .before .before .pre in
-    let zeros = c .before .before .before .before .before .before .before .zero .ensures ∙ ap (λ (n : ℕ). replicate n 0) p in
-    let size = sym (c .before .before .before .before .size-fits .ensures) ∙ not-false _ (c .before .before .before .if1 .left) in
-    (size, (all-fit (a .table .now) (c .before .before .first-unfit .result) (c .before .before .first-unfit .ensures) (c .before .if2 .left), zeros))
+    let u = c .before .before in let f = u .before in let z = f .before in let s = z .before .before .before in
+    (sym (z .size-fits .ensures) ∙ not-false _ (f .if1 .left), (all-fit (s .args .table .now) (u .first-unfit .result) (u .first-unfit .ensures) (c .before .if2 .left), s .pre))
 
-same-length-3 : tie.Need-same-length-3
-same-length-3 c = search needs
+same-length : tie.Need-same-length
+same-length c = search needs
 
 returns-3 : tie.Need-returns-3
 returns-3 c = search needs
@@ -67,14 +45,11 @@ pub check-spec : {M : Type 1} → statement M
 check-spec =
     tie.close
     (tie.spec
-    zero-requires
     size-fits-requires
-    same-length
     returns
     first-unfit-requires
-    cast-t11
-    same-length-2
+    cast-t8
     returns-2
     check-rules-requires
-    same-length-3
+    same-length
     returns-3)

@@ -1,5 +1,9 @@
 -- What was tested first and items 3 to 12 by judging, then 13 and 14 by changing.
+use mathlib.Core.Path.{_∙_, ap}
+use Prim.Native.Nat.{ℕ}
 use native.Mathlib.Omega.{arith}
+use lib.ListN.{length, length-replicate}
+use Rattle.limits.specs.Limits.{tableNodes}
 use borrow.Author.Needs.{needs}
 use Rattle.job_run.specs.Laws.Job.{judged-out, prepared, prepared-refused}
 use Rattle.job_run.proofs.prepare.Statement.{statement}
@@ -31,8 +35,10 @@ same-length-3 c = omega arith
 
 returns : tie.Need-returns
 returns c =
-    let judged = c .before .before .before .before .before .before .before .before .before .before .before .judge .ensures in
-    prepared judged (c .before .before .before .before .before .before .before .enum-told .given .1) (omega arith) (c .before .before .before .before .change .ensures)
+    let x = c .before .before .before .before in let k = x .before .before .before in let j = k .before .before .before .before in
+    let s = j .before .before .before .before .before .before .before .before in
+    let f = ap length (s .pre .0) ∙ length-replicate {A = ℕ} tableNodes 0 in
+    prepared (j .judge .ensures) (k .enum-told .given .1) (omega (arith, f)) (x .change .ensures)
 
 same-length-4 : tie.Need-same-length-4
 same-length-4 c = omega arith

@@ -13,8 +13,8 @@ slice-aggregate-prepare c = search needs
 
 prepare-requires : tie.Need-prepare-requires
 prepare-requires c κs =
-    let lent = c .before .before .before .before .before .before .before .before .before .before .before .before .before .pre in
-    (omega arith, λ e. (lent e .changed-size, lent e .table-size))
+    let m = c .before .before .before in let lent = m .before .before .before .before .before .before .before .before .before .before .pre in
+    (m .no-masks .ensures, λ e. (lent e .changed-size, lent e .table-size))
 
 enum-known-r : tie.Need-enum-known-r
 enum-known-r c = search needs

@@ -1,10 +1,7 @@
 -- The items in order: the buffers, the site, the condition.
-use Rattle.limits.specs.Limits.{tableNodes}
 use Rattle.list_entry.specs.Laws.Listing.{judged-set, judged-work, judged-site, judged-table}
-use mathlib.Core.Path.{sym, _∙_, ap}
-use Prim.Native.Nat.{ℕ}
+use mathlib.Core.Path.{sym, _∙_}
 use native.Mathlib.Omega.{arith}
-use lib.ListN.{length, length-replicate}
 use borrow.Author.Needs.{needs}
 use Rattle.list_entry.proofs.judge.Statement.{statement}
 use Rattle.list_entry.proofs.judge.Tie as tie
@@ -22,9 +19,7 @@ enum-told : tie.Need-enum-told
 enum-told c = search needs
 
 check-requires-2 : tie.Need-check-requires-2
-check-requires-2 c κs =
-    let the-pre = c .before .before .before .before .before .before .before .before .before .pre in
-    ap length the-pre ∙ length-replicate {A = ℕ} tableNodes 0
+check-requires-2 c κs = search needs
 
 enum-known-v : tie.Need-enum-known-v
 enum-known-v c = search needs
