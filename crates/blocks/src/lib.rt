@@ -281,6 +281,7 @@ fn text(row: u8) -> [u16; TEXT_GROUPS]
     }
 }
 
+// A number of two bytes, for use as an index.
 pub fn widen(x: u16) -> usize
     ensures { λ r. ⌜ (r ≡ x) × (r < 65536) ⌝ }
 {
