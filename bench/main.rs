@@ -310,20 +310,27 @@ fn jobs() {
     }
 }
 
-fn main() {
-    match std::env::args().nth(1).as_deref() {
-        Some("stack") => return stack::show(),
-        Some("list") => return listing(),
-        Some("apply") => return applying(),
-        Some("rewrite") => return rewriting(),
-        Some("classes") => return classing(),
-        Some("job") => return jobs(),
-        _ => {}
-    }
+fn all() {
     listing();
     applying();
     rewriting();
     classing();
     jobs();
     stack::show();
+}
+
+fn main() {
+    match std::env::args().nth(1).as_deref() {
+        None => all(),
+        Some("list") => listing(),
+        Some("apply") => applying(),
+        Some("rewrite") => rewriting(),
+        Some("classes") => classing(),
+        Some("job") => jobs(),
+        Some("stack") => stack::show(),
+        Some(other) => {
+            eprintln!("{other} is none of list, apply, rewrite, classes, job and stack");
+            std::process::exit(2);
+        }
+    }
 }

@@ -1,7 +1,7 @@
 -- Laws of one edit, by topic.
 -- a block has a node
 pub mod Sizes
--- nodes that fit
+-- the first node
 pub mod Fits
 -- a copy of a node has the children of the node
 pub mod Shapes

@@ -1,7 +1,7 @@
 -- How far rewriting through one edit has come: the images of a table's first nodes, and the nodes written for them.
 use mathlib.Core.Path.{_≡_}
 use mathlib.Core.List.{List, [], _∷_, _++_}
-use mathlib.Core.Bool.{true, cond}
+use mathlib.Core.Bool.{Bool, true, false, cond}
 use mathlib.Core.Logic.{_⊎_}
 use Prim.Native.Nat.{ℕ, zero, suc, _+_, _*_, _≤_, _<_}
 use lib.ListN.{length, getD}
@@ -59,13 +59,17 @@ higherOf x y = cond (ltb x y) y x
 unfoldable pub startOf : Edit → List ℕ → ℕ → ℕ
 startOf e s i = length (stateAt e s i .out)
 
+-- blocks have at most 11 nodes each, so that those of 2,048 nodes have at most
+abbrev pub mostMade : ℕ
+mostMade = 22528
+
 -- the nodes below n have numbers: their images stand in a buffer
 pub record Numbered (s : List ℕ) (e : Edit) (images : List ℕ) (n : ℕ) : Type 0 where
   pub size : length images ≡ tableNodes
   pub some : 6 * n ≤ length s
   pub most : n ≤ tableNodes
   pub imaged : (j : ℕ) → j < n → getD images j 0 ≡ imageOf e s j
-  pub few : startOf e s n ≤ 22528
+  pub few : startOf e s n ≤ mostMade
 
 -- the number of the first node of node i's block, by the images
 unfoldable pub startIn : List ℕ → ℕ → ℕ
@@ -108,6 +112,10 @@ pub record Rowed (s : List ℕ) (e : Edit) (rows : List ℕ) (n : ℕ) : Type 0 
   pub size : length rows ≡ tableNodes
   pub spells : (j : ℕ) → j < n → (getD rows j 0 ≡ emittedRow → ⊥)
       → Spells e (nodeAt s j .kind) (nodeAt s j .param) (spellingOf e (nodeAt s j .param) (getD rows j 0))
+
+-- b tells whether node c waits, that is whether it is not emitted
+abbrev pub Tells : List ℕ → ℕ → Bool → Type 0
+Tells rows c b = (b ≡ false → getD rows c 0 ≡ emittedRow) × (b ≡ true → getD rows c 0 ≡ emittedRow → ⊥)
 
 -- none of the nodes below n is emitted
 abbrev pub NoneEmitted : List ℕ → ℕ → Type 0

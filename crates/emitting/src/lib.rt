@@ -36,7 +36,7 @@ ghost use Rattle.condition.specs.Bytes.{nodeAt, nodes};
 ghost use Rattle.sheet.specs.Bytes.{editOf};
 ghost use Rattle.limits.specs.Limits.{tableNodes, tableBytes, kinds, orNo, diaNo, slotNo};
 ghost use Rattle.blocks.specs.Write.{TableWritten};
-ghost use Rattle.emitting.specs.State.{startIn, Numbering, emittedRow, firstKind, endKind, NoneEmitted, Emittable, Emitting, Deep, ChildrenEmitted, OneEmitted, TwoEmitted, lowerOf, higherOf};
+ghost use Rattle.emitting.specs.State.{startIn, Numbering, emittedRow, Tells, firstKind, endKind, NoneEmitted, Emittable, Emitting, Deep, ChildrenEmitted, OneEmitted, TwoEmitted, lowerOf, higherOf};
 
 // Tables, images and rows are lent as whole arrays: a call passes a pointer for each, in a register, and a last call becomes a jump.
 
@@ -72,7 +72,7 @@ fn start(images: &[u16; TABLE_NODES], c: usize) -> usize
 // Whether node c is not emitted.
 fn waits(rows: &[u8; TABLE_NODES], c: usize) -> bool
     requires { ⌜ c < tableNodes ⌝ }
-    ensures { λ r. ⌜ (r ≡ false → getD (now (rows .entry)) c 0 ≡ emittedRow) × (r ≡ true → getD (now (rows .entry)) c 0 ≡ emittedRow → ⊥) ⌝ }
+    ensures { λ r. ⌜ Tells (now (rows .entry)) c r ⌝ }
 {
     rows[c] != EMITTED
 }
@@ -140,7 +140,8 @@ fn number_node(
     }
     let s = spell(e, k, param(table, i));
     let end = next + size(s);
-    images[i] = narrow(end - 1);
+    let last = end - 1;
+    images[i] = narrow(last);
     rows[i] = s.row;
     end
 }
@@ -250,8 +251,8 @@ fn emit_one(
     0
 }
 
-// Nodes lo and hi are emitted. Gives 2 where a child of lo waits, and 1 more where a child of hi does. A loop, so that `emit` is called at one
-// point and put there by the compiler.
+// Nodes lo and hi are emitted. Gives 2 where a child of lo waits, and 1 more where a child of hi does. A loop, so that `emit_one` is called at one
+// point and put there by the compiler, with `emit`.
 fn emit_two(
     table: &[u8; TABLE_BYTES],
     images: &[u16; TABLE_NODES],
@@ -265,7 +266,7 @@ fn emit_two(
 ) -> u8
     requires { ⌜ Emittable (now table) (editOf e) (now images) (now rows) (now out) a b (hi + 1) × (lo ≤ hi) ⌝ }
     ensures { λ _. ⌜ Emitting (now (table .entry)) (editOf e) (now (rows .entry)) (now (out .entry)) (now (rows .exit)) (now (out .exit)) × (getD (now (rows .exit)) lo 0 ≡ emittedRow) × (getD (now (rows .exit)) hi 0 ≡ emittedRow) ⌝ }
-    ensures { λ r. ⌜ (2 ≤ r → 0 < lo) × (r ≡ 1 → 0 < hi) × (3 ≤ r → 0 < hi) ⌝ }
+    ensures { λ r. ⌜ (2 ≤ r → 0 < lo) × (1 ≤ r → (r ≡ 2 → ⊥) → 0 < hi) ⌝ }
     ensures { λ r. ⌜ TwoEmitted (now (table .entry)) (now (rows .entry)) (now (rows .exit)) lo hi r ⌝ }
 {
     let mut c = lo;
@@ -397,7 +398,8 @@ fn emit_down(
     }
 }
 
-// The first n nodes of a table, rewritten for one edit. Gives how many nodes that makes; they are written where they fit.
+// The first n nodes of a table, rewritten for one edit. Gives how many nodes that makes. They are written where the buffer has
+// room for all of them, and else none is.
 pub fn rewrite(
     table: &[u8; TABLE_BYTES],
     n: usize,
@@ -412,7 +414,8 @@ pub fn rewrite(
     ensures { λ _. ⌜ (length (now (images .exit)) ≡ tableNodes) × (length (now (rows .exit)) ≡ tableNodes) × (length (now (out .exit)) ≡ tableBytes) ⌝ }
 {
     let made = number(table, n, e, images, rows);
-    if out.len() < NODE_BYTES * made {
+    let bytes = NODE_BYTES * made;
+    if out.len() < bytes {
         return made;
     }
     let s = spell(e, TRUE, 0);

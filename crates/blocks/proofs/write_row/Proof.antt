@@ -27,7 +27,7 @@ loop-holds : tie.Need-loop-holds Inv-loop μ-loop
 loop-holds c =
     let x = c .before .before in let s = x .before .before .before in let a = s .args in
     let n = text-size (a .s) (a .t) (omega arith) (omega arith) (x .text .ensures) (c .group .ensures .0) in
-    (omega arith, n .0, omega (arith, n .1), put-none)
+    (omega arith, n .2, omega (arith, n .0), put-none)
 
 add-put-group : tie.Need-add-put-group Inv-loop μ-loop
 add-put-group c = omega arith

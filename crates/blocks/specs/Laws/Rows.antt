@@ -121,23 +121,25 @@ module _ (s : Spelling) (t : ℕ) where
 
   module _ (g : copyCount ≤ s .row) (h : s .row < rowCount) where
     -- the text says how many nodes there are
-    pub text-size : {x : List ℕ} {n : ℕ} → x ≡ textAt (s .row) → n ≡ getD x 0 0 → (n ≤ 11) × (n ≡ size (rowSpelled s t))
+    text-count : {x : List ℕ} {n : ℕ} → x ≡ textAt (s .row) → n ≡ getD x 0 0 → (n ≡ size (codedAt (s .row - copyCount))) × (1 ≤ n) × (n ≤ 11)
     unfolding textAt
-    text-size ex en =
+    text-count ex en =
         let f = row-few (s .row - copyCount) (omega arith) in let e = en ∙ ap (λ (l : List ℕ). getD l 0 0) ex ∙ f .2 in
-        (omega arith, e ∙ sym row-size)
+        (e, omega arith, omega arith)
+
+    pub text-size : {x : List ℕ} {n : ℕ} → x ≡ textAt (s .row) → n ≡ getD x 0 0 → (n ≡ size (rowSpelled s t)) × (1 ≤ n) × (n ≤ 11)
+    text-size ex en = let c = text-count ex en in (c .0 ∙ sym row-size, c .1, c .2)
 
     -- the whole text is written
     pub row-written : {o : List ℕ} {at : ℕ} {ps x : List ℕ} {n : ℕ} {out : List ℕ} → ps ≡ paramsOf s → x ≡ textAt (s .row) → n ≡ getD x 0 0
         → Put o at (nodeIn ps at t x) n out → out ≡ puts o at 0 (emit (rowSpelled s t) at)
     unfolding textAt
     row-written {o} {at} {n = n} ep ex en w =
-        let f = row-few (s .row - copyCount) (omega arith) in let B = codedAt (s .row - copyCount) in
-        let e : n ≡ size B = en ∙ ap (λ (l : List ℕ). getD l 0 0) ex ∙ f .2 in
+        let B = codedAt (s .row - copyCount) in let c = text-count ex en in let e : n ≡ size B = c .0 in
         w .is ∙ ap (puts o at 0)
         (rw (ep, ex, e) (firsts-map (decode (paramsOf s) at t) (nodeAt (textOf B)) (size B))
         ∙ ap (map (decode (paramsOf s) at t)) (text-right (s .row - copyCount))
-        ∙ emit-filled _ at t B 1 at (omega arith) (omega arith) (omega arith)
+        ∙ emit-filled _ at t B 1 at (omega arith) (omega (arith, c .2)) (omega arith)
         ∙ ap (λ (C : Block). emit C at) (sym (row-filled at)))
 
 -- ---- what is spelled
@@ -160,7 +162,7 @@ module _ (s : Spelling) (t u : ℕ) where
       (λ q. absurd (omega arith)) (λ q. absurd (omega arith)) (λ q. absurd (omega arith)) (λ q. absurd (omega arith)) (λ r q z. absurd (omega arith))
       (s .row - copyCount) (omega arith)
 
-  pub spelled-copy : (at : ℕ) → s .row < copyCount → emit (spelled s t u) at ≡ copyOf (s .row) (s .w) t u ∷ []
+  spelled-copy : (at : ℕ) → s .row < copyCount → emit (spelled s t u) at ≡ copyOf (s .row) (s .w) t u ∷ []
   unfolding spelled copies copyOf usedBy keptBy below emit root kindNo
   spelled-copy at =
       let R = rows (s .w) (s .a) (s .b) (reverseOf s) everyWay (old t) in
@@ -178,10 +180,11 @@ sized-copy s h = record {
 }
 
 pub sized-row : (s : Spelling) {x : List ℕ} {n : ℕ} → copyCount ≤ s .row → s .row < rowCount → x ≡ textAt (s .row) → n ≡ getD x 0 0 → Sized s n
-unfolding textAt
-sized-row s g h ex en =
-    let f = row-few (s .row - copyCount) (omega arith) in let e = en ∙ ap (λ (l : List ℕ). getD l 0 0) ex ∙ f .2 in
-    record { right = λ t u. e ∙ sym (ap size (spelled-row s t u g) ∙ row-size s t); some = omega arith; few = omega arith }
+sized-row s g h ex en = record {
+  right = λ t u. text-size s t g h ex en .0 ∙ sym (ap size (spelled-row s t u g));
+  some = text-size s 0 g h ex en .1;
+  few = text-size s 0 g h ex en .2;
+}
 
 -- a copy is written
 pub copy-written : (o : List ℕ) (s : Spelling) (t u at : ℕ) {out : List ℕ} → s .row < copyCount

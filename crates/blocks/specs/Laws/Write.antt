@@ -32,7 +32,7 @@ put-bytes o i k p l r e0 e1 e2 e3 = simp (e0, e1, e2, e3, towards-suc)
 
 -- ---- one node more
 
-pub puts-snoc : (o : List ℕ) (at j : ℕ) (xs : List Node) (x : Node)
+puts-snoc : (o : List ℕ) (at j : ℕ) (xs : List Node) (x : Node)
     → puts o at j (xs ++ (x ∷ [])) ≡ put (puts o at j xs) (at + (j + length xs)) x
 unfolding puts
 puts-snoc o at j [] x = let e : j + 0 ≡ j = omega arith in rw e refl

@@ -2,7 +2,7 @@
 use mathlib.Core.Path.{_≡_, refl, _∙_, ap, subst}
 use mathlib.Core.List.{List, [], _∷_}
 use mathlib.Core.Bool.{Bool, true, false, not}
-use Prim.Native.Nat.{ℕ, suc, _+_, _*_, _≤_, _<_}
+use Prim.Native.Nat.{ℕ, suc, _+_, _*_, _/_, _≤_, _<_}
 use native.Mathlib.Omega.{arith}
 use lib.ListN.{length, getD}
 use borrow.Author.Tests.{not-false}
@@ -12,9 +12,9 @@ use Rattle.finite.specs.Laws.Below.{below-not, not-below, any-none, none-any}
 use Rattle.finite.specs.Laws.First.{first-none, first-past}
 use Rattle.semantics.specs.Table.{Node, kindOf, build, treeAt, nodeFits, nodesFit}
 use Rattle.semantics.specs.Laws.TreeAt.{blank, fits-at, tree-at}
-use Rattle.condition.specs.Bytes.{nodeAt, tableOf}
+use Rattle.condition.specs.Bytes.{nodeAt, nodes, tableOf}
 use Rattle.condition.specs.Refusal.{firstUnfit}
-use Rattle.condition.specs.Laws.Bytes.{length-table, table-at}
+use Rattle.condition.specs.Laws.Bytes.{length-nodes, length-table, nodes-at, table-at}
 
 fits-in : (xs : List Node) (i : ℕ) → ((j : ℕ) → j < length xs → nodeFits (i + j) (getD xs j blank) ≡ true) → nodesFit i xs ≡ true
 unfolding nodesFit
@@ -25,9 +25,12 @@ fits-in (x ∷ xs) i h =
     (fits-in xs (suc i) (λ j l. subst (λ (k : ℕ). nodeFits k (getD xs j blank) ≡ true) (let e : i + suc j ≡ suc i + j = omega arith in e) (h (suc j) (omega arith))))
 
 -- each node fits exactly where the table's nodes do
+pub first-fits : (S : List ℕ) (n : ℕ) → nodesFit 0 (nodes S n) ≡ true → (i : ℕ) → i < n → nodeFits i (nodeAt S i) ≡ true
+first-fits S n f i h = rw (← nodes-at S n blank i h) (fits-at (nodes S n) blank f i (omega (arith, length-nodes S n)))
+
 pub node-fits : (S : List ℕ) → nodesFit 0 (tableOf S) ≡ true → (i : ℕ) → 6 * i + 6 ≤ length S → nodeFits i (nodeAt S i) ≡ true
-node-fits S f i h =
-    subst (λ (x : Node). nodeFits i x ≡ true) (table-at S blank i h) (fits-at (tableOf S) blank f i (let e = length-table S in omega arith))
+unfolding tableOf
+node-fits S f i h = first-fits S (length S / 6) f i (omega arith)
 
 pub nodes-fit : (S : List ℕ) → ((i : ℕ) → 6 * i + 6 ≤ length S → nodeFits i (nodeAt S i) ≡ true) → nodesFit 0 (tableOf S) ≡ true
 nodes-fit S h =

@@ -129,6 +129,19 @@ module _ (i : ℕ) (x : Node) (f : nodeFits i x ≡ true) where
   inside : within i x (kindOf (x .kind)) ≡ true
   inside = and-r (below (x .kind) kinds) _ (sym (node-limits i x) ∙ f)
 
+  pub kind-known : x .kind < kinds
+  kind-known = below-out (x .kind) kinds (and-l _ _ (sym (node-limits i x) ∙ f))
+
+  -- whether its kind uses them or not
+  pub fields-low : (x .left ≤ i - 1) × (x .right ≤ i - 1)
+  unfolding within leftLimit rightLimit
+  fields-low = go (kindOf (x .kind)) (and-r (below (x .param) _) _ inside)
+    where
+      go : (k : Kind) → (below (x .left) (leftLimit k i) && below (x .right) (rightLimit k i)) ≡ true → (x .left ≤ i - 1) × (x .right ≤ i - 1)
+      go (leaf k) g = (omega (arith, below-out _ _ (and-l _ _ g)), omega (arith, below-out _ _ (and-r (below (x .left) _) _ g)))
+      go (unary k) g = (omega (arith, below-out _ _ (and-l _ _ g)), omega (arith, below-out _ _ (and-r (below (x .left) _) _ g)))
+      go (binary k) g = (omega (arith, below-out _ _ (and-l _ _ g)), omega (arith, below-out _ _ (and-r (below (x .left) _) _ g)))
+
   pub param-lower : x .param < paramLimit (kindOf (x .kind))
   unfolding within
   param-lower = below-out _ _ (and-l _ _ inside)

@@ -74,7 +74,7 @@ emit-children-returns t c =
 emit-children-emit-under-requires : (t : ℕ) → emit-children-lts.Need-emit-under-requires (emit-children-calls t) (emit-children-at t) emit-children.Post
 emit-children-emit-under-requires t c κs =
     let w = c .before .before .before .before in let h = w .before .before .before in let s = h .before .before in let m = w .emit-two .ensures in
-    (omega (arith, s .pre .0, h .higher .ensures), (emittable-then (rw (h .higher .ensures) (s .pre .1)) (m .0 .0), m .1 .0 .1 (omega arith)))
+    (omega (arith, s .pre .0, h .higher .ensures), (emittable-then (rw (h .higher .ensures) (s .pre .1)) (m .0 .0), m .1 .0 .1 (omega arith) (λ z. omega arith)))
 
 emit-children-returns-2 : (t : ℕ) → emit-children-lts.Need-returns-2 (emit-children-calls t) (emit-children-at t) emit-children.Post
 emit-children-returns-2 t c =
@@ -99,7 +99,7 @@ emit-children-returns-3 t c =
 emit-children-emit-under-requires-3 : (t : ℕ) → emit-children-lts.Need-emit-under-requires-3 (emit-children-calls t) (emit-children-at t) emit-children.Post
 emit-children-emit-under-requires-3 t c κs =
     let w = c .before .before .before .before .before in let h = w .before .before .before in let s = h .before .before in let m = w .emit-two .ensures in
-    (omega (arith, s .pre .0, h .higher .ensures), (emittable-then (rw (h .higher .ensures) (s .pre .1)) (m .0 .0), m .1 .0 .2 (omega arith)))
+    (omega (arith, s .pre .0, h .higher .ensures), (emittable-then (rw (h .higher .ensures) (s .pre .1)) (m .0 .0), m .1 .0 .1 (omega arith) (λ z. omega arith)))
 
 emit-children-emit-under-requires-4 : (t : ℕ) → emit-children-lts.Need-emit-under-requires-4 (emit-children-calls t) (emit-children-at t) emit-children.Post
 emit-children-emit-under-requires-4 t c κs =

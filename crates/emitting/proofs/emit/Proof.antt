@@ -73,7 +73,7 @@ image-requires-3 : tie.Need-image-requires-3
 image-requires-3 c κs =
     let i = c .before .before .before .before .before .before in let m = i .before .before .before .before in
     let s = m .before .before .before .before .before in
-    omega (arith, s .pre .numbered .most, right-low _ (s .pre) (c .right .ensures .0))
+    omega (arith, s .pre .numbered .most, left-low _ (s .pre) (i .before .left .ensures .0), right-low _ (s .pre) (c .right .ensures .0))
 
 waits-requires-2 : tie.Need-waits-requires-2
 waits-requires-2 c κs =

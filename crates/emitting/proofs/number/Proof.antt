@@ -1,10 +1,10 @@
 -- The nodes below i have their images and rows, and next is the start of the next block.
 use Prim.Native.Nat.{_-_, _≤_}
 use native.Mathlib.Omega.{arith}
-use Rattle.condition.specs.Bytes.{nodeAt}
 use Rattle.sheet.specs.Bytes.{editOf}
 use Rattle.emitting.specs.State.{Numbering}
-use Rattle.emitting.specs.Laws.Fits.{nodes-fit, kind-known}
+use Rattle.condition.specs.Laws.Limits.{kind-known}
+use Rattle.condition.specs.Laws.Fits.{first-fits}
 use Rattle.emitting.specs.Laws.Numbered.{numbering-none, numbering-ended}
 use Rattle.emitting.proofs.number.Statement.{statement}
 use Rattle.emitting.proofs.number.Tie as tie
@@ -27,7 +27,7 @@ loop-holds c = let p = c .before .before .pre .0 in (omega arith, numbering-none
 number-node-requires : tie.Need-number-node-requires Inv-loop μ-loop
 number-node-requires c κs =
     let t = c .before .before in let l = t .before in let k = l .before in let s = k .before .before in let p = s .pre in
-    let i = l .loop .i in let f = nodes-fit (s .args .table .now) (s .args .n) (p .1 .1) i (t .loop-test .taken) in
+    let i = l .loop .i in let f = first-fits (s .args .table .now) (s .args .n) (p .1 .1) i (t .loop-test .taken) in
     ((l .loop .inv .1, p .0 .0, omega (arith, p .0 .1, t .loop-test .taken), kind-known i _ f), (k .before .first-kind .ensures, k .end-kind .ensures, p .1 .0))
 
 add-i : tie.Need-add-i Inv-loop μ-loop

@@ -49,8 +49,8 @@ size-requires c κs = c .spell .ensures .known
 add-end : tie.Need-add-end
 add-end c = let s = c .before .before .before .before .before .before .before .before in omega (arith, c .size .ensures .few, s .pre .0 .0 .small)
 
-sub-narrow : tie.Need-sub-narrow
-sub-narrow c = omega (arith, c .size .ensures .some)
+sub-last : tie.Need-sub-last
+sub-last c = omega (arith, c .size .ensures .some)
 
 narrow-requires-2 : tie.Need-narrow-requires-2
 narrow-requires-2 c κs = let s = c .before .before .before .before .before .before .before .before in omega (arith, c .size .ensures .few, s .pre .0 .0 .small)
@@ -85,7 +85,7 @@ number-node-spec =
     spell-requires
     size-requires
     add-end
-    sub-narrow
+    sub-last
     narrow-requires-2
     mul-images-2
     element-write-images-2

@@ -1,7 +1,7 @@
 -- The first pass, and the second where there is room for its blocks.
 use mathlib.Core.Path.{_∙_}
 use native.Mathlib.Omega.{arith}
-use Rattle.emitting.specs.Laws.Fits.{nodes-fit}
+use Rattle.condition.specs.Laws.Fits.{first-fits}
 use Rattle.emitting.specs.Laws.Emitted.{counted, none-written}
 use Rattle.emitting.proofs.rewrite.Statement.{statement}
 use Rattle.emitting.proofs.rewrite.Tie as tie
@@ -9,8 +9,8 @@ use Rattle.emitting.proofs.rewrite.Tie as tie
 number-requires : tie.Need-number-requires
 number-requires c κs = let p = c .before .before .pre in ((p .0 .0, p .0 .1, p .0 .2, p .0 .3), p .1)
 
-mul-if1 : tie.Need-mul-if1
-mul-if1 c = omega (arith, c .number .ensures .numbered .few, c .number .ensures .here)
+mul-bytes : tie.Need-mul-bytes
+mul-bytes c = omega (arith, c .number .ensures .numbered .few, c .number .ensures .here)
 
 returns : tie.Need-returns
 returns c =
@@ -26,7 +26,7 @@ emit-down-requires c κs =
     let m = n .number .ensures in let p = s .pre in (
       record {
         whole = p .0 .0;
-        fits = nodes-fit (s .args .table .now) (s .args .n) (p .1 .1);
+        fits = first-fits (s .args .table .now) (s .args .n) (p .1 .1);
         numbered = m .numbered;
         rowed = m .rowed;
         first = x .spell .ensures .first;
@@ -43,4 +43,4 @@ returns-2 c =
     ((counted m, d .0), (m .numbered .size, d .1 .0, d .1 .1 ∙ s .pre .0 .4))
 
 pub rewrite-spec : {M : Type 1} → statement M
-rewrite-spec = tie.close (tie.spec number-requires mul-if1 returns spell-requires emit-down-requires returns-2)
+rewrite-spec = tie.close (tie.spec number-requires mul-bytes returns spell-requires emit-down-requires returns-2)

@@ -2,7 +2,7 @@
 use mathlib.Core.Path.{_≡_, refl, sym, _∙_, ap, subst}
 use mathlib.Core.List.{List}
 use mathlib.Core.Logic.{_⊎_, inl, inr}
-use mathlib.Core.Bool.{Bool, true, false, _||_, not}
+use mathlib.Core.Bool.{Bool, true, false, _||_}
 use Prim.Native.Nat.{ℕ, _+_, _*_, _-_, _≤_, _<_}
 use native.Mathlib.Omega.{arith}
 use lib.ListN.{length, getD, set}
@@ -13,7 +13,7 @@ use Rattle.finite.specs.Laws.Below.{equal?}
 use Rattle.semantics.specs.Edit.{Edit}
 use Rattle.condition.specs.Bytes.{nodeAt}
 use Rattle.limits.specs.Limits.{notNo, orNo, diaNo, slotNo}
-use Rattle.emitting.specs.State.{usedChild, leftAt, rightAt, emittedRow, Emitting, ChildrenEmitted, Deep, OneEmitted, TwoEmitted}
+use Rattle.emitting.specs.State.{usedChild, leftAt, rightAt, emittedRow, Tells, Emitting, ChildrenEmitted, Deep, OneEmitted, TwoEmitted}
 
 -- ---- one node
 
@@ -24,7 +24,7 @@ pub one-then : {s rows rows′ : List ℕ} {c : ℕ} {A B : Type 0} → OneEmitt
 one-then O f = record { only = λ j n p. (O .only j n p .0, either (O .only j n p .1) inl (λ a. inr (f a))) }
 
 -- node c's row is changed, and what is known of its children
-pub one-set : {s rows rows′ : List ℕ} {c : ℕ} {A : Type 0} → rows′ ≡ set rows c emittedRow → ChildrenEmitted s rows′ c ⊎ A → OneEmitted s rows rows′ c A
+one-set : {s rows rows′ : List ℕ} {c : ℕ} {A : Type 0} → rows′ ≡ set rows c emittedRow → ChildrenEmitted s rows′ c ⊎ A → OneEmitted s rows rows′ c A
 one-set {s} {rows} {rows′} {c} {A} e K = record {
   only = λ j n p.
       either
@@ -93,14 +93,6 @@ none-owed T h = record {
 
 -- ---- one node, by what waits
 
-pub not-off : {b : Bool} → not b ≡ false → b ≡ true
-not-off {b = true} h = refl
-not-off {b = false} h = sym h
-
-pub not-on : {b : Bool} → not b ≡ true → b ≡ false
-not-on {b = true} h = sym h
-not-on {b = false} h = refl
-
 -- a field is emitted, and so is the child, where the kind uses it
 there : (rows : List ℕ) (lo hi k c i : ℕ) → getD rows c 0 ≡ emittedRow → usedChild lo hi k c i < i → getD rows (usedChild lo hi k c i) 0 ≡ emittedRow
 there rows lo hi k c i h =
@@ -121,12 +113,9 @@ pub below-both : {s rows : List ℕ} {i l r : ℕ} → l ≡ nodeAt s i .left �
     → getD rows r 0 ≡ emittedRow → ChildrenEmitted s rows i
 below-both {s} {rows} {i} el er a b = record { left = left-there s rows i el a; right = right-there s rows i er b }
 
--- what tells whether node l waits
-abbrev Tells : List ℕ → ℕ → Bool → Type 0
-Tells rows l b = (b ≡ false → getD rows l 0 ≡ emittedRow) × (b ≡ true → getD rows l 0 ≡ emittedRow → ⊥)
-
-above : (rows : List ℕ) {rows′ : List ℕ} {c l : ℕ} {b : Bool} → rows′ ≡ set rows c emittedRow → c < length rows → Tells rows′ l b → l ≤ c - 1 → b ≡ true → 0 < c
-above rows {rows′} {c} {l} e i t h q =
+-- a node whose child waits is not the first one: the first one is its own field, and is emitted
+not-first : (rows : List ℕ) {rows′ : List ℕ} {c l : ℕ} {b : Bool} → rows′ ≡ set rows c emittedRow → c < length rows → Tells rows′ l b → l ≤ c - 1 → b ≡ true → 0 < c
+not-first rows {rows′} {c} {l} e i t h q =
     either
     (equal? c 0)
     (λ z. let g : l ≡ c = omega arith in absurd (t .1 q (rw (g, e) (getD-set-same rows c emittedRow 0 i))))
@@ -142,7 +131,7 @@ module _ {s rows rows′ : List ℕ} {c : ℕ} (e : rows′ ≡ set rows c emitt
       → OneEmitted s rows rows′ c (left ≡ true) × (left ≡ true → 0 < c)
   one-waits {l} {left} el t b h = (
     one-set e (either (look left) inr (λ q. inl (record { left = left-there s rows′ c el (t .0 q); right = λ g. absurd (omega (arith, h)) }))),
-    above rows e i t b,
+    not-first rows e i t b,
   )
 
   pub two-wait : {l r : ℕ} {left right : Bool} → l ≡ nodeAt s c .left → Tells rows′ l left → l ≤ c - 1 → r ≡ nodeAt s c .right → Tells rows′ r right
@@ -150,5 +139,5 @@ module _ {s rows rows′ : List ℕ} {c : ℕ} (e : rows′ ≡ set rows c emitt
   two-wait {l} {r} {left} {right} el t b er u d = (
     one-set e (either (look left) (λ q. inr (rw q refl))
         (λ q. either (look right) (λ z. inr (rw (q, z) refl)) (λ z. inl (below-both el er (t .0 q) (u .0 z))))),
-    λ q. either (or-out left right q) (above rows e i t b) (above rows e i u d),
+    λ q. either (or-out left right q) (not-first rows e i t b) (not-first rows e i u d),
   )

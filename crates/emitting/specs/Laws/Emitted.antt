@@ -18,6 +18,7 @@ use Rattle.semantics.specs.Block.{Block, old, size, emit, block, rewriteTable}
 use Rattle.semantics.specs.Laws.Emit.{emit-length}
 use Rattle.condition.specs.Bytes.{nodeAt, nodes, bytesOf}
 use Rattle.condition.specs.Laws.Bytes.{length-bytes}
+use Rattle.condition.specs.Laws.Limits.{fields-low}
 use Rattle.limits.specs.Limits.{notNo, orNo, diaNo, slotNo, kinds}
 use Rattle.spelling.specs.declared.Spelling.{Spelling}
 use Rattle.spelling.specs.Rows.{rowCount}
@@ -25,10 +26,10 @@ use Rattle.spelling.specs.Spelling.{spelled, Spells, Sized, keptBy, usedBy, cop
 use Rattle.blocks.specs.Laws.Rows.{sized-copy, copy-written}
 use Rattle.blocks.specs.Write.{put, puts, TableWritten}
 use Rattle.blocks.specs.Laws.Write.{length-puts}
-use Rattle.emitting.specs.State.{blockIn, step, stateAt, leftAt, rightAt, startOf, startIn, Numbered, Numbering, emittedRow, spellingOf, NoneEmitted, Emittable, Stands, Emitting, lowerOf, higherOf, OneEmitted, TwoEmitted}
+use Rattle.emitting.specs.State.{blockIn, step, stateAt, leftAt, rightAt, mostMade, startOf, startIn, Numbered, Numbering, emittedRow, spellingOf, NoneEmitted, Emittable, Stands, Emitting, lowerOf, higherOf, OneEmitted, TwoEmitted}
 use Rattle.emitting.specs.Laws.State.{state-out}
 use Rattle.emitting.specs.Laws.Numbered.{blockAt, start-more, starts-up, start-is, numbered-low, start-none, image-is, image-small, image-last, rowed-low}
-use Rattle.emitting.specs.Laws.Fits.{fields-low, first-leaf}
+use Rattle.emitting.specs.Laws.Fits.{first-leaf}
 use Rattle.emitting.specs.Laws.Shapes.{leaf-alone, one-alone}
 use Rattle.emitting.specs.Laws.Deep.{one-none, one-more, two-more}
 use Rattle.emitting.specs.Laws.Puts.{puts-low, puts-high, puts-in, bytes-append}
@@ -134,6 +135,9 @@ emittable-low {s} {e} {n = n} Y i h = record {
   room = omega (arith, starts-up e s i n h, Y .room);
 }
 
+pub in-rows : {s : List ℕ} {e : Edit} {images rows out : List ℕ} {a b : ℕ} (c : ℕ) → Emittable s e images rows out a b (c + 1) → c < length rows
+in-rows c Y = omega (arith, Y .rowed .size, Y .numbered .most)
+
 -- node c is not emitted: its row, its parameter and the edit's numbers spell its block
 module _ {s : List ℕ} {e : Edit} {images rows out : List ℕ} {a b : ℕ} (c : ℕ) (Y : Emittable s e images rows out a b (c + 1)) {row p : ℕ}
     (er : row ≡ getD rows c 0) (ne : row ≡ emittedRow → ⊥) (ep : p ≡ nodeAt s c .param) where
@@ -175,7 +179,7 @@ module _ {s : List ℕ} {e : Edit} {images rows out : List ℕ} {a b : ℕ} (c :
         let at : m ≡ startOf e s c = em ∙ start-is (Y .numbered) c (omega arith) in
         let w : out′ ≡ puts out (startOf e s c) 0 (emit (blockAt e s c) (startOf e s c)) =
         eo ∙ ap₂ (λ (B : Block) (i : ℕ). puts out i 0 (emit B i)) block-here at in
-        let i : c < length rows = omega (arith, Y .rowed .size, Y .numbered .most) in
+        let i = in-rows c Y in
         let f : 6 * startOf e s (suc c) ≤ length out = subst (λ (n : ℕ). 6 * startOf e s n ≤ length out) (add-one c) (Y .room) in
         rw e′ (emitting-one s e out c out′ w rows i f, getD-set-same rows c emittedRow 0 i)
 
@@ -191,11 +195,8 @@ module _ {s : List ℕ} {e : Edit} {images rows out : List ℕ} {a b : ℕ} (c :
 
 -- where node c's block stands, and the images of its fields
 module _ {s : List ℕ} {e : Edit} {images rows out : List ℕ} {a b : ℕ} (c : ℕ) (Y : Emittable s e images rows out a b (c + 1)) where
-  pub start-small : startIn images c ≤ 22528
+  pub start-small : startIn images c ≤ mostMade
   start-small = omega (arith, start-is (Y .numbered) c (omega arith), starts-up e s c (c + 1) (omega arith), Y .numbered .few)
-
-  pub in-rows : c < length rows
-  in-rows = omega (arith, Y .rowed .size, Y .numbered .most)
 
   pub image-room : {m : ℕ} → m ≡ getD images c 0 → 6 * m + 6 ≤ length out
   image-room q = omega (arith, image-small (Y .numbered) c (omega arith) q, Y .room)
@@ -206,10 +207,10 @@ module _ {s : List ℕ} {e : Edit} {images rows out : List ℕ} {a b : ℕ} (c :
   pub right-low : {r : ℕ} → r ≡ nodeAt s c .right → r ≤ c - 1
   right-low q = omega (arith, fields-low c (nodeAt s c) (Y .fits c (omega arith)) .1)
 
-  pub left-small : {l t : ℕ} → l ≡ nodeAt s c .left → t ≡ getD images l 0 → t < 22528
+  pub left-small : {l t : ℕ} → l ≡ nodeAt s c .left → t ≡ getD images l 0 → t < mostMade
   left-small {l} q z = omega (arith, image-small (Y .numbered) l (omega (arith, left-low q)) z, Y .numbered .few)
 
-  pub right-small : {r u : ℕ} → r ≡ nodeAt s c .right → u ≡ getD images r 0 → u < 22528
+  pub right-small : {r u : ℕ} → r ≡ nodeAt s c .right → u ≡ getD images r 0 → u < mostMade
   right-small {r} q z = omega (arith, image-small (Y .numbered) r (omega (arith, right-low q)) z, Y .numbered .few)
 
 -- ---- copies, written at once
@@ -266,8 +267,7 @@ pub record EmittedOfTwo (s : List ℕ) (e : Edit) (rows out : List ℕ) (lo hi :
   pub hi-emitted : 2 ≤ done → getD rows′ hi 0 ≡ emittedRow
   pub lo-next : done ≡ 1 → 1 ≤ waiting → 0 < lo
   pub lo-waits : 2 ≤ done → 2 ≤ waiting → 0 < lo
-  pub hi-alone : 2 ≤ done → waiting ≡ 1 → 0 < hi
-  pub hi-too : 2 ≤ done → 3 ≤ waiting → 0 < hi
+  pub hi-waits : 2 ≤ done → 1 ≤ waiting → (waiting ≡ 2 → ⊥) → 0 < hi
   pub lo-owed : done ≤ 1 → OneEmitted s rows rows′ lo (1 ≤ waiting)
   pub owed : 2 ≤ done → TwoEmitted s rows rows′ lo hi waiting
 
@@ -282,8 +282,7 @@ of-two-none = record {
   hi-emitted = λ h. absurd (omega arith);
   lo-next = λ h. absurd (omega arith);
   lo-waits = λ h. absurd (omega arith);
-  hi-alone = λ h. absurd (omega arith);
-  hi-too = λ h. absurd (omega arith);
+  hi-waits = λ h. absurd (omega arith);
   lo-owed = λ h. one-none;
   owed = λ h. absurd (omega arith);
 }
@@ -309,8 +308,7 @@ of-two-more {s} {e} {rows} {out} {rows₁} {out₁} {rows₂} {out₂} {lo} {hi}
       hi-emitted = λ h. let e₁ : done ≡ 1 = omega arith in subst (λ (m : ℕ). getD rows₂ m 0 ≡ emittedRow) (at e₁) (P .1);
       lo-next = λ h g. let z : done ≡ 0 = omega arith in omega (arith, T .first z, q .1 (omega (arith, q .0)));
       lo-waits = λ h g. T .lo-next (omega arith) (omega (arith, q .0));
-      hi-alone = λ h g. let e₁ : done ≡ 1 = omega arith in omega (arith, at e₁, q .1 (omega (arith, q .0)));
-      hi-too = λ h g. let e₁ : done ≡ 1 = omega arith in omega (arith, at e₁, q .1 (omega (arith, q .0)));
+      hi-waits = λ h g n. let e₁ : done ≡ 1 = omega arith in omega (arith, at e₁, q .1 (let f : (2 * waiting + r ≡ 2 → ⊥) = n in omega (arith, q .0)));
       lo-owed = λ h. one-more (T .lo-owed (omega arith)) (P .0) (q .2) (T .first (omega arith));
       owed = λ h. two-more (T .lo-owed (omega arith)) (P .0) (q .2) (T .then (omega arith));
     }
@@ -323,8 +321,8 @@ next-low {done = done} T h = either (equal? done 0) (λ z. omega (arith, T .firs
 -- after both
 pub both-of-two : {s : List ℕ} {e : Edit} {rows out rows′ out′ : List ℕ} {lo hi c waiting done : ℕ} → EmittedOfTwo s e rows out lo hi rows′ out′ c waiting done
     → 2 ≤ done → (Emitting s e rows out rows′ out′ × (getD rows′ lo 0 ≡ emittedRow) × (getD rows′ hi 0 ≡ emittedRow))
-    × (((2 ≤ waiting → 0 < lo) × (waiting ≡ 1 → 0 < hi) × (3 ≤ waiting → 0 < hi)) × TwoEmitted s rows rows′ lo hi waiting)
-both-of-two T h = ((T .emitting, T .lo-emitted (omega arith), T .hi-emitted h), ((T .lo-waits h, T .hi-alone h, T .hi-too h), T .owed h))
+    × (((2 ≤ waiting → 0 < lo) × (1 ≤ waiting → (waiting ≡ 2 → ⊥) → 0 < hi)) × TwoEmitted s rows rows′ lo hi waiting)
+both-of-two T h = ((T .emitting, T .lo-emitted (omega arith), T .hi-emitted h), ((T .lo-waits h, T .hi-waits h), T .owed h))
 
 -- both children are emitted, whichever is the lower, and then more nodes
 pub children : {s : List ℕ} {e : Edit} {rows out rows₁ out₁ rows₂ out₂ : List ℕ} (l r : ℕ) {lo hi : ℕ} → lo ≡ lowerOf l r → hi ≡ higherOf l r
@@ -391,7 +389,7 @@ all-written {s} {e} {rows} {out} {rows′} {out′} {n} P N D =
     subst (λ (xs : List Node). TableWritten out′ xs) (state-out e s n)
     (state-written s e out′ n (λ j g. P .stand j (N j g) (D j (omega arith) g)))
 
--- how many nodes there are; and nothing is said of a table that does not fit
+-- how many nodes there are; and nothing is said of them where the buffer has no room
 pub counted : {s : List ℕ} {e : Edit} {images rows : List ℕ} {n r : ℕ} → Numbering s e images rows n r → r ≡ length (rewriteTable e (nodes s n))
 unfolding startOf
 counted {s} {e} {n = n} N = N .here ∙ ap length (state-out e s n)
