@@ -21,7 +21,7 @@ ghost use Rattle.blocks.specs.Write.{put, puts};
 // How many rows copy a node: one for each kind, which has the kind's number.
 const COPIES: u8 = SLOT + 1;
 
-// A text has a group of four hexadecimal digits for the number of its nodes, which are 11 at most, and one for each node.
+// How many groups a text has: one for the number of its nodes, and one for each of them, which are 11 at most.
 const TEXT_GROUPS: usize = 12;
 
 // The texts of the rows that do not copy, twelve groups of four hexadecimal digits: how many nodes there are, and then for each node its kind, its

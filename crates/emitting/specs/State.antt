@@ -66,7 +66,6 @@ mostMade = 22528
 -- the nodes below n have numbers: their images stand in a buffer
 pub record Numbered (s : List ℕ) (e : Edit) (images : List ℕ) (n : ℕ) : Type 0 where
   pub size : length images ≡ tableNodes
-  pub some : 6 * n ≤ length s
   pub most : n ≤ tableNodes
   pub imaged : (j : ℕ) → j < n → getD images j 0 ≡ imageOf e s j
   pub few : startOf e s n ≤ mostMade

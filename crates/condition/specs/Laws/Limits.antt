@@ -123,6 +123,13 @@ right-limit i =
     each-kind _ refl refl refl refl refl refl refl refl refl refl refl refl
     (λ k h. rw (kind-past k h, le-ltb k orNo (omega arith), le-ltb k diaNo (omega arith)) refl)
 
+-- a field is below i, or is not used and below 1
+limits-low : (i : ℕ) (k : Kind) → (leftLimit k i ≤ suc (i - 1)) × (rightLimit k i ≤ suc (i - 1))
+unfolding leftLimit rightLimit
+limits-low i (leaf k) = (omega arith, omega arith)
+limits-low i (unary k) = (omega arith, omega arith)
+limits-low i (binary k) = (omega arith, omega arith)
+
 -- ---- what a node that fits has: children that are lower, and a parameter below its kind's bound
 
 module _ (i : ℕ) (x : Node) (f : nodeFits i x ≡ true) where
@@ -134,13 +141,10 @@ module _ (i : ℕ) (x : Node) (f : nodeFits i x ≡ true) where
 
   -- whether its kind uses them or not
   pub fields-low : (x .left ≤ i - 1) × (x .right ≤ i - 1)
-  unfolding within leftLimit rightLimit
-  fields-low = go (kindOf (x .kind)) (and-r (below (x .param) _) _ inside)
-    where
-      go : (k : Kind) → (below (x .left) (leftLimit k i) && below (x .right) (rightLimit k i)) ≡ true → (x .left ≤ i - 1) × (x .right ≤ i - 1)
-      go (leaf k) g = (omega (arith, below-out _ _ (and-l _ _ g)), omega (arith, below-out _ _ (and-r (below (x .left) _) _ g)))
-      go (unary k) g = (omega (arith, below-out _ _ (and-l _ _ g)), omega (arith, below-out _ _ (and-r (below (x .left) _) _ g)))
-      go (binary k) g = (omega (arith, below-out _ _ (and-l _ _ g)), omega (arith, below-out _ _ (and-r (below (x .left) _) _ g)))
+  unfolding within
+  fields-low =
+      let b = and-r (below (x .param) _) _ inside in let m = limits-low i (kindOf (x .kind)) in
+      (omega (arith, m .0, below-out _ _ (and-l _ _ b)), omega (arith, m .1, below-out _ _ (and-r (below (x .left) _) _ b)))
 
   pub param-lower : x .param < paramLimit (kindOf (x .kind))
   unfolding within

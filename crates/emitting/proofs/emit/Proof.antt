@@ -3,7 +3,7 @@ use native.Mathlib.Omega.{arith}
 use mathlib.Core.Path.{refl}
 use Rattle.finite.specs.Laws.Bools.{clash}
 use Rattle.emitting.specs.Laws.Deep.{one-none, one-leaf, one-waits, two-wait}
-use Rattle.emitting.specs.Laws.Emitted.{emitting-none, row-known, leaf-here, one-here, start-small, image-room, left-low, right-low, left-small, right-small, in-rows, block-room, emitted, emitted-leaf, emitted-one, emitted-two}
+use Rattle.emitting.specs.Laws.Emitted.{emitting-none, row-known, leaf-here, one-here, start-small, image-room, left-low, right-low, field-small, in-rows, block-room, emitted, emitted-leaf, emitted-one, emitted-two}
 use Rattle.emitting.proofs.emit.Statement.{statement}
 use Rattle.emitting.proofs.emit.Tie as tie
 
@@ -53,7 +53,7 @@ one-child-requires c κs = tt
 put-node-requires-2 : tie.Need-put-node-requires-2
 put-node-requires-2 c κs =
     let i = c .before .before .before .before .before in let m = i .before .before .before .before in let s = m .before .before .before .before .before in
-    omega (arith, s .pre .room, image-room _ (s .pre) (m .image .ensures .0), left-small _ (s .pre) (i .before .left .ensures .0) (i .image2 .ensures .0))
+    omega (arith, s .pre .room, image-room _ (s .pre) (m .image .ensures .0), field-small _ (s .pre) (left-low _ (s .pre) (i .before .left .ensures .0)) (i .image2 .ensures .0))
 
 returns-3 : tie.Need-returns-3
 returns-3 c =
@@ -88,8 +88,8 @@ put-node-requires-3 : tie.Need-put-node-requires-3
 put-node-requires-3 c κs =
     let j = c .before .before .before .before .before in let i = j .before .before .before .before .before .before .before in
     let m = i .before .before .before .before in let s = m .before .before .before .before .before in
-    let l = left-small _ (s .pre) (i .before .left .ensures .0) (i .image2 .ensures .0) in
-    let r = right-small _ (s .pre) (j .before .right .ensures .0) (j .image3 .ensures .0) in
+    let l = field-small _ (s .pre) (left-low _ (s .pre) (i .before .left .ensures .0)) (i .image2 .ensures .0) in
+    let r = field-small _ (s .pre) (right-low _ (s .pre) (j .before .right .ensures .0)) (j .image3 .ensures .0) in
     omega (arith, s .pre .room, image-room _ (s .pre) (m .image .ensures .0))
 
 returns-4 : tie.Need-returns-4
@@ -113,7 +113,7 @@ write-requires c κs =
     let m = i .before .before .before .before in let p = m .before in let q = p .before .before in let s = q .before .before in
     let l = i .before .left .ensures .0 in let r = j .before .right .ensures .0 in
     let t = i .image2 .ensures .0 in let u = j .image3 .ensures .0 in (
-      (row-known _ (s .pre) refl (q .if1 .left) (p .param .ensures), omega (arith, c .start .ensures, start-small _ (s .pre)), omega (arith, left-small _ (s .pre) l t), omega (arith, right-small _ (s .pre) r u)),
+      (row-known _ (s .pre) refl (q .if1 .left) (p .param .ensures), omega (arith, c .start .ensures, start-small _ (s .pre)), omega (arith, field-small _ (s .pre) (left-low _ (s .pre) l) t), omega (arith, field-small _ (s .pre) (right-low _ (s .pre) r) u)),
       block-room _ (s .pre) refl (q .if1 .left) (p .param .ensures) l r t u (c .start .ensures),
     )
 

@@ -35,7 +35,7 @@ returns c =
     let d = c .before .before in let k = d .before in let s = k .before .before in let p = s .pre .0 in let o = s .pre .1 in
     let w = nodeAt (s .args .table .now) (s .args .i) .param in
     let S = kept {e = editOf (s .args .e)} {k = k .kind .result} w (omega (arith, k .kind .ensures, p .3)) (λ h. omega (arith, o .1, d .copied .ensures (c .before .if1 .taken) (omega (arith, o .0)))) in
-    numbering-more (p .0) (p .2) (omega (arith, p .1, p .2)) (k .kind .ensures) refl S (sized-copy _ (omega arith)) (omega (arith, c .narrow .ensures))
+    numbering-more (p .0) (p .2) (k .kind .ensures) refl S (sized-copy _ (omega arith)) (omega (arith, c .narrow .ensures))
 
 param-requires : tie.Need-param-requires
 param-requires c κs = omega arith
@@ -67,7 +67,7 @@ element-write-rows-2 c = let z = c .before in let s = z .before .before .before 
 returns-2 : tie.Need-returns-2
 returns-2 c =
     let z = c .before in let x = z .before in let q = x .before in let k = q .before .before .before .before in let s = k .before .before in let p = s .pre .0 in
-    numbering-more (p .0) (p .2) (omega (arith, p .1, p .2)) (k .kind .ensures) (q .param .ensures) (x .spell .ensures) (z .size .ensures) (c .narrow2 .ensures)
+    numbering-more (p .0) (p .2) (k .kind .ensures) (q .param .ensures) (x .spell .ensures) (z .size .ensures) (c .narrow2 .ensures)
 
 pub number-node-spec : {M : Type 1} → statement M
 number-node-spec =

@@ -207,11 +207,8 @@ module _ {s : List ℕ} {e : Edit} {images rows out : List ℕ} {a b : ℕ} (c :
   pub right-low : {r : ℕ} → r ≡ nodeAt s c .right → r ≤ c - 1
   right-low q = omega (arith, fields-low c (nodeAt s c) (Y .fits c (omega arith)) .1)
 
-  pub left-small : {l t : ℕ} → l ≡ nodeAt s c .left → t ≡ getD images l 0 → t < mostMade
-  left-small {l} q z = omega (arith, image-small (Y .numbered) l (omega (arith, left-low q)) z, Y .numbered .few)
-
-  pub right-small : {r u : ℕ} → r ≡ nodeAt s c .right → u ≡ getD images r 0 → u < mostMade
-  right-small {r} q z = omega (arith, image-small (Y .numbered) r (omega (arith, right-low q)) z, Y .numbered .few)
+  pub field-small : {l t : ℕ} → l ≤ c - 1 → t ≡ getD images l 0 → t < mostMade
+  field-small {l} q z = omega (arith, image-small (Y .numbered) l (omega arith) z, Y .numbered .few)
 
 -- ---- copies, written at once
 

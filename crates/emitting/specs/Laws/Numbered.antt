@@ -62,7 +62,6 @@ numbered-none : (s : List ℕ) (e : Edit) (images : List ℕ) → length images 
 unfolding startOf stateAt
 numbered-none s e images h = record {
   size = h;
-  some = omega arith;
   most = omega arith;
   imaged = λ j q. absurd (not-suc-le-zero q);
   few = omega arith;
@@ -83,12 +82,11 @@ module _ {s : List ℕ} {e : Edit} {images : List ℕ} {n : ℕ} (N : Numbered s
       er _ _ ∙ ap₂ (λ (x y : ℕ). size (block e (kindOf x) y (old (getD (stateAt e s n .images) (nodeAt s n .left) 0)) (old (getD (stateAt e s n .images) (nodeAt s n .right) 0)))) ek ep in
       rw add-one (omega (arith, start-more e s n))
 
-  numbered-more : n < tableNodes → 6 * n + 6 ≤ length s → r ≤ 11 → next ≤ 11 * n → (v : ℕ) → v ≡ next + r - 1 → Numbered s e (set images n v) (n + 1)
-  numbered-more h f l m v ev =
+  numbered-more : n < tableNodes → r ≤ 11 → next ≤ 11 * n → (v : ℕ) → v ≡ next + r - 1 → Numbered s e (set images n v) (n + 1)
+  numbered-more h l m v ev =
       let here : v ≡ imageOf e s n = omega (arith, image-last e s n, next-start, ap (startOf e s) (add-one n)) in
       record {
         size = length-set images n v ∙ N .size;
-        some = omega arith;
         most = omega arith;
         imaged = λ j q.
             either
@@ -149,7 +147,6 @@ rowed-low R i h = record { size = R .size; spells = λ j q. R .spells j (omega a
 pub numbered-low : {s : List ℕ} {e : Edit} {images : List ℕ} {n : ℕ} → Numbered s e images n → (i : ℕ) → i ≤ n → Numbered s e images i
 numbered-low {s} {e} {images} {n} N i h = record {
   size = N .size;
-  some = omega (arith, N .some);
   most = omega (arith, N .most);
   imaged = λ j q. N .imaged j (omega arith);
   few = omega (arith, N .few, starts-up e s i n h);
@@ -175,13 +172,13 @@ numbering-none {s} {e} {images} {rows} h g = record {
 
 -- one node more: the spelling x of its block, which has r nodes, and its image v
 pub numbering-more : {s : List ℕ} {e : Edit} {images rows : List ℕ} {n next k p r v : ℕ} {x : Spelling} → Numbering s e images rows n next → n < tableNodes
-    → 6 * n + 6 ≤ length s → k ≡ nodeAt s n .kind → p ≡ nodeAt s n .param → Spells e k p x → Sized x r → v ≡ next + r - 1
+    → k ≡ nodeAt s n .kind → p ≡ nodeAt s n .param → Spells e k p x → Sized x r → v ≡ next + r - 1
     → Numbering s e (set images n v) (set rows n (x .row)) (n + 1) (next + r)
-numbering-more {s} {e} {images} {rows} {n} {next} {k} {p} {r} {v} N h f ek ep S Z ev =
+numbering-more {s} {e} {images} {rows} {n} {next} {k} {p} {r} {v} N h ek ep S Z ev =
     let er : (t u : ℕ) → r ≡ size (block e (kindOf k) p (old t) (old u)) = λ t u. Z .right t u ∙ ap size (S .right t u) in
     let R = rowed-more (N .rowed, N .none) h ek ep (by-row S) in
     record {
-      numbered = numbered-more (N .numbered) k p next r ek ep (N .here) er h f (Z .few) (N .small) v ev;
+      numbered = numbered-more (N .numbered) k p next r ek ep (N .here) er h (Z .few) (N .small) v ev;
       rowed = R .0;
       none = R .1;
       here = next-start (N .numbered) k p next r ek ep (N .here) er;
