@@ -11,7 +11,7 @@ use Rattle.verdict.specs.declared.Verdict.the-variants.{Accepted}
 use Rattle.refusals.specs.Refusal.{lastItem}
 use Rattle.list_entry.specs.Listing.{ListAfter}
 use Rattle.apply_entry.specs.Applying.{SiteAfter}
-use Rattle.rewriting.specs.Rewriting.{TableAfter}
+use Rattle.rewriting.specs.Rewriting.{TableAfter, rewritten}
 use Rattle.classes_entry.specs.Classing.{ClassesAfter}
 use Rattle.trailer.specs.Pieces.{siteIn, conditionIn, sheetIn}
 use Rattle.job_run.specs.Buffers.{Buffers}
@@ -67,7 +67,7 @@ Demand1Apply =
 unfoldable pub Demand1Rewrite : Type 0
 Demand1Rewrite =
     (table sheet result result′ : List ℕ) (reason fault n : ℕ) → ReturnedRewrite table sheet result result′ reason fault n
-    → Answers reason fault (TableAfter Accepted table sheet result result′ n) (Zeroed result result′ × (n ≡ 0))
+    → Answers reason fault (TableAfter Accepted (rewritten table sheet) result result′ n) (Zeroed result result′ × (n ≡ 0))
 
 unfoldable pub Demand1Classes : Type 0
 Demand1Classes =

@@ -10,8 +10,10 @@ use Rattle.list_entry.specs.Refusal.{listVerdict}
 use Rattle.list_entry.specs.Listing.{ListAfter}
 use Rattle.apply_entry.specs.Refusal.{applyVerdict}
 use Rattle.apply_entry.specs.Applying.{SiteAfter}
-use Rattle.rewrite_entry.specs.Refusal.{rewriteVerdict}
-use Rattle.rewriting.specs.Rewriting.{TableAfter}
+use Rattle.through.specs.Through.{through}
+use Rattle.sheet.specs.Bytes.{editsOf}
+use Rattle.rewrite_entry.specs.Refusal.{rewriteVerdict, throughVerdict}
+use Rattle.rewriting.specs.Rewriting.{TableAfter, rewritten}
 use Rattle.classes_entry.specs.Refusal.{classesVerdict}
 use Rattle.classes_entry.specs.Classing.{ClassesAfter}
 use Rattle.trailer.specs.Pieces.{siteIn, conditionIn, sheetIn}
@@ -39,7 +41,12 @@ ReturnedApply site sheet result result′ reason fault =
 -- rewriting, with the node count
 abbrev pub ReturnedRewrite : (table sheet result result′ : List ℕ) (reason fault n : ℕ) → Type 0
 ReturnedRewrite table sheet result result′ reason fault n =
-    Returned (rewriteVerdict (length result) table sheet) (λ v. TableAfter v table sheet result result′ n) reason fault
+    Returned (rewriteVerdict (length result) table sheet) (λ v. TableAfter v (rewritten table sheet) result result′ n) reason fault
+
+-- the condition for going through, with the node count
+abbrev pub ReturnedThrough : (sheet result result′ : List ℕ) (reason fault n : ℕ) → Type 0
+ReturnedThrough sheet result result′ reason fault n =
+    Returned (throughVerdict (length result) sheet) (λ v. TableAfter v (through (editsOf sheet)) result result′ n) reason fault
 
 -- class numbers, with how many different ones there are
 abbrev pub ReturnedClasses : (site classes classes′ : List ℕ) (reason fault n : ℕ) → Type 0

@@ -1,8 +1,10 @@
 // The entry points of the desk for C: the answers in numbers. Every input has its answer: nothing is required of it.
 use job_run::Job;
-ghost use Rattle.desk.specs.Returned.{ReturnedList, ReturnedApply, ReturnedRewrite, ReturnedClasses, ReturnedJob};
+use rewriting::Rewriting;
+ghost use Rattle.desk.specs.Returned.{ReturnedList, ReturnedApply, ReturnedRewrite, ReturnedThrough, ReturnedClasses, ReturnedJob};
 ghost use mathlib.Core.Path.{_≡_};
 ghost use Rattle.verdict.specs.Verdict.{reasonOf, faultOf};
+ghost use Rattle.rewriting.specs.Answer as made;
 ghost use Rattle.job_run.specs.Buffers.{buffersOf};
 ghost use Rattle.job_run.specs.Answer.{verdictOf, afterOf, todayOf, nodesOf, classesOf};
 
@@ -74,11 +76,10 @@ pub extern "C" fn desk_apply(site: &[u8], sheet: &[u8], result: &mut [u8]) -> Ap
     }
 }
 
-#[no_mangle]
-pub extern "C" fn desk_rewrite(table: &[u8], sheet: &[u8], result: &mut [u8]) -> RewriteAnswer
-    ensures { λ r. ⌜ ReturnedRewrite (now (table .entry)) (now (sheet .entry)) (now (result .entry)) (now (result .exit)) (r .reason) (r .fault) (r .nodes) ⌝ }
+// The answer of rewriting, or of the condition for going through, in numbers.
+fn table_in_numbers(answer: Rewriting) -> RewriteAnswer
+    ensures { λ a. ⌜ (a .reason ≡ reasonOf (made.verdictOf answer)) × ((a .fault ≡ faultOf (made.verdictOf answer)) × (a .nodes ≡ made.nodesOf answer)) ⌝ }
 {
-    let answer = rewrite_entry::rewrite(table, sheet, result);
     let v = rewriting::verdict(answer);
     let reason = verdict::reason(v);
     let fault = verdict::fault(v);
@@ -88,6 +89,20 @@ pub extern "C" fn desk_rewrite(table: &[u8], sheet: &[u8], result: &mut [u8]) ->
         fault: fault,
         nodes: nodes,
     }
+}
+
+#[no_mangle]
+pub extern "C" fn desk_rewrite(table: &[u8], sheet: &[u8], result: &mut [u8]) -> RewriteAnswer
+    ensures { λ r. ⌜ ReturnedRewrite (now (table .entry)) (now (sheet .entry)) (now (result .entry)) (now (result .exit)) (r .reason) (r .fault) (r .nodes) ⌝ }
+{
+    table_in_numbers(rewrite_entry::rewrite(table, sheet, result))
+}
+
+#[no_mangle]
+pub extern "C" fn desk_through(sheet: &[u8], result: &mut [u8]) -> RewriteAnswer
+    ensures { λ r. ⌜ ReturnedThrough (now (sheet .entry)) (now (result .entry)) (now (result .exit)) (r .reason) (r .fault) (r .nodes) ⌝ }
+{
+    table_in_numbers(rewrite_entry::through(sheet, result))
 }
 
 #[no_mangle]

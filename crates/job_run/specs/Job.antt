@@ -4,7 +4,7 @@ use mathlib.Core.List.{List}
 use Prim.Native.Nat.{ℕ, _*_}
 use lib.ListN.{length, take, replicate}
 use Rattle.verdict.specs.declared.Verdict.{Verdict}
-use Rattle.rewriting.specs.Rewriting.{TableAfter}
+use Rattle.rewriting.specs.Rewriting.{TableAfter, rewritten}
 use Rattle.list_entry.specs.Listing.{SetAfter}
 use Rattle.apply_entry.specs.Applying.{SiteAfter}
 use Rattle.classes_entry.specs.Classing.{ClassesAfter}
@@ -15,7 +15,7 @@ use Rattle.job_run.specs.Buffers.{Buffers}
 -- after, c of them different; each is zeros where the job is refused
 pub record JobAfter (v : Verdict) (site cond sheet : List ℕ) (b b′ : Buffers) (a t n c : ℕ) : Type 0 where
   pub site-after : SiteAfter v site sheet (b .changed) (b′ .changed)
-  pub table-after : TableAfter v cond sheet (b .table) (b′ .table) n
+  pub table-after : TableAfter v (rewritten cond sheet) (b .table) (b′ .table) n
   pub list-after : SetAfter v (b′ .changed) cond (b .after) (b′ .after) a
   pub list-today : SetAfter v site (take (6 * n) (b′ .table)) (b .today) (b′ .today) t
   pub classes-after : ClassesAfter v (b′ .changed) (b .classes) (b′ .classes) c

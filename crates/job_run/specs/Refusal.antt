@@ -3,6 +3,7 @@ use mathlib.Core.List.{List}
 use Prim.Native.Nat.{ℕ}
 use Rattle.verdict.specs.Verdict.{_then_}
 use Rattle.verdict.specs.declared.Verdict.{Verdict}
+use Rattle.semantics.specs.Block.{rewriteTable}
 use Rattle.site.specs.Site.{siteOf}
 use Rattle.site.specs.Refusal.{siteVerdict}
 use Rattle.condition.specs.Bytes.{tableOf}
@@ -19,4 +20,4 @@ piecesVerdict site cond sheet =
     then conditionVerdict cond
     then sheetVerdict sheet
     then goesVerdict (editsOf sheet) (siteOf site)
-    then lengthVerdict (editsOf sheet) (tableOf cond)
+    then lengthVerdict rewriteTable (editsOf sheet) (tableOf cond)

@@ -19,7 +19,7 @@ use Rattle.classes.specs.Classes.{Classes, different}
 use Rattle.rewriting.specs.declared.Rewriting.{Rewriting}
 use Rattle.rewriting.specs.declared.Rewriting.the-variants.{Rewritten}
 use Rattle.rewriting.specs.Answer as rewriting
-use Rattle.rewriting.specs.Rewriting.{TableAfter}
+use Rattle.rewriting.specs.Rewriting.{TableAfter, rewritten}
 use Rattle.apply_entry.specs.Applying.{SiteAfter}
 use Rattle.classes_entry.specs.Refusal.{classesBytes}
 use Rattle.job_run.specs.declared.Job.{Job}
@@ -57,7 +57,7 @@ pub record Listable (site cond free changed table : List ℕ) (n : ℕ) : Type 0
 -- the sheet has gone through and the rewritten table has n nodes; both can be listed
 pub record Made (site cond sheet free′ changed changed′ table table′ : List ℕ) (n : ℕ) : Type 0 where
   pub site-after : SiteAfter Accepted site sheet changed changed′
-  pub table-after : TableAfter Accepted cond sheet table table′ n
+  pub table-after : TableAfter Accepted (rewritten cond sheet) table table′ n
   pub listable : Listable site cond free′ changed′ table′ n
 
 -- after the verdict `first` the pieces are judged, applied and rewritten with the answer r

@@ -5,6 +5,7 @@ use Prim.Native.Nat.{ℕ}
 use Rattle.verdict.specs.Verdict.{_then_}
 use Rattle.verdict.specs.declared.Verdict.{Verdict}
 use Rattle.verdict.specs.declared.Verdict.the-variants.{Accepted}
+use Rattle.semantics.specs.Block.{rewriteTable}
 use Rattle.site.specs.Site.{siteOf}
 use Rattle.condition.specs.Bytes.{tableOf}
 use Rattle.even_rule.specs.Free.{FreeRows}
@@ -14,7 +15,7 @@ use Rattle.rewriting.specs.declared.Rewriting.{Rewriting}
 use Rattle.rewriting.specs.declared.Rewriting.the-variants.{Rewritten}
 use Rattle.rewriting.specs.Refusal.{lengthVerdict}
 use Rattle.rewriting.specs.Answer.{verdictOf}
-use Rattle.rewriting.specs.Rewriting.{TableAfter}
+use Rattle.rewriting.specs.Rewriting.{TableAfter, rewritten}
 use Rattle.apply_entry.specs.Applying.{SiteAfter}
 
 -- inputs that have the verdict `due` are judged with v; an accepted condition's free variables are handed on in these masks
@@ -24,10 +25,10 @@ pub record PiecesJudged (due : Verdict) (cond masks : List ℕ) (v : Verdict) : 
 
 -- items 13 and 14, in this order
 unfoldable pub changeVerdict : (site cond sheet : List ℕ) → Verdict
-changeVerdict site cond sheet = goesVerdict (editsOf sheet) (siteOf site) then lengthVerdict (editsOf sheet) (tableOf cond)
+changeVerdict site cond sheet = goesVerdict (editsOf sheet) (siteOf site) then lengthVerdict rewriteTable (editsOf sheet) (tableOf cond)
 
 -- applying and rewriting answer r
 pub record Changed (site cond sheet changed changed′ table table′ : List ℕ) (r : Rewriting) : Type 0 where
   pub verdict : verdictOf r ≡ changeVerdict site cond sheet
   pub site-after : (n : ℕ) → r ≡ Rewritten n → SiteAfter Accepted site sheet changed changed′
-  pub table-after : (n : ℕ) → r ≡ Rewritten n → TableAfter Accepted cond sheet table table′ n
+  pub table-after : (n : ℕ) → r ≡ Rewritten n → TableAfter Accepted (rewritten cond sheet) table table′ n

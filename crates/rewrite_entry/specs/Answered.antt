@@ -1,13 +1,23 @@
--- What the inner function of rewriting promises: its verdict, and what it leaves. The buffer is named twice: as it was, and as it is at return (′).
+-- What the inner functions of rewriting and of the condition for going through promise: the verdict, and what is left. The buffer is named twice: as
+-- it was, and as it is at return (′).
 use mathlib.Core.Path.{_≡_}
 use mathlib.Core.List.{List}
 use Prim.Native.Nat.{ℕ}
 use lib.ListN.{length}
 use Rattle.verdict.specs.declared.Verdict.{Verdict}
-use Rattle.rewriting.specs.Rewriting.{TableAfter}
-use Rattle.rewrite_entry.specs.Refusal.{rewriteVerdict}
+use Rattle.semantics.specs.Table.{Node}
+use Rattle.through.specs.Through.{through}
+use Rattle.sheet.specs.Bytes.{editsOf}
+use Rattle.rewriting.specs.Rewriting.{rewritten, TableAfter}
+use Rattle.rewrite_entry.specs.Refusal.{rewriteVerdict, throughVerdict}
 
--- rewriting answers the verdict v and the node count n
-pub record RewriteAnswered (table sheet result result′ : List ℕ) (v : Verdict) (n : ℕ) : Type 0 where
-  pub verdict : v ≡ rewriteVerdict (length result) table sheet
-  pub left : TableAfter v table sheet result result′ n
+-- the verdict v, which is `due`, and the node count n, where xs is the table to be made
+pub record TableAnswered (due : Verdict) (xs : List Node) (result result′ : List ℕ) (v : Verdict) (n : ℕ) : Type 0 where
+  pub verdict : v ≡ due
+  pub left : TableAfter v xs result result′ n
+
+abbrev pub RewriteAnswered : (table sheet result result′ : List ℕ) (v : Verdict) (n : ℕ) → Type 0
+RewriteAnswered table sheet result result′ v n = TableAnswered (rewriteVerdict (length result) table sheet) (rewritten table sheet) result result′ v n
+
+abbrev pub ThroughAnswered : (sheet result result′ : List ℕ) (v : Verdict) (n : ℕ) → Type 0
+ThroughAnswered sheet result result′ v n = TableAnswered (throughVerdict (length result) sheet) (through (editsOf sheet)) result result′ v n

@@ -11,3 +11,7 @@ use Rattle.refusals.specs.Refusal.{bufferVerdict}
 -- 1, then 7 to 10, then 11 and 12
 unfoldable pub inputVerdict : (resultLen : ℕ) (table sheet : List ℕ) → Verdict
 inputVerdict resultLen table sheet = bufferVerdict resultLen tableBytes then conditionVerdict table then sheetVerdict sheet
+
+-- 1, then 11 and 12
+unfoldable pub sheetInputVerdict : (resultLen : ℕ) (sheet : List ℕ) → Verdict
+sheetInputVerdict resultLen sheet = bufferVerdict resultLen tableBytes then sheetVerdict sheet

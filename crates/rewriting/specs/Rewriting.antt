@@ -15,8 +15,7 @@ use Rattle.limits.specs.Limits.{tableBytes}
 abbrev pub rewritten : (table sheet : List ℕ) → List Node
 rewritten table sheet = rewriteSheet (editsOf sheet) (tableOf table)
 
--- the result and the node count after a verdict: the rewritten table's bytes and then zeros; zeros where an input is refused
-unfoldable pub TableAfter : Verdict → (table sheet result result′ : List ℕ) (n : ℕ) → Type 0
-TableAfter Accepted table sheet result result′ n =
-    (n ≡ length (rewritten table sheet)) × (result′ ≡ bytesOf (rewritten table sheet) ++ replicate (tableBytes - 6 * n) 0)
-TableAfter (Refused item w) table sheet result result′ n = (n ≡ 0) × (result′ ≡ replicate (length result) 0)
+-- the result and the node count after a verdict: the bytes of the table xs, the one to be made, and then zeros; zeros where an input is refused
+unfoldable pub TableAfter : Verdict → (xs : List Node) (result result′ : List ℕ) (n : ℕ) → Type 0
+TableAfter Accepted xs result result′ n = (n ≡ length xs) × (result′ ≡ bytesOf xs ++ replicate (tableBytes - 6 * n) 0)
+TableAfter (Refused item w) xs result result′ n = (n ≡ 0) × (result′ ≡ replicate (length result) 0)

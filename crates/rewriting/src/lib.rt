@@ -1,21 +1,25 @@
-// A table of nodes rewritten through a sheet of edits, the last one first. docs/SPEC.md, "Rewriting", and item 14 of "Reasons".
+// A table of nodes rewritten through a sheet of edits, the last one first; and the condition for going through, which also gets each edit's own
+// condition. docs/SPEC.md, "Rewriting" and "The condition for going through", and item 14 of "Reasons".
 use buffer::copy;
 use limits::NODE_BYTES;
 use limits::TABLE_BYTES;
 use limits::TABLE_NODES;
+use sheet::Op;
 use verdict::Verdict;
 ghost use mathlib.Core.Path.{_≡_};
 ghost use mathlib.Core.List.{_++_};
 ghost use mathlib.Core.Bool.{true};
-ghost use Prim.Native.Nat.{_-_, _≤_};
+ghost use Prim.Native.Nat.{_-_, _≤_, _<_};
 ghost use lib.ListN.{length, take, replicate};
 ghost use Rattle.finite.specs.Bytes.{Bytes};
-ghost use Rattle.semantics.specs.Edit.{sheetLegal};
+ghost use Rattle.semantics.specs.Edit.{legal, sheetLegal};
 ghost use Rattle.semantics.specs.Table.{nodesFit};
+ghost use Rattle.semantics.specs.Block.{rewriteTable};
+ghost use Rattle.through.specs.Through.{throughEdit, oneTrue};
 ghost use Rattle.condition.specs.Bytes.{nodes, tableOf};
-ghost use Rattle.sheet.specs.Bytes.{editsOf};
+ghost use Rattle.sheet.specs.Bytes.{editOf, editsOf};
 ghost use Rattle.limits.specs.Limits.{tableNodes, tableBytes};
-ghost use Rattle.rewriting.specs.State.{Passed, Finished, Rewrote};
+ghost use Rattle.rewriting.specs.State.{passOf, Made, Passed, Finished, Rewrote};
 ghost use Rattle.rewriting.specs.Answer.{verdictOf, nodesOf};
 
 // Zeros from byte n on.
@@ -27,20 +31,44 @@ fn clear_from(b: &mut [u8], n: usize)
     buffer::zero(&mut b[n..end]);
 }
 
-// The first n nodes of a table, rewritten for each edit of the sheet, the last one first. Gives how many nodes it has then; where that is
+// What is made of the first n nodes of a table for an edit: they are rewritten, and with `own` the edit's own condition is put behind them. Gives how
+// many nodes that is.
+fn pass(
+    table: &[u8; TABLE_BYTES],
+    n: usize,
+    e: Op,
+    own: bool,
+    images: &mut [u16; TABLE_NODES],
+    rows: &mut [u8; TABLE_NODES],
+    out: &mut [u8; TABLE_BYTES],
+) -> usize
+    requires { ⌜ (length (now table) ≡ tableBytes) × (n ≤ tableNodes) × (length (now images) ≡ tableNodes) × (length (now rows) ≡ tableNodes) × (length (now out) ≡ tableBytes) ⌝ }
+    requires { ⌜ (legal (editOf e) ≡ true) × (nodesFit 0 (nodes (now table) n) ≡ true) × (0 < n) ⌝ }
+    ensures { λ r. ⌜ Made (passOf own (editOf e) (nodes (now (table .entry)) n)) (now (out .exit)) r ⌝ }
+    ensures { λ _. ⌜ (length (now (images .exit)) ≡ tableNodes) × (length (now (rows .exit)) ≡ tableNodes) × (length (now (out .exit)) ≡ tableBytes) ⌝ }
+{
+    let made = emitting::rewrite(table, n, e, images, rows, out);
+    if own {
+        return own_conditions::put_behind(out, made, e);
+    }
+    made
+}
+
+// A pass over the first n nodes of a table for each edit of the sheet, the last one first. Gives how many nodes it has then; where that is
 // over 2,048, it was so after some edit.
 fn passes(
     sheet: &[u8],
     n: usize,
+    own: bool,
     table: &mut [u8; TABLE_BYTES],
     spare: &mut [u8; TABLE_BYTES],
     images: &mut [u16; TABLE_NODES],
     rows: &mut [u8; TABLE_NODES],
 ) -> usize
-    requires { ⌜ (n ≤ tableNodes) × (length (now table) ≡ tableBytes) × (length (now spare) ≡ tableBytes) × (length (now images) ≡ tableNodes) × (length (now rows) ≡ tableNodes) ⌝ }
+    requires { ⌜ (n ≤ tableNodes) × (0 < n) × (length (now table) ≡ tableBytes) × (length (now spare) ≡ tableBytes) × (length (now images) ≡ tableNodes) × (length (now rows) ≡ tableNodes) ⌝ }
     requires { ⌜ Bytes (now table) × (nodesFit 0 (nodes (now table) n) ≡ true) ⌝ }
     requires { ⌜ sheetLegal (editsOf (now sheet)) ≡ true ⌝ }
-    ensures { λ r. ⌜ Passed (editsOf (now (sheet .entry))) (nodes (now (table .entry)) n) (now (table .exit)) r × (length (now (table .exit)) ≡ tableBytes) ⌝ }
+    ensures { λ r. ⌜ Passed (passOf own) (editsOf (now (sheet .entry))) (nodes (now (table .entry)) n) (now (table .exit)) r × (length (now (table .exit)) ≡ tableBytes) ⌝ }
 {
     let edits = sheet.len() / 4;
     let mut done = 0;
@@ -49,7 +77,7 @@ fn passes(
         let next = done + 1;
         let last = edits - next;
         let e = sheet::edit_at(sheet, last);
-        let made = emitting::rewrite(table, count, e, images, rows, spare);
+        let made = pass(table, count, e, own, images, rows, spare);
         if TABLE_NODES < made {
             return made;
         }
@@ -80,27 +108,6 @@ fn finish(result: &mut [u8], work: &[u8; TABLE_BYTES], made: usize) -> Rewriting
     Rewriting::Rewritten(made as u32)
 }
 
-// A table rewritten for a sheet, with two tables, images and rows to work on, whatever they hold.
-fn rewrite_with(
-    table: &[u8],
-    sheet: &[u8],
-    result: &mut [u8],
-    work: &mut [u8; TABLE_BYTES],
-    spare: &mut [u8; TABLE_BYTES],
-    images: &mut [u16; TABLE_NODES],
-    rows: &mut [u8; TABLE_NODES],
-) -> Rewriting
-    requires { ⌜ (length (now table) ≤ tableBytes) × (length (now result) ≡ tableBytes) ⌝ }
-    requires { ⌜ Bytes (now work) × (length (now work) ≡ tableBytes) × (length (now spare) ≡ tableBytes) × (length (now images) ≡ tableNodes) × (length (now rows) ≡ tableNodes) ⌝ }
-    requires { ⌜ (nodesFit 0 (tableOf (now table)) ≡ true) × (sheetLegal (editsOf (now sheet)) ≡ true) ⌝ }
-    ensures { λ r. ⌜ Rewrote (now (table .entry)) (now (sheet .entry)) (now (result .entry)) (now (result .exit)) (verdictOf r) (nodesOf r) ⌝ }
-{
-    copy(work, table, table.len());
-    let n = table.len() / NODE_BYTES;
-    let made = passes(sheet, n, work, spare, images, rows);
-    finish(result, work, made)
-}
-
 fn no_table() -> [u8; TABLE_BYTES]
     ensures { λ r. ⌜ r ≡ replicate tableBytes 0 ⌝ }
 {
@@ -119,25 +126,44 @@ fn no_rows() -> [u8; TABLE_NODES]
     [0; TABLE_NODES]
 }
 
-// A table rewritten for a sheet: its bytes and then zeros in result, and zeros alone where item 14 is met.
-pub fn rewrite_sheet(table: &[u8], sheet: &[u8], result: &mut [u8]) -> Rewriting
-    requires { ⌜ (length (now table) ≤ tableBytes) × (length (now result) ≡ tableBytes) ⌝ }
-    requires { ⌜ (nodesFit 0 (tableOf (now table)) ≡ true) × (sheetLegal (editsOf (now sheet)) ≡ true) ⌝ }
-    ensures { λ r. ⌜ Rewrote (now (table .entry)) (now (sheet .entry)) (now (result .entry)) (now (result .exit)) (verdictOf r) (nodesOf r) ⌝ }
+// The passes of a sheet over the first n nodes of a table, whose place is worked in, and the answer.
+fn rewrite_from(
+    work: &mut [u8; TABLE_BYTES],
+    n: usize,
+    sheet: &[u8],
+    own: bool,
+    result: &mut [u8],
+) -> Rewriting
+    requires { ⌜ (n ≤ tableNodes) × (0 < n) × Bytes (now work) × (length (now work) ≡ tableBytes) × (length (now result) ≡ tableBytes) ⌝ }
+    requires { ⌜ (nodesFit 0 (nodes (now work) n) ≡ true) × (sheetLegal (editsOf (now sheet)) ≡ true) ⌝ }
+    ensures { λ r. ⌜ Rewrote (passOf own) (editsOf (now (sheet .entry))) (nodes (now (work .entry)) n) (now (result .entry)) (now (result .exit)) (verdictOf r) (nodesOf r) ⌝ }
 {
-    let mut work = no_table();
     let mut spare = no_table();
     let mut images = no_images();
     let mut rows = no_rows();
-    rewrite_with(
-        table,
-        sheet,
-        result,
-        &mut work,
-        &mut spare,
-        &mut images,
-        &mut rows,
-    )
+    let made = passes(sheet, n, own, work, &mut spare, &mut images, &mut rows);
+    finish(result, work, made)
+}
+
+// A table rewritten for a sheet: its bytes and then zeros in result, and zeros alone where item 14 is met.
+pub fn rewrite_sheet(table: &[u8], sheet: &[u8], result: &mut [u8]) -> Rewriting
+    requires { ⌜ (6 ≤ length (now table)) × (length (now table) ≤ tableBytes) × (length (now result) ≡ tableBytes) ⌝ }
+    requires { ⌜ (nodesFit 0 (tableOf (now table)) ≡ true) × (sheetLegal (editsOf (now sheet)) ≡ true) ⌝ }
+    ensures { λ r. ⌜ Rewrote rewriteTable (editsOf (now (sheet .entry))) (tableOf (now (table .entry))) (now (result .entry)) (now (result .exit)) (verdictOf r) (nodesOf r) ⌝ }
+{
+    let mut work = no_table();
+    copy(&mut work, table, table.len());
+    rewrite_from(&mut work, table.len() / NODE_BYTES, sheet, false, result)
+}
+
+// The condition for going through: its bytes and then zeros in result, and zeros alone where item 14 is met. The one node true, which it starts
+// as, is six zeros.
+pub fn through_sheet(sheet: &[u8], result: &mut [u8]) -> Rewriting
+    requires { ⌜ (length (now result) ≡ tableBytes) × (sheetLegal (editsOf (now sheet)) ≡ true) ⌝ }
+    ensures { λ r. ⌜ Rewrote throughEdit (editsOf (now (sheet .entry))) oneTrue (now (result .entry)) (now (result .exit)) (verdictOf r) (nodesOf r) ⌝ }
+{
+    let mut work = no_table();
+    rewrite_from(&mut work, 1, sheet, true, result)
 }
 
 pub fn verdict(r: Rewriting) -> Verdict

@@ -69,25 +69,25 @@ emit (join k x y) b =
     ++ (emit y (b + size x) ++ (record { kind = kindNo (binary k); param = 0; left = root x b; right = root y (b + size x) } ∷ []))
 
 -- short names for the nodes of blocks
-abbrev nm : ℕ → Block
+abbrev pub nm : ℕ → Block
 nm n = end kName n
 
-abbrev no! : Block → Block
+abbrev pub no! : Block → Block
 no! x = on kNot 0 x
 
-abbrev _&_ : Block → Block → Block
+abbrev pub _&_ : Block → Block → Block
 x & y = join kAnd x y
 
-abbrev _or_ : Block → Block → Block
+abbrev pub _or_ : Block → Block → Block
 x or y = join kOr x y
 
 infixl 40 _&_
 infixl 35 _or_
 infixr 45 ⟨_⟩_ ⟦_⟧_
-abbrev ⟨_⟩_ : ℕ → Block → Block
+abbrev pub ⟨_⟩_ : ℕ → Block → Block
 ⟨ w ⟩ x = on kDia w x
 
-abbrev ⟦_⟧_ : ℕ → Block → Block
+abbrev pub ⟦_⟧_ : ℕ → Block → Block
 ⟦ w ⟧ x = on kBox w x
 
 -- the block of a diamond, T being the image of its child. Way `everyWay` is E, and way f + links is f-. In postfix:
@@ -166,7 +166,15 @@ rewrite e images out (x ∷ xs) =
 unfoldable pub rewriteTable : Edit → List Node → List Node
 rewriteTable e xs = rewrite e [] [] xs
 
--- through a sheet: the last edit is rewritten first
-unfoldable pub rewriteSheet : List Edit → List Node → List Node
-rewriteSheet [] xs = xs
-rewriteSheet (e ∷ es) xs = rewriteTable e (rewriteSheet es xs)
+-- what is made of a table for an edit
+abbrev pub Pass : Type 0
+Pass = Edit → List Node → List Node
+
+-- through a sheet, the last edit first, with a pass for each edit
+unfoldable pub passed : Pass → List Edit → List Node → List Node
+passed pass [] xs = xs
+passed pass (e ∷ es) xs = pass e (passed pass es xs)
+
+-- rewriting through a sheet
+abbrev pub rewriteSheet : List Edit → List Node → List Node
+rewriteSheet es xs = passed rewriteTable es xs

@@ -60,7 +60,8 @@ fn may_move(n: u8) -> bool
     (n < NAMES) & (n != 0)
 }
 
-fn is_functional(f: u8) -> bool
+// Is f one of the links with one target at most?
+pub fn is_functional(f: u8) -> bool
     ensures { λ r. ⌜ r ≡ functional f ⌝ }
 {
     (GENERAL_LINKS <= f) & (f < LINKS)

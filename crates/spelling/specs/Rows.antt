@@ -2,30 +2,8 @@
 -- way b; e, the way that leads everywhere; and the images T and U of the old node's children.
 use mathlib.Core.List.{List, [], _∷_}
 use Prim.Native.Nat.{ℕ}
-use Rattle.semantics.specs.Table.{kTrue, kHere, kLabel, kName, kVar, kSlot, kNot, kDia, kBox, kMu, kNu, kOr, kAnd}
-use Rattle.semantics.specs.Block.{Block, end, on, join}
-
--- short names for the nodes of blocks
-abbrev nm : ℕ → Block
-nm n = end kName n
-
-abbrev no! : Block → Block
-no! x = on kNot 0 x
-
-infixl 40 _&_
-infixl 35 _or_
-infixr 45 ⟨_⟩_ ⟦_⟧_
-abbrev _&_ : Block → Block → Block
-x & y = join kAnd x y
-
-abbrev _or_ : Block → Block → Block
-x or y = join kOr x y
-
-abbrev ⟨_⟩_ : ℕ → Block → Block
-⟨ w ⟩ x = on kDia w x
-
-abbrev ⟦_⟧_ : ℕ → Block → Block
-⟦ w ⟧ x = on kBox w x
+use Rattle.semantics.specs.Table.{kTrue, kHere, kLabel, kVar, kSlot, kMu, kNu}
+use Rattle.semantics.specs.Block.{Block, end, on, nm, no!, _&_, _or_, ⟨_⟩_, ⟦_⟧_}
 
 -- rows 0 to 12: a node of each kind is copied
 unfoldable pub copies : (w : ℕ) (T U : Block) → List Block

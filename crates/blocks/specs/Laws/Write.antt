@@ -30,15 +30,35 @@ pub put-bytes : (o : List ℕ) (i k p l r : ℕ) {l0 l1 r0 r1 : ℕ} → l0 ≡ 
 unfolding put nodeBytes
 put-bytes o i k p l r e0 e1 e2 e3 = simp (e0, e1, e2, e3, towards-suc)
 
--- ---- one node more
+-- ---- some nodes more
 
-puts-snoc : (o : List ℕ) (at j : ℕ) (xs : List Node) (x : Node)
-    → puts o at j (xs ++ (x ∷ [])) ≡ put (puts o at j xs) (at + (j + length xs)) x
+puts-append : (o : List ℕ) (at j : ℕ) (xs ys : List Node) → puts o at j (xs ++ ys) ≡ puts (puts o at j xs) at (j + length xs) ys
 unfolding puts
-puts-snoc o at j [] x = let e : j + 0 ≡ j = omega arith in rw e refl
-puts-snoc o at j (y ∷ ys) x =
-    let e : suc j + length ys ≡ j + suc (length ys) = omega arith in
-    puts-snoc (put o (at + j) y) at (suc j) ys x ∙ rw e refl
+puts-append o at j [] ys = let e : j + 0 ≡ j = omega arith in rw e refl
+puts-append o at j (x ∷ xs) ys =
+    let e : suc j + length xs ≡ j + suc (length xs) = omega arith in
+    puts-append (put o (at + j) x) at (suc j) xs ys ∙ rw e refl
+
+-- numbered from where they begin
+puts-from : (o : List ℕ) (at i j : ℕ) (xs : List Node) → puts o at (i + j) xs ≡ puts o (at + i) j xs
+unfolding puts
+puts-from o at i j [] = refl
+puts-from o at i j (x ∷ xs) =
+    let e : at + (i + j) ≡ at + i + j = omega arith in
+    let f : suc (i + j) ≡ i + suc j = omega arith in
+    rw (e, f) (puts-from (put o (at + i + j) x) at i (suc j) xs)
+
+pub puts-then : (o : List ℕ) (at : ℕ) (xs ys : List Node) → puts o at 0 (xs ++ ys) ≡ puts (puts o at 0 xs) (at + length xs) 0 ys
+puts-then o at xs ys =
+    let z : 0 + length xs ≡ length xs + 0 = omega arith in
+    puts-append o at 0 xs ys ∙ ap (λ (j : ℕ). puts (puts o at 0 xs) at j ys) z ∙ puts-from (puts o at 0 xs) at (length xs) 0 ys
+
+-- one node more
+pub puts-one : (o : List ℕ) (at : ℕ) (xs : List Node) (x : Node) → puts o at 0 (xs ++ (x ∷ [])) ≡ put (puts o at 0 xs) (at + length xs) x
+unfolding puts
+puts-one o at xs x =
+    let z : 0 + length xs ≡ length xs = omega arith in
+    puts-append o at 0 xs (x ∷ []) ∙ ap (λ (j : ℕ). put (puts o at 0 xs) (at + j) x) z
 
 -- ---- nodes written one by one
 
@@ -64,8 +84,7 @@ pub put-more : {o : List ℕ} {at n : ℕ} {f : ℕ → Node} {out out′ : List
     → Put o at f (n + 1) out′
 unfolding firsts
 put-more {o} {at} {n} {f} w e =
-    let l : 0 + length (firsts f n) ≡ n = omega (arith, length-firsts f n) in
-    record { is = e ∙ rw (w .is, add-one n, firsts, puts-snoc, l) refl }
+    record { is = e ∙ rw (w .is, add-one n, firsts, puts-one, length-firsts f n) refl }
 
 pub put-length : {o : List ℕ} {at n : ℕ} {f : ℕ → Node} {out : List ℕ} → Put o at f n out → length out ≡ length o
 put-length {o} {at} {n} {f} w = ap length (w .is) ∙ length-puts o at 0 (firsts f n)

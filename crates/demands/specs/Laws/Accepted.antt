@@ -13,6 +13,7 @@ use Rattle.site.specs.Layout.{siteBytes}
 use Rattle.site.specs.Site.{siteOf}
 use Rattle.site.specs.Refusal.{siteVerdict}
 use Rattle.limits.specs.Limits.{tableNodes}
+use Rattle.semantics.specs.Block.{rewriteTable}
 use Rattle.condition.specs.Bytes.{tableOf}
 use Rattle.condition.specs.Refusal.{conditionVerdict}
 use Rattle.condition.specs.Laws.Bytes.{length-table}
@@ -23,7 +24,7 @@ use Rattle.listing.specs.Listed.{workBytes}
 use Rattle.applying.specs.Refusal.{goesVerdict}
 use Rattle.rewriting.specs.Refusal.{tooLong, lengthVerdict}
 use Rattle.rewriting.specs.Rewriting.{rewritten}
-use Rattle.rewriting.specs.Laws.Grow.{too-long-end}
+use Rattle.rewriting.specs.Laws.Grow.{table-grows, too-long-end}
 use Rattle.refusals.specs.Refusal.{bufferVerdict}
 use Rattle.refusals.specs.Laws.Items.{buffer-in, Numbered, numbered-then, numbered-buffer, numbered-site, numbered-condition, numbered-sheet, numbered-goes}
 use Rattle.list_entry.specs.Refusal.{listVerdict}
@@ -42,13 +43,13 @@ use Rattle.job_entry.specs.Laws.Refusal.{JobAccepted}
 -- ---- a rewritten table fits exactly if it was too long after no edit: it never gets shorter
 
 module _ (table sheet : List ℕ) (a : conditionVerdict table ≡ Accepted) where
-  at-end : tooLong (editsOf sheet) (tableOf table) ≡ below tableNodes (length (rewritten table sheet))
-  at-end = too-long-end (editsOf sheet) (tableOf table) (omega (arith, accepted-sound table a .few, length-table table))
+  at-end : tooLong rewriteTable (editsOf sheet) (tableOf table) ≡ below tableNodes (length (rewritten table sheet))
+  at-end = too-long-end rewriteTable table-grows (editsOf sheet) (tableOf table) (omega (arith, accepted-sound table a .few, length-table table))
 
-  pub fits-short : length (rewritten table sheet) ≤ tableNodes → tooLong (editsOf sheet) (tableOf table) ≡ false
+  pub fits-short : length (rewritten table sheet) ≤ tableNodes → tooLong rewriteTable (editsOf sheet) (tableOf table) ≡ false
   fits-short h = at-end ∙ below-not tableNodes (length (rewritten table sheet)) h
 
-  pub short-fits : tooLong (editsOf sheet) (tableOf table) ≡ false → length (rewritten table sheet) ≤ tableNodes
+  pub short-fits : tooLong rewriteTable (editsOf sheet) (tableOf table) ≡ false → length (rewritten table sheet) ≤ tableNodes
   short-fits h = not-below tableNodes (length (rewritten table sheet)) (sym at-end ∙ h)
 
 -- ---- no item is met

@@ -9,7 +9,7 @@ use Rattle.verdict.specs.declared.Verdict.the-variants.{Accepted, Refused}
 use Rattle.refusals.specs.Laws.Items.{Numbered}
 use Rattle.list_entry.specs.Listing.{SetAfter, ListAfter}
 use Rattle.apply_entry.specs.Applying.{SiteAfter}
-use Rattle.rewriting.specs.Rewriting.{TableAfter}
+use Rattle.rewriting.specs.Rewriting.{TableAfter, rewritten}
 use Rattle.rewrite_entry.specs.Laws.Refusal.{rewrite-numbered}
 use Rattle.classes_entry.specs.Classing.{ClassesAfter}
 use Rattle.trailer.specs.Pieces.{siteIn, conditionIn, sheetIn}
@@ -68,7 +68,7 @@ demand-1-apply site sheet result result′ reason fault r =
 demand-1-rewrite : Demand1Rewrite
 unfolding Demand1Rewrite TableAfter
 demand-1-rewrite table sheet result result′ reason fault n r =
-    answers (λ v. TableAfter v table sheet result result′ n) (λ p. p) (λ item k p. (p .1, p .0))
+    answers (λ v. TableAfter v (rewritten table sheet) result result′ n) (λ p. p) (λ item k p. (p .1, p .0))
     _ (rewrite-numbered (length result) table sheet) r
 
 demand-1-classes : Demand1Classes

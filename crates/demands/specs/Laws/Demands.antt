@@ -13,6 +13,7 @@ use Rattle.semantics.specs.Table.{formOf}
 use Rattle.semantics.specs.Edit as edits
 use Rattle.semantics.specs.Bisimulation.{IsClass}
 use Rattle.semantics.specs.Laws.Demands.{class-undistinguished}
+use Rattle.semantics.specs.Block.{rewriteTable}
 use Rattle.site.specs.Site.{siteOf}
 use Rattle.site.specs.Refusal.{siteVerdict}
 use Rattle.site.specs.Laws.Valid.{site-valid}
@@ -87,7 +88,7 @@ module _ {site sheet : List ℕ} (j : Going site sheet) where
 module _ {site table sheet : List ℕ} (j : Runnable site table sheet) where
   -- ---- rewriting
 
-  short : tooLong (editsOf sheet) (tableOf table) ≡ false
+  short : tooLong rewriteTable (editsOf sheet) (tableOf table) ≡ false
   short = fits-short table sheet (j .table-accepted) (omega (arith, j .table-fits))
 
   module _ (c : RewriteCall table sheet) where

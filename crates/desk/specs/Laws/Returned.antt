@@ -4,6 +4,7 @@ use mathlib.Core.List.{List}
 use Prim.Native.Nat.{ℕ}
 use Rattle.verdict.specs.Verdict.{reasonOf, faultOf}
 use Rattle.verdict.specs.declared.Verdict.{Verdict}
+use Rattle.semantics.specs.Table.{Node}
 use Rattle.list_entry.specs.declared.Listing.{Listing}
 use Rattle.list_entry.specs.Answer.{verdictOf, countOf}
 use Rattle.list_entry.specs.Listing.{ListAfter}
@@ -13,7 +14,7 @@ use Rattle.apply_entry.specs.Answered.{ApplyAnswered}
 use Rattle.rewriting.specs.declared.Rewriting.{Rewriting}
 use Rattle.rewriting.specs.Answer as rewriting
 use Rattle.rewriting.specs.Rewriting.{TableAfter}
-use Rattle.rewrite_entry.specs.Answered.{RewriteAnswered}
+use Rattle.rewrite_entry.specs.Answered.{TableAnswered}
 use Rattle.classes_entry.specs.declared.Classing.{Classing}
 use Rattle.classes_entry.specs.Answer as classing
 use Rattle.classes_entry.specs.Classing.{ClassesAfter}
@@ -24,7 +25,7 @@ use Rattle.job_run.specs.Buffers.{Buffers}
 use Rattle.job_run.specs.Answer as job
 use Rattle.job_run.specs.Job.{JobAfter}
 use Rattle.job_entry.specs.Answered.{JobAnswered}
-use Rattle.desk.specs.Returned.{Returned, ReturnedList, ReturnedApply, ReturnedRewrite, ReturnedClasses, ReturnedJob}
+use Rattle.desk.specs.Returned.{Returned, ReturnedList, ReturnedApply, ReturnedClasses, ReturnedJob}
 
 -- the answer has the verdict u, which is due, and the numbers are those of v, which is u
 returned : (After : Verdict → Type 0) {due u : Verdict} → u ≡ due → After u → {v : Verdict} → v ≡ u → {reason fault : ℕ} → reason ≡ reasonOf v
@@ -45,13 +46,13 @@ module _ {site sheet result result′ : List ℕ} where
       → ReturnedApply site sheet result result′ reason fault
   returned-apply a e f = returned (λ v. SiteAfter v site sheet result result′) (a .verdict) (a .left) refl e f
 
--- ---- rewriting
+-- ---- rewriting, and the condition for going through: xs is the table to be made
 
-module _ {table sheet result result′ : List ℕ} where
-  pub returned-rewrite : (r : Rewriting) → RewriteAnswered table sheet result result′ (rewriting.verdictOf r) (rewriting.nodesOf r)
-      → {v : Verdict} → v ≡ rewriting.verdictOf r → {reason fault n : ℕ} → reason ≡ reasonOf v → fault ≡ faultOf v → n ≡ rewriting.nodesOf r
-      → ReturnedRewrite table sheet result result′ reason fault n
-  returned-rewrite r a h {n = n} e f g = returned (λ v. TableAfter v table sheet result result′ n) (a .verdict) (rw g (a .left)) h e f
+module _ {due : Verdict} {xs : List Node} {result result′ : List ℕ} where
+  pub returned-table : (r : Rewriting) → TableAnswered due xs result result′ (rewriting.verdictOf r) (rewriting.nodesOf r) → {reason fault n : ℕ}
+      → (reason ≡ reasonOf (rewriting.verdictOf r)) × ((fault ≡ faultOf (rewriting.verdictOf r)) × (n ≡ rewriting.nodesOf r))
+      → Returned due (λ u. TableAfter u xs result result′ n) reason fault
+  returned-table r a {n = n} e = returned (λ u. TableAfter u xs result result′ n) (a .verdict) (rw (e .1 .1) (a .left)) refl (e .0) (e .1 .0)
 
 -- ---- class numbers
 

@@ -8,6 +8,7 @@ use Rattle.verdict.specs.Laws.{then-assoc}
 use Rattle.verdict.specs.declared.Verdict.{Verdict}
 use Rattle.verdict.specs.declared.Verdict.the-variants.{Accepted}
 use Rattle.semantics.specs.Edit.{sheetGoes}
+use Rattle.semantics.specs.Block.{rewriteTable}
 use Rattle.site.specs.Site.{siteOf}
 use Rattle.site.specs.Refusal.{siteVerdict}
 use Rattle.condition.specs.Bytes.{tableOf}
@@ -39,7 +40,7 @@ module _ (site cond sheet : List ℕ) where
     pub cond-accepted : conditionVerdict cond ≡ Accepted
     pub sheet-accepted : sheetVerdict sheet ≡ Accepted
     pub goes : sheetGoes (editsOf sheet) (siteOf site) ≡ true
-    pub short : tooLong (editsOf sheet) (tableOf cond) ≡ false
+    pub short : tooLong rewriteTable (editsOf sheet) (tableOf cond) ≡ false
 
   pub pieces-out : piecesVerdict site cond sheet ≡ Accepted → PiecesAccepted
   unfolding piecesVerdict
@@ -47,13 +48,13 @@ module _ (site cond sheet : List ℕ) where
       let s = then-out (siteVerdict site) _ e in
       let c = then-out (conditionVerdict cond) _ (s .1) in
       let h = then-out (sheetVerdict sheet) _ (c .1) in
-      let g = then-out (goesVerdict (editsOf sheet) (siteOf site)) (lengthVerdict (editsOf sheet) (tableOf cond)) (h .1) in
+      let g = then-out (goesVerdict (editsOf sheet) (siteOf site)) (lengthVerdict rewriteTable (editsOf sheet) (tableOf cond)) (h .1) in
       record {
         site-accepted = s .0;
         cond-accepted = c .0;
         sheet-accepted = h .0;
         goes = goes-out (editsOf sheet) (siteOf site) (g .0);
-        short = length-out (editsOf sheet) (tableOf cond) (g .1);
+        short = length-out rewriteTable (editsOf sheet) (tableOf cond) (g .1);
       }
 
   pub pieces-in : PiecesAccepted → piecesVerdict site cond sheet ≡ Accepted
@@ -68,4 +69,4 @@ module _ (site cond sheet : List ℕ) where
       (numbered-then (conditionVerdict cond) _ (numbered-condition cond)
       (numbered-then (sheetVerdict sheet) _ (numbered-sheet sheet)
       (numbered-then (goesVerdict (editsOf sheet) (siteOf site)) _ (numbered-goes (editsOf sheet) (siteOf site))
-      (numbered-length (editsOf sheet) (tableOf cond)))))
+      (numbered-length rewriteTable (editsOf sheet) (tableOf cond)))))

@@ -14,7 +14,9 @@ enum-told : tie.Need-enum-told
 enum-told c = search needs
 
 rewrite-sheet-requires : tie.Need-rewrite-sheet-requires
-rewrite-sheet-requires c κs = let p = c .before .before .before .before .before .before .before .before .before .before .before .before .pre in ((accepted-sound _ (p .0 .1 .0) .few, p .1 .1), (accepted-sound _ (p .0 .1 .0) .fits, accepted-sheet _ (p .0 .1 .1) .are-legal))
+rewrite-sheet-requires c κs =
+    let m = c .before .before .before .before .before .before in let p = m .before .before .before .before .before .before .pre in
+    let s = accepted-sound _ (p .0 .1 .0) in ((s .some, s .few, p .1 .1), (s .fits, accepted-sheet _ (p .0 .1 .1) .are-legal))
 
 enum-known-v : tie.Need-enum-known-v
 enum-known-v c = search needs

@@ -8,6 +8,9 @@ use Rattle.verdict.specs.Verdict.{_then_}
 use Rattle.verdict.specs.Laws.{refused}
 use Rattle.verdict.specs.declared.Verdict.{Verdict}
 use Rattle.verdict.specs.declared.Verdict.the-variants.{Accepted, Refused}
+use Rattle.semantics.specs.Block.{rewriteTable}
+use Rattle.condition.specs.Bytes.{tableOf}
+use Rattle.sheet.specs.Bytes.{editsOf}
 use Rattle.even_rule.specs.Free.{FreeRows, FreeAfter, Checked}
 use Rattle.applying.specs.Applies.{Applies}
 use Rattle.rewriting.specs.declared.Rewriting.{Rewriting}
@@ -49,7 +52,7 @@ module _ {site cond sheet changed changed′ table table′ : List ℕ} {v : Ver
     table-after = λ n f. let z : _≡_ {A = ℕ} 0 1 = cc in absurd (omega arith);
   }
 
-  pub changed-then : v ≡ Accepted → Bytes changed′ → {r : Rewriting} → Rewrote cond sheet table table′ (verdictOf r) (nodesOf r)
+  pub changed-then : v ≡ Accepted → Bytes changed′ → {r : Rewriting} → Rewrote rewriteTable (editsOf sheet) (tableOf cond) table table′ (verdictOf r) (nodesOf r)
       → Changed site cond sheet changed changed′ table table′ r
   unfolding changeVerdict SiteAfter
   changed-then e b w =

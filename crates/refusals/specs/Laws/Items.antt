@@ -17,6 +17,7 @@ use Rattle.semantics.specs.Form.{closed}
 use Rattle.semantics.specs.Holds.{Model}
 use Rattle.semantics.specs.Edit.{Edit, sheetGoes}
 use Rattle.semantics.specs.Table.{Node, formOf}
+use Rattle.semantics.specs.Block.{Pass}
 use Rattle.site.specs.Layout.{siteBytes}
 use Rattle.site.specs.Site.{siteOf}
 use Rattle.site.specs.Refusal.{item4, item5, item6, siteVerdict}
@@ -104,11 +105,11 @@ pub numbered-goes : (es : List Edit) (M : Model) → Numbered (goesVerdict es M)
 unfolding goesVerdict
 numbered-goes es M = numbered-item (not (sheetGoes es M)) 13 (stuckAt es M) Accepted (omega arith) (omega arith) numbered-accepted
 
-pub numbered-length : (es : List Edit) (xs : List Node) → Numbered (lengthVerdict es xs)
+pub numbered-length : (pass : Pass) (es : List Edit) (xs : List Node) → Numbered (lengthVerdict pass es xs)
 unfolding lengthVerdict
-numbered-length es xs = numbered-item (tooLong es xs) 14 0 Accepted (omega arith) (omega arith) numbered-accepted
+numbered-length pass es xs = numbered-item (tooLong pass es xs) 14 0 Accepted (omega arith) (omega arith) numbered-accepted
 
 -- ---- item 14
-pub length-out : (es : List Edit) (xs : List Node) → lengthVerdict es xs ≡ Accepted → tooLong es xs ≡ false
+pub length-out : (pass : Pass) (es : List Edit) (xs : List Node) → lengthVerdict pass es xs ≡ Accepted → tooLong pass es xs ≡ false
 unfolding lengthVerdict
-length-out es xs e = either (look (tooLong es xs)) (λ g. refused (rw g at e)) (λ g. g)
+length-out pass es xs e = either (look (tooLong pass es xs)) (λ g. refused (rw g at e)) (λ g. g)

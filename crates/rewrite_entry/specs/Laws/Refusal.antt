@@ -1,33 +1,48 @@
--- What rewriting knows of inputs that it does not refuse; the reason 0 says that it does not.
+-- What rewriting and the condition for going through know of inputs that they do not refuse; the reason 0 says that they do not.
 use mathlib.Core.Path.{_≡_}
 use mathlib.Core.Bool.{false}
 use mathlib.Core.List.{List}
 use Prim.Native.Nat.{ℕ}
 use Rattle.verdict.specs.declared.Verdict.the-variants.{Accepted}
+use Rattle.through.specs.Through.{throughEdit, oneTrue}
 use Rattle.condition.specs.Bytes.{tableOf}
 use Rattle.condition.specs.Refusal.{conditionVerdict}
 use Rattle.sheet.specs.Bytes.{editsOf}
 use Rattle.sheet.specs.Refusal.{sheetVerdict}
 use Rattle.limits.specs.Limits.{tableBytes}
 use Rattle.verdict.specs.Verdict.{reasonOf}
+use Rattle.semantics.specs.Block.{rewriteTable}
 use Rattle.rewriting.specs.Refusal.{tooLong}
 use Rattle.refusals.specs.Refusal.{bufferVerdict}
 use Rattle.refusals.specs.Laws.Items.{Numbered, numbered-then, numbered-buffer, numbered-condition, numbered-sheet, numbered-length}
-use Rattle.rewrite_entry.specs.Refusal.{rewriteVerdict}
+use Rattle.rewrite_entry.specs.Refusal.{rewriteVerdict, throughVerdict}
 
 pub record Rewritable (resultLen : ℕ) (table sheet : List ℕ) : Type 0 where
   pub result-size : resultLen ≡ tableBytes
   pub table-accepted : conditionVerdict table ≡ Accepted
   pub sheet-accepted : sheetVerdict sheet ≡ Accepted
-  pub short : tooLong (editsOf sheet) (tableOf table) ≡ false
+  pub short : tooLong rewriteTable (editsOf sheet) (tableOf table) ≡ false
 
 pub rewrite-numbered : (resultLen : ℕ) (table sheet : List ℕ) → Numbered (rewriteVerdict resultLen table sheet)
 unfolding rewriteVerdict
 rewrite-numbered resultLen table sheet =
     numbered-then (bufferVerdict resultLen tableBytes) _ (numbered-buffer resultLen tableBytes)
     (numbered-then (conditionVerdict table) _ (numbered-condition table)
-    (numbered-then (sheetVerdict sheet) _ (numbered-sheet sheet) (numbered-length (editsOf sheet) (tableOf table))))
+    (numbered-then (sheetVerdict sheet) _ (numbered-sheet sheet) (numbered-length rewriteTable (editsOf sheet) (tableOf table))))
 
 pub rewrite-reason : (resultLen : ℕ) (table sheet : List ℕ) → reasonOf (rewriteVerdict resultLen table sheet) ≡ 0
     → rewriteVerdict resultLen table sheet ≡ Accepted
 rewrite-reason resultLen table sheet = rewrite-numbered resultLen table sheet .accepts
+
+-- ---- the condition for going through
+
+pub record Throughable (resultLen : ℕ) (sheet : List ℕ) : Type 0 where
+  pub result-size : resultLen ≡ tableBytes
+  pub sheet-accepted : sheetVerdict sheet ≡ Accepted
+  pub short : tooLong throughEdit (editsOf sheet) oneTrue ≡ false
+
+pub through-numbered : (resultLen : ℕ) (sheet : List ℕ) → Numbered (throughVerdict resultLen sheet)
+unfolding throughVerdict
+through-numbered resultLen sheet =
+    numbered-then (bufferVerdict resultLen tableBytes) _ (numbered-buffer resultLen tableBytes)
+    (numbered-then (sheetVerdict sheet) _ (numbered-sheet sheet) (numbered-length throughEdit (editsOf sheet) oneTrue))

@@ -1,5 +1,5 @@
--- The answers of rewriting, case by case.
-use mathlib.Core.Path.{_≡_, refl}
+-- The answers of rewriting and of the condition for going through, case by case.
+use mathlib.Core.Path.{_≡_, refl, sym, _∙_}
 use mathlib.Core.List.{List}
 use mathlib.Core.Logic.{_≢_}
 use mathlib.Core.Bool.{true}
@@ -9,8 +9,10 @@ use Rattle.verdict.specs.Verdict.{_then_}
 use Rattle.verdict.specs.Laws.{then-assoc}
 use Rattle.verdict.specs.declared.Verdict.{Verdict}
 use Rattle.verdict.specs.declared.Verdict.the-variants.{Accepted, Refused}
-use Rattle.semantics.specs.Edit.{sheetLegal}
-use Rattle.semantics.specs.Table.{nodesFit}
+use Rattle.semantics.specs.Edit.{Edit, sheetLegal}
+use Rattle.semantics.specs.Table.{Node, nodesFit}
+use Rattle.semantics.specs.Block.{Pass, passed, rewriteTable}
+use Rattle.through.specs.Through.{throughEdit, oneTrue}
 use Rattle.condition.specs.Bytes.{tableOf}
 use Rattle.condition.specs.Refusal.{conditionVerdict}
 use Rattle.condition.specs.Laws.Verdict.{accepted-sound}
@@ -26,9 +28,9 @@ use Rattle.rewriting.specs.Rewriting.{TableAfter}
 use Rattle.rewriting.specs.State.{Rewrote}
 use Rattle.refusals.specs.Refusal.{bufferVerdict}
 use Rattle.refusals.specs.Laws.Items.{buffer-in, buffer-not, buffer-out, then-out}
-use Rattle.rewrite_entry.specs.Refusal.{rewriteVerdict}
-use Rattle.rewrite_entry.specs.Inputs.{inputVerdict}
-use Rattle.rewrite_entry.specs.Answered.{RewriteAnswered}
+use Rattle.rewrite_entry.specs.Refusal.{rewriteVerdict, throughVerdict}
+use Rattle.rewrite_entry.specs.Inputs.{inputVerdict, sheetInputVerdict}
+use Rattle.rewrite_entry.specs.Answered.{TableAnswered}
 
 -- ---- the inputs are judged
 
@@ -58,8 +60,8 @@ module _ (len : ℕ) (table sheet : List ℕ) where
     pub accepted-size : len ≡ tableBytes
     accepted-size = parts .0
 
-    pub accepted-table : length table ≤ tableBytes
-    accepted-table = accepted-sound table (parts .1) .few
+    pub accepted-table : (6 ≤ length table) × (length table ≤ tableBytes)
+    accepted-table = let s = accepted-sound table (parts .1) in (s .some, s .few)
 
     pub accepted-fits : nodesFit 0 (tableOf table) ≡ true
     accepted-fits = accepted-sound table (parts .1) .fits
@@ -68,25 +70,46 @@ module _ (len : ℕ) (table sheet : List ℕ) where
     accepted-legal = accepted-sheet sheet (parts .2) .are-legal
 
 -- item 14 comes after them
-input-then : (len : ℕ) (table sheet : List ℕ)
-    → rewriteVerdict len table sheet ≡ inputVerdict len table sheet then lengthVerdict (editsOf sheet) (tableOf table)
+pub input-then : (len : ℕ) (table sheet : List ℕ)
+    → rewriteVerdict len table sheet ≡ inputVerdict len table sheet then lengthVerdict rewriteTable (editsOf sheet) (tableOf table)
 unfolding rewriteVerdict inputVerdict
 input-then len table sheet =
     let c = conditionVerdict table in
     let e = sheetVerdict sheet in
-    let l = lengthVerdict (editsOf sheet) (tableOf table) in
+    let l = lengthVerdict rewriteTable (editsOf sheet) (tableOf table) in
     rw (then-assoc (bufferVerdict len tableBytes) (c then e) l, then-assoc c e l)
 
--- ---- rewriting answers
+-- ---- the same without a condition
 
-module _ {table sheet result result′ : List ℕ} {v : Verdict} (j : v ≡ inputVerdict (length result) table sheet) where
-  -- no item before 14 is met
-  pub answered-rewritten : v ≡ Accepted → {u : Verdict} {n : ℕ} → Rewrote table sheet result result′ u n → RewriteAnswered table sheet result result′ u n
-  answered-rewritten e w =
-      record { verdict = rw (input-then (length result) table sheet, ← j, e) (w .verdict); left = w .table-after }
+module _ (len : ℕ) (sheet : List ℕ) where
+  pub judged-alone-result : len ≢ tableBytes → Refused 1 0 ≡ sheetInputVerdict len sheet
+  unfolding sheetInputVerdict
+  judged-alone-result h = rw (buffer-not h)
 
-  -- an item before 14 is met
-  pub answered-refused : {item w : ℕ} → v ≡ Refused item w → {r : Rewriting} → r ≡ entry.Refused item w
-      → result′ ≡ replicate (length result) 0 → RewriteAnswered table sheet result result′ (verdictOf r) (nodesOf r)
-  unfolding TableAfter
-  answered-refused e f z = rw f (record { verdict = rw (input-then (length result) table sheet, ← j, e); left = (refl, z) })
+  pub judged-alone : len ≡ tableBytes → sheetVerdict sheet ≡ sheetInputVerdict len sheet
+  unfolding sheetInputVerdict
+  judged-alone e = rw (buffer-in e)
+
+  pub accepted-alone : sheetInputVerdict len sheet ≡ Accepted → (len ≡ tableBytes) × (sheetLegal (editsOf sheet) ≡ true)
+  unfolding sheetInputVerdict
+  accepted-alone e =
+      let p = then-out (bufferVerdict len tableBytes) (sheetVerdict sheet) e in
+      (buffer-out len tableBytes (p .0), accepted-sheet sheet (p .1) .are-legal)
+
+  pub alone-then : throughVerdict len sheet ≡ sheetInputVerdict len sheet then lengthVerdict throughEdit (editsOf sheet) oneTrue
+  unfolding throughVerdict sheetInputVerdict
+  alone-then = rw (then-assoc (bufferVerdict len tableBytes) (sheetVerdict sheet) (lengthVerdict throughEdit (editsOf sheet) oneTrue))
+
+-- ---- the answer
+
+-- b is the verdict on the items before 14: none is met
+pub answered-made : {pass : Pass} {es : List Edit} {xs : List Node} {result result′ : List ℕ} {due b v u : Verdict} {n : ℕ}
+    → due ≡ b then lengthVerdict pass es xs → v ≡ b → v ≡ Accepted → Rewrote pass es xs result result′ u n → TableAnswered due (passed pass es xs) result result′ u n
+answered-made d j e w = record { verdict = w .verdict ∙ sym (d ∙ rw (← j, e) refl); left = w .table-after }
+
+-- one of them is met, whatever comes after it
+pub answered-refused : {xs : List Node} {result result′ : List ℕ} {due b v : Verdict} (u : Verdict) {item w : ℕ} → due ≡ b then u → v ≡ b → v ≡ Refused item w
+    → {r : Rewriting} → r ≡ entry.Refused item w → result′ ≡ replicate (length result) 0
+    → TableAnswered due xs result result′ (verdictOf r) (nodesOf r)
+unfolding TableAfter
+answered-refused u d j e f z = rw f (record { verdict = sym (d ∙ rw (← j, e) refl); left = (refl, z) })

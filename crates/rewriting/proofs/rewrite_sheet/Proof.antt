@@ -1,46 +1,45 @@
--- Two empty tables, images and rows to work on.
-use native.Mathlib.Omega.{arith}
+-- The table is copied, and rewritten there.
 use mathlib.Core.Path.{_∙_, ap}
 use Prim.Native.Nat.{ℕ}
+use native.Mathlib.Omega.{arith}
 use lib.ListN.{length, length-replicate}
-use Rattle.limits.specs.Limits.{tableNodes, tableBytes}
-use Rattle.rewriting.specs.Laws.Buffers.{bytes-zero}
+use Rattle.limits.specs.Limits.{tableBytes}
+use Rattle.rewriting.specs.Laws.Buffers.{bytes-zero, bytes-copied, copied}
+use Rattle.rewriting.specs.Laws.Passes.{rewrote-as}
+use borrow.Author.Needs.{needs}
 use Rattle.rewriting.proofs.rewrite_sheet.Statement.{statement}
 use Rattle.rewriting.proofs.rewrite_sheet.Tie as tie
 
 no-table-requires : tie.Need-no-table-requires
 no-table-requires c κs = tt
 
-no-table-requires-2 : tie.Need-no-table-requires-2
-no-table-requires-2 c κs = tt
+slice-aggregate-copy : tie.Need-slice-aggregate-copy
+slice-aggregate-copy c = search needs
 
-no-images-requires : tie.Need-no-images-requires
-no-images-requires c κs = tt
+copy-requires : tie.Need-copy-requires
+copy-requires c κs = search needs
 
-no-rows-requires : tie.Need-no-rows-requires
-no-rows-requires c κs = tt
-
-rewrite-with-requires : tie.Need-rewrite-with-requires
-rewrite-with-requires c κs =
-    let r = c .before .before .before .before .before in let t = r .before .before .before in
-    let s = t .before .before .before .before in
-    let n = length-replicate {A = ℕ} in
-    (s .pre .0, ((bytes-zero tableBytes (t .no-table .ensures), ap length (t .no-table .ensures) ∙ n tableBytes 0, ap length (r .before .before .no-table2 .ensures) ∙ n tableBytes 0, ap length (r .before .no-images .ensures) ∙ n tableNodes 0, ap length (r .no-rows .ensures) ∙ n tableNodes 0), s .pre .1))
+rewrite-from-requires : tie.Need-rewrite-from-requires
+rewrite-from-requires c κs = 
+    let k = c .before .before .before in let t = k .before .before in let z = t .before .before in let s = z .before .before in
+    let w = ap length (t .no-table .ensures) ∙ length-replicate {A = ℕ} tableBytes 0 in let p = s .pre .0 in
+    ((omega (arith, p .1), omega (arith, p .0), bytes-copied (s .args .table .now) _ _ (k .copy .ensures) (λ i. omega (arith, z .before .shared-slice-known .given i)) (bytes-zero tableBytes (t .no-table .ensures)), omega (arith, k .copy .kept, w), p .2), (rw (copied (s .args .table .now) _ _ (k .copy .ensures)) (s .pre .1 .0), s .pre .1 .1))
 
 same-length : tie.Need-same-length
-same-length c = omega (arith, c .before .before .rewrite-with .kept)
+same-length c = omega (arith, c .before .before .rewrite-from .kept)
 
 returns : tie.Need-returns
-returns c = c .before .before .rewrite-with .ensures
+returns c = 
+    let r = c .before .before in let k = r .before .before .before .before in let s = k .before .before .before .before .before .before in
+    rewrote-as (copied (s .args .table .now) _ _ (k .copy .ensures)) (r .rewrite-from .ensures)
 
 pub rewrite-sheet-spec : {M : Type 1} → statement M
 rewrite-sheet-spec =
     tie.close
     (tie.spec
     no-table-requires
-    no-table-requires-2
-    no-images-requires
-    no-rows-requires
-    rewrite-with-requires
+    slice-aggregate-copy
+    copy-requires
+    rewrite-from-requires
     same-length
     returns)

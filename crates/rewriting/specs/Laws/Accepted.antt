@@ -10,7 +10,7 @@ use Rattle.finite.specs.Laws.Below.{not-below}
 use Rattle.verdict.specs.declared.Verdict.the-variants.{Accepted}
 use Rattle.semantics.specs.Table.{Node}
 use Rattle.semantics.specs.Edit.{Edit, sheetLegal}
-use Rattle.semantics.specs.Block.{rewriteSheet}
+use Rattle.semantics.specs.Block.{rewriteTable, rewriteSheet}
 use Rattle.semantics.specs.Laws.Rewrite.{sheet-fits, sheet-some, sheet-even, sheet-closed}
 use Rattle.condition.specs.Bytes.{tableOf, bytesOf}
 use Rattle.condition.specs.Refusal.{conditionVerdict}
@@ -21,7 +21,7 @@ use Rattle.sheet.specs.Refusal.{sheetVerdict}
 use Rattle.sheet.specs.Laws.Accepted.{accepted-sheet}
 use Rattle.limits.specs.Limits.{tableNodes}
 use Rattle.rewriting.specs.Refusal.{tooLong}
-use Rattle.rewriting.specs.Laws.Grow.{too-long-end}
+use Rattle.rewriting.specs.Laws.Grow.{table-grows, too-long-end}
 
 -- the first n nodes of a buffer that starts with a table of n nodes
 module _ (ys : List Node) (zs o : List ℕ) (n : ℕ) (e : n ≡ length ys) (f : o ≡ bytesOf ys ++ zs) where
@@ -32,14 +32,14 @@ module _ (ys : List Node) (zs o : List ℕ) (n : ℕ) (e : n ≡ length ys) (f :
   taken-table = ap tableOf taken ∙ table-back ys
 
 module _ (es : List Edit) (l : sheetLegal es ≡ true) (table : List ℕ) (a : conditionVerdict table ≡ Accepted)
-    (short : tooLong es (tableOf table) ≡ false) where
+    (short : tooLong rewriteTable es (tableOf table) ≡ false) where
   abbrev ys : List Node
   ys = rewriteSheet es (tableOf table)
 
   pub few-nodes : length ys ≤ tableNodes
   few-nodes =
       let s = accepted-sound table a in
-      not-below tableNodes (length ys) (sym (too-long-end es (tableOf table) (omega (arith, s .few, length-table table))) ∙ short)
+      not-below tableNodes (length ys) (sym (too-long-end rewriteTable table-grows es (tableOf table) (omega (arith, s .few, length-table table))) ∙ short)
 
   pub bytes-accepted : conditionVerdict (bytesOf ys) ≡ Accepted
   bytes-accepted =
@@ -58,7 +58,7 @@ module _ (es : List Edit) (l : sheetLegal es ≡ true) (table : List ℕ) (a : c
 
 -- the same of an accepted sheet's bytes, and of the first n nodes of the buffer that rewriting leaves
 pub rewritten-accepted : (table sheet : List ℕ) → conditionVerdict table ≡ Accepted → sheetVerdict sheet ≡ Accepted
-    → tooLong (editsOf sheet) (tableOf table) ≡ false
+    → tooLong rewriteTable (editsOf sheet) (tableOf table) ≡ false
     → (zs o : List ℕ) (n : ℕ) → n ≡ length (rewriteSheet (editsOf sheet) (tableOf table)) → o ≡ bytesOf (rewriteSheet (editsOf sheet) (tableOf table)) ++ zs
     → conditionVerdict (take (6 * n) o) ≡ Accepted
 rewritten-accepted table sheet a b short zs o n e f =

@@ -66,7 +66,7 @@ bytes-copied t d o e T D i =
     (sym (ap₂ (λ (l : List ℕ) (m : ℕ). getD l m 0) o₂ z ∙ getD-append-add t (drop (length t) d) (i - length t) 0 ∙ getD-drop (length t) d (i - length t) 0))
     (D (length t + (i - length t))))
 
-zeros : (n j : ℕ) → _≡_ {A = ℕ} (getD (replicate n 0) j 0) 0
+pub zeros : (n j : ℕ) → _≡_ {A = ℕ} (getD (replicate n 0) j 0) 0
 zeros zero j = refl
 zeros (suc n) zero = refl
 zeros (suc n) (suc j) = zeros n j

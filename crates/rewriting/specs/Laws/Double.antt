@@ -13,7 +13,7 @@ use Rattle.finite.specs.Laws.Below.{ne-same}
 use Rattle.semantics.specs.Form.{Way, along, against, every}
 use Rattle.semantics.specs.Edit.{Edit, DT1}
 use Rattle.semantics.specs.Table.{kindNo, leaf, unary, binary, kindOf, wayOf, Node}
-use Rattle.semantics.specs.Block.{Block, old, end, on, join, root, emit, size, cut, keep, change, blockDia, blockBox, blockLeaf, block, rewrite, rewriteTable, rewriteSheet}
+use Rattle.semantics.specs.Block.{Block, old, end, on, join, root, emit, size, cut, keep, change, blockDia, blockBox, blockLeaf, block, rewrite, rewriteTable, passed, rewriteSheet}
 use Rattle.condition.specs.Laws.Limits.{each-kind, kind-past}
 
 -- ---- what the nodes of a table, and those that a block makes, count together, where a node counts by its kind and parameter
@@ -147,7 +147,7 @@ module _ (m a b : ℕ) where
 
   -- k edits
   pub cost-through : (k : ℕ) (xs : List Node) → total (cost m) (rewriteSheet (replicate k (DT1 m a b)) xs) ≡ 2 ^ k * total (cost m) xs
-  unfolding rewriteSheet
+  unfolding passed
   cost-through zero xs = omega arith
   cost-through (suc k) xs =
       let s : 2 ^ suc k * total (cost m) xs ≡ 2 ^ k * total (cost m) xs + 2 ^ k * total (cost m) xs =
@@ -156,7 +156,7 @@ module _ (m a b : ℕ) where
 
   pub nodes-through : (k : ℕ) (xs : List Node)
       → length (rewriteSheet (replicate k (DT1 m a b)) xs) + total (cost m) xs ≡ length xs + 2 ^ k * total (cost m) xs
-  unfolding rewriteSheet
+  unfolding passed
   nodes-through zero xs = omega arith
   nodes-through (suc k) xs =
       let s : 2 ^ suc k * total (cost m) xs ≡ 2 ^ k * total (cost m) xs + 2 ^ k * total (cost m) xs =

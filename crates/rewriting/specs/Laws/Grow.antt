@@ -9,7 +9,8 @@ use Rattle.finite.specs.Laws.Bools.{either, or-r, or-out, both}
 use Rattle.finite.specs.Laws.Below.{below-in, below-out, below-not}
 use Rattle.semantics.specs.Edit.{Edit}
 use Rattle.semantics.specs.Table.{kindOf, Node}
-use Rattle.semantics.specs.Block.{old, root, emit, block, rewrite, rewriteTable, rewriteSheet}
+use Rattle.semantics.specs.Block.{old, root, emit, block, rewrite, rewriteTable, Pass, passed}
+use Rattle.through.specs.Through.{own, closing, behind, throughEdit}
 use Rattle.semantics.specs.Laws.Emit.{emit-length}
 use Rattle.limits.specs.Limits.{tableNodes}
 use Rattle.emitting.specs.Laws.Sizes.{block-some}
@@ -26,13 +27,21 @@ pub table-grows : (e : Edit) (xs : List Node) → length xs ≤ length (rewriteT
 unfolding rewriteTable
 table-grows e xs = omega (arith, rewrite-grows e [] [] xs)
 
+-- neither does a table with a condition behind it
+pub through-grows : (e : Edit) (xs : List Node) → length xs ≤ length (throughEdit e xs)
+unfolding throughEdit behind
+through-grows e xs =
+    let ys = rewriteTable e xs in
+    omega (arith, table-grows e xs, length-append ys (closing (length ys) (own e)))
+
 -- item 14 may be tested at the end
-pub too-long-end : (es : List Edit) (xs : List Node) → length xs ≤ tableNodes → tooLong es xs ≡ below tableNodes (length (rewriteSheet es xs))
-unfolding tooLong rewriteSheet
-too-long-end [] xs h = sym (below-not tableNodes (length xs) h)
-too-long-end (e ∷ es) xs h =
+pub too-long-end : (pass : Pass) → ((e : Edit) (xs : List Node) → length xs ≤ length (pass e xs)) → (es : List Edit) (xs : List Node)
+    → length xs ≤ tableNodes → tooLong pass es xs ≡ below tableNodes (length (passed pass es xs))
+unfolding tooLong passed
+too-long-end pass g [] xs h = sym (below-not tableNodes (length xs) h)
+too-long-end pass g (e ∷ es) xs h =
     both
-    (λ p. either (or-out (tooLong es xs) _ p)
-    (λ q. below-in tableNodes _ (omega (arith, below-out tableNodes (length (rewriteSheet es xs)) (sym (too-long-end es xs h) ∙ q), table-grows e (rewriteSheet es xs))))
+    (λ p. either (or-out (tooLong pass es xs) _ p)
+    (λ q. below-in tableNodes _ (omega (arith, below-out tableNodes (length (passed pass es xs)) (sym (too-long-end pass g es xs h) ∙ q), g e (passed pass es xs))))
     (λ q. q))
-    (λ p. or-r (tooLong es xs) _ p)
+    (λ p. or-r (tooLong pass es xs) _ p)

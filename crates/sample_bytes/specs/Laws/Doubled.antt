@@ -13,7 +13,7 @@ use Rattle.verdict.specs.declared.Verdict.the-variants.{Accepted}
 use Rattle.semantics.specs.Form.{occ, free, closed, even}
 use Rattle.semantics.specs.Table.{kindOf, wayOf, atom, one, two, build, tree, trees, treeAt, formOf, leafFits, unaryFits, kindFits, nodeFits, nodesFit, evenTable}
 use Rattle.semantics.specs.Edit.{Edit, DT1, legal, sheetLegal}
-use Rattle.semantics.specs.Block.{rewriteSheet}
+use Rattle.semantics.specs.Block.{rewriteSheet, rewriteTable}
 use Rattle.samples.specs.Rows.{tableR}
 use Rattle.condition.specs.Bytes as condition
 use Rattle.condition.specs.Refusal.{conditionVerdict}
@@ -23,7 +23,7 @@ use Rattle.sheet.specs.Laws.Read.{edits-back}
 use Rattle.sheet.specs.Laws.Accepted.{sheet-accepted}
 use Rattle.limits.specs.Limits.{tableNodes}
 use Rattle.rewriting.specs.Refusal.{tooLong, lengthVerdict}
-use Rattle.rewriting.specs.Laws.Grow.{too-long-end}
+use Rattle.rewriting.specs.Laws.Grow.{table-grows, too-long-end}
 use Rattle.rewriting.specs.Laws.Double.{total, meets, cost, nodes-through}
 use Rattle.refusals.specs.Laws.Items.{buffer-in}
 use Rattle.rewrite_entry.specs.Refusal.{rewriteVerdict}
@@ -66,11 +66,11 @@ sheet-ok k h =
 nodes-are : (k : ℕ) → length (rewriteSheet (edits k) tableR) ≡ 5 + 8 * (2 ^ k - 1)
 nodes-are k = omega (arith, rw (five, cost-8) at (nodes-through 4 1 2 k tableR), pow-pos k)
 
-long-is : (k : ℕ) → tooLong (edits k) tableR ≡ below tableNodes (5 + 8 * (2 ^ k - 1))
-long-is k = too-long-end (edits k) tableR (omega (arith, five)) ∙ ap (below tableNodes) (nodes-are k)
+long-is : (k : ℕ) → tooLong rewriteTable (edits k) tableR ≡ below tableNodes (5 + 8 * (2 ^ k - 1))
+long-is k = too-long-end rewriteTable table-grows (edits k) tableR (omega (arith, five)) ∙ ap (below tableNodes) (nodes-are k)
 
 module _ (k : ℕ) (few : k ≤ 64) (call : RewriteCall (condition.bytesOf tableR) (cuts k)) where
-  verdict-is : rewriteVerdict (length (call .result)) (condition.bytesOf tableR) (cuts k) ≡ lengthVerdict (edits k) tableR
+  verdict-is : rewriteVerdict (length (call .result)) (condition.bytesOf tableR) (cuts k) ≡ lengthVerdict rewriteTable (edits k) tableR
   unfolding rewriteVerdict
   verdict-is = rw (buffer-in (call .result-size), table-ok, sheet-ok k few, edits-back (edits k), table-back tableR)
 

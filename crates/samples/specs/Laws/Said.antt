@@ -13,7 +13,7 @@ use Rattle.limits.specs.Limits.{slots}
 use Rattle.semantics.specs.Holds.{Env, Model, Holds}
 use Rattle.semantics.specs.Table.{Node, treeAt, formOf, nodesFit, evenTable}
 use Rattle.semantics.specs.Edit.{Edit, Valid, sheet, sheetLegal, sheetGoes}
-use Rattle.semantics.specs.Block.{rewriteSheet}
+use Rattle.semantics.specs.Block.{passed, rewriteSheet}
 use Rattle.semantics.specs.Laws.Eval.{eval, eval-table}
 use Rattle.semantics.specs.Laws.FixedPoint.{none}
 use Rattle.semantics.specs.Laws.Edits.{sheet-valid}
@@ -53,7 +53,7 @@ sound-out r p =
 -- the set of the rewritten table; through the empty sheet it is the table itself
 today : (M : Model) (ρ : Env) (es : List Edit) (xs : List Node) (S : Slots)
     → listsSet (sheet es M) ρ (formOf xs) S ≡ true → todayTest M ρ es xs S ≡ true → listsSet M ρ (formOf (rewriteSheet es xs)) S ≡ true
-unfolding todayTest sheet rewriteSheet
+unfolding todayTest sheet passed
 today M ρ [] xs S p q = p
 today M ρ (e ∷ es) xs S p q = q
 

@@ -14,7 +14,7 @@ use Rattle.semantics.specs.Form.{Form, top, occ, free, closed, even}
 use Rattle.semantics.specs.Holds.{Env, Model, Holds}
 use Rattle.semantics.specs.Edit.{Edit, edit, legal, goes, Valid, sheet, sheetLegal, sheetGoes}
 use Rattle.semantics.specs.Table.{Kind, leaf, unary, binary, kindOf, Node, tree, trees, treeAt, formOf, nodeFits, nodesFit, evenTable}
-use Rattle.semantics.specs.Block.{Block, old, size, root, emit, block, rewrite, rewriteTable, rewriteSheet}
+use Rattle.semantics.specs.Block.{Block, old, size, root, emit, block, rewrite, rewriteTable, passed, rewriteSheet}
 use Rattle.semantics.specs.Laws.TreeAt.{length-snoc, trees-append, table-length, trees-old, Lower, node-kind, node-lower, fits-first, fits-rest}
 use Rattle.semantics.specs.Laws.Edits.{Legal, legal-out, goes-out, edit-valid}
 use Rattle.semantics.specs.Laws.Emit.{fits-append, emit-length, blockFits, emit-fits, fill, emit-tree, Evens, emit-even}
@@ -118,11 +118,11 @@ all-done e l (x ∷ xs) ts images out done f =
     all-done e l xs _ _ _ (next e l ts images out done x (fits-first _ x xs f))
     (subst (λ (n : ℕ). nodesFit n xs ≡ true) (sym (length-snoc ts (tree ts x))) (fits-rest _ x xs f))
 
-evens-in : (xs : List Node) → evenTable xs ≡ true → Evens (trees [] xs)
+pub evens-in : (xs : List Node) → evenTable xs ≡ true → Evens (trees [] xs)
 unfolding evenTable treeAt
 evens-in xs h i k = all-out (length xs) _ h i (omega (arith, table-length xs))
 
-evens-out : (xs : List Node) → Evens (trees [] xs) → evenTable xs ≡ true
+pub evens-out : (xs : List Node) → Evens (trees [] xs) → evenTable xs ≡ true
 unfolding evenTable treeAt
 evens-out xs h = all-in (length xs) _ (λ i k. h i (omega (arith, table-length xs)))
 
@@ -177,7 +177,7 @@ one-more e es xs ys l r = record {
 }
 
 pub sheet-rewritten : (es : List Edit) → sheetLegal es ≡ true → (xs : List Node) → nodesFit 0 xs ≡ true → Rewritten es xs (rewriteSheet es xs)
-unfolding sheetLegal rewriteSheet sheet
+unfolding sheetLegal passed sheet
 sheet-rewritten [] l xs f = record {
   fits = f;
   evens = λ h. h;

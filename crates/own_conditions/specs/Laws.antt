@@ -1,0 +1,2 @@
+-- Laws of own conditions.
+pub mod Nodes

@@ -1,0 +1,4 @@
+-- The theorems, by topic: an edit's own condition; a condition behind a table; the table of a sheet.
+pub mod Own
+pub mod Behind
+pub mod Through
