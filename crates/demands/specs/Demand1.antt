@@ -11,12 +11,14 @@ use Rattle.verdict.specs.declared.Verdict.the-variants.{Accepted}
 use Rattle.refusals.specs.Refusal.{lastItem}
 use Rattle.list_entry.specs.Listing.{ListAfter}
 use Rattle.apply_entry.specs.Applying.{SiteAfter}
+use Rattle.through.specs.Through.{through}
+use Rattle.sheet.specs.Bytes.{editsOf}
 use Rattle.rewriting.specs.Rewriting.{TableAfter, rewritten}
 use Rattle.classes_entry.specs.Classing.{ClassesAfter}
 use Rattle.trailer.specs.Pieces.{siteIn, conditionIn, sheetIn}
 use Rattle.job_run.specs.Buffers.{Buffers}
 use Rattle.job_run.specs.Job.{JobAfter}
-use Rattle.desk.specs.Returned.{ReturnedList, ReturnedApply, ReturnedRewrite, ReturnedClasses, ReturnedJob}
+use Rattle.desk.specs.Returned.{ReturnedList, ReturnedApply, ReturnedRewrite, ReturnedThrough, ReturnedClasses, ReturnedJob}
 
 -- the full answer where the reason is 0, and W is then 0; else the number of an item, and zeros
 pub record Answers (reason fault : ℕ) (Full Zeros : Type 0) : Type 0 where
@@ -52,7 +54,7 @@ Demand1Job =
     (file : List ℕ) (b b′ : Buffers) (reason fault after today nodes classes : ℕ) → ReturnedJob file b b′ reason fault after today nodes classes
     → Answers reason fault (FullJob file b b′ after today nodes classes) (ZeroJob b b′ after today nodes classes)
 
--- ---- the four functions, one by one: what each leaves after the verdict Accepted, or zeros
+-- ---- the other functions, one by one: what each leaves after the verdict Accepted, or zeros
 
 unfoldable pub Demand1List : Type 0
 Demand1List =
@@ -69,16 +71,22 @@ Demand1Rewrite =
     (table sheet result result′ : List ℕ) (reason fault n : ℕ) → ReturnedRewrite table sheet result result′ reason fault n
     → Answers reason fault (TableAfter Accepted (rewritten table sheet) result result′ n) (Zeroed result result′ × (n ≡ 0))
 
+unfoldable pub Demand1Through : Type 0
+Demand1Through =
+    (sheet result result′ : List ℕ) (reason fault n : ℕ) → ReturnedThrough sheet result result′ reason fault n
+    → Answers reason fault (TableAfter Accepted (through (editsOf sheet)) result result′ n) (Zeroed result result′ × (n ≡ 0))
+
 unfoldable pub Demand1Classes : Type 0
 Demand1Classes =
     (site classes classes′ : List ℕ) (reason fault n : ℕ) → ReturnedClasses site classes classes′ reason fault n
     → Answers reason fault (ClassesAfter Accepted site classes classes′ n) (Zeroed classes classes′ × (n ≡ 0))
 
--- ---- all five
+-- ---- all six
 
 pub record Demand1 : Type 0 where
   pub job : Demand1Job
   pub listing : Demand1List
   pub applying : Demand1Apply
   pub rewriting : Demand1Rewrite
+  pub going-through : Demand1Through
   pub classes : Demand1Classes

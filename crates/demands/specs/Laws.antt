@@ -2,4 +2,5 @@
 pub mod Accepted
 pub mod Demand1
 pub mod Demands
+pub mod Through
 pub mod Job

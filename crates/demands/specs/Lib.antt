@@ -2,6 +2,8 @@
 pub mod Demand1
 -- demands 2 and 3, on the entry points together
 pub mod Demands
+-- the demand on the condition for going through
+pub mod Through
 -- the demands on a whole job
 pub mod Job
 -- what is proved of them

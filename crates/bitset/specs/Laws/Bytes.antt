@@ -1,15 +1,15 @@
 -- Slots and the bytes they stand in: a byte's eight slots, the empty and the full set, and that slots tell the bytes.
 use mathlib.Core.Path.{_≡_, sym, _∙_, ap₂}
-use mathlib.Core.Bool.{Bool, true, false, Bool·beq}
+use mathlib.Core.Bool.{Bool, true, false, cond, Bool·beq}
 use mathlib.Core.List.{List}
 use Prim.Native.Nat.{ℕ, _+_, _*_, _/_, _%_, _<_}
 use native.Mathlib.Omega.{arith}
-use lib.ListN.{length, getD, replicate, getD-replicate}
+use lib.ListN.{length, getD, replicate, length-replicate, getD-replicate, List·getD-eq-default}
 use lib.Seq.{ext-getD}
-use Rattle.finite.specs.Tests.{bit}
+use Rattle.finite.specs.Tests.{bit, below}
 use Rattle.finite.specs.Laws.Bits.{all-below}
-use Rattle.finite.specs.Laws.Below.{pass}
-use Rattle.finite.specs.Laws.Bools.{beq-true}
+use Rattle.finite.specs.Laws.Below.{pass, below-out, not-below}
+use Rattle.finite.specs.Laws.Bools.{beq-true, either, look}
 use Rattle.finite.specs.Laws.Weights.{bit-zero, same-bits}
 use Rattle.bitset.specs.Set.{setBytes, has, Is}
 
@@ -30,9 +30,23 @@ pub has-full : Is (replicate setBytes 255) (λ s. true)
 unfolding bit
 has-full = has-like 255 true (λ k h. beq-true _ _ (pass _ (all-below (λ j. Bool·beq (bit 255 j) true) 8 tt k h)))
 
+like-small : (v : ℕ) → v < 256 → (k : ℕ) → getD (replicate setBytes v) k 0 < 256
+like-small v h k =
+    either
+    (look (below k setBytes))
+    (λ q. rw (getD-replicate {A = ℕ} setBytes k v 0 (below-out k setBytes q)) h)
+    (λ q. let e = List·getD-eq-default (replicate setBytes v) 0 {n = k} (omega (arith, not-below k setBytes q, length-replicate {A = ℕ} setBytes v)) in omega arith)
+
 -- equal slots, equal bytes
 pub same-slots : (n : ℕ) (A B : List ℕ) → length A ≡ n → length B ≡ n → ((k : ℕ) → getD A k 0 < 256) → ((k : ℕ) → getD B k 0 < 256)
     → ((s : ℕ) → s < n * 8 → has A s ≡ has B s) → A ≡ B
 same-slots n A B la lb ha hb h =
     ext-getD 0 A B (la ∙ sym lb) (λ i l. same-bits 8 (getD A i 0) (getD B i 0) (ha i) (hb i) (λ k lk.
     sym (has-byte A i k lk) ∙ h (i * 8 + k) (omega arith) ∙ has-byte B i k lk))
+
+-- a set whose slots are all in it, or all out of it
+pub like-bytes : (b : Bool) (A : List ℕ) → length A ≡ setBytes → ((k : ℕ) → getD A k 0 < 256) → Is A (λ s. b) → A ≡ replicate setBytes (cond b 255 0)
+like-bytes true A l h i =
+    same-slots setBytes A (replicate setBytes 255) l (length-replicate {A = ℕ} setBytes 255) h (like-small 255 (omega arith)) (λ s k. i s k ∙ sym (has-full s k))
+like-bytes false A l h i =
+    same-slots setBytes A (replicate setBytes 0) l (length-replicate {A = ℕ} setBytes 0) h (like-small 0 (omega arith)) (λ s k. i s k ∙ sym (has-empty s k))

@@ -2,11 +2,11 @@
 use mathlib.Core.Path.{_≡_, refl, ap}
 use mathlib.Core.List.{List}
 use mathlib.Core.Bool.{Bool, true, false, not, cond}
-use Prim.Native.Nat.{ℕ, _-_, _%_, _≤_}
+use Prim.Native.Nat.{ℕ, _-_, _%_, _≤_, _<_}
 use native.Mathlib.Omega.{arith}
 use lib.ListN.{length}
 use borrow.Author.Tests.{not-true, not-false}
-use Rattle.limits.specs.Limits.{tableBytes}
+use Rattle.limits.specs.Limits.{tableNodes, tableBytes}
 use Rattle.finite.specs.Tests.{same, below}
 use Rattle.finite.specs.Laws.Bools.{and-in, and-l, and-r}
 use Rattle.finite.specs.Laws.Below.{same-eq, eq-same, below-not, not-below, any-none, none-any, all-in, all-out}
@@ -14,9 +14,10 @@ use Rattle.finite.specs.Laws.First.{first-none, first-past}
 use Rattle.verdict.specs.declared.Verdict.{Verdict}
 use Rattle.verdict.specs.declared.Verdict.the-variants.{Accepted, Refused}
 use Rattle.semantics.specs.Form.{even, closed}
-use Rattle.semantics.specs.Table.{treeAt, formOf, nodesFit, evenTable}
-use Rattle.condition.specs.Bytes.{tableOf}
+use Rattle.semantics.specs.Table.{Node, treeAt, formOf, nodesFit, evenTable}
+use Rattle.condition.specs.Bytes.{tableOf, bytesOf}
 use Rattle.condition.specs.Refusal.{sizeFits, firstUnfit, firstUneven, conditionVerdict}
+use Rattle.condition.specs.Laws.Bytes.{length-bytes, table-back}
 use Rattle.condition.specs.Laws.Fits.{none-unfit, fit-none}
 
 -- ---- item 7 and item 9, each both ways
@@ -108,3 +109,18 @@ accepted-sound S e =
 pub sound-accepted : (S : List ℕ) → Sound S → conditionVerdict S ≡ Accepted
 sound-accepted S s =
     no-item S (size-in (length S) (s .multiple) (s .some) (s .few)) (fit-none S (s .fits)) (even-none S (s .even-rule)) (s .is-closed)
+
+-- a table that meets none of the items
+pub bytes-accepted : (ys : List Node) → 0 < length ys → length ys ≤ tableNodes → nodesFit 0 ys ≡ true → evenTable ys ≡ true
+    → closed (formOf ys) ≡ true → conditionVerdict (bytesOf ys) ≡ Accepted
+bytes-accepted ys some few f e c =
+    let n = length-bytes ys in
+    sound-accepted (bytesOf ys)
+    (record {
+      multiple = omega (arith, n);
+      some = omega (arith, n, some);
+      few = omega (arith, n, few);
+      fits = rw (table-back ys) f;
+      even-rule = rw (table-back ys) e;
+      is-closed = rw (table-back ys) c;
+    })

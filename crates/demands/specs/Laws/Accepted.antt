@@ -31,8 +31,8 @@ use Rattle.list_entry.specs.Refusal.{listVerdict}
 use Rattle.list_entry.specs.Laws.Refusal.{Accepts}
 use Rattle.apply_entry.specs.Refusal.{applyVerdict}
 use Rattle.apply_entry.specs.Laws.Refusal.{Appliable}
-use Rattle.rewrite_entry.specs.Refusal.{rewriteVerdict}
-use Rattle.rewrite_entry.specs.Laws.Refusal.{Rewritable}
+use Rattle.rewrite_entry.specs.Refusal.{rewriteVerdict, throughVerdict}
+use Rattle.rewrite_entry.specs.Laws.Refusal.{Rewritable, Throughable}
 use Rattle.classes_entry.specs.Refusal.{classesBytes, classesVerdict}
 use Rattle.classes_entry.specs.Laws.Refusal as classes
 use Rattle.job_run.specs.Buffers.{Buffers}
@@ -66,6 +66,10 @@ pub rewrite-accepted : (resultLen : ℕ) (table sheet : List ℕ) → Rewritable
 unfolding rewriteVerdict lengthVerdict
 rewrite-accepted resultLen table sheet a = rw (buffer-in (a .result-size), a .table-accepted, a .sheet-accepted, a .short)
 
+pub through-accepted : (resultLen : ℕ) (sheet : List ℕ) → Throughable resultLen sheet → throughVerdict resultLen sheet ≡ Accepted
+unfolding throughVerdict lengthVerdict
+through-accepted resultLen sheet a = rw (buffer-in (a .result-size), a .sheet-accepted, a .short)
+
 pub classes-accepted : (classesLen : ℕ) (site : List ℕ) → classes.Accepts classesLen site → classesVerdict classesLen site ≡ Accepted
 unfolding classesVerdict
 classes-accepted classesLen site a = rw (buffer-in (a .classes-size)) (a .site-accepted)
@@ -84,7 +88,7 @@ job-accepted b file a =
     )
     (pieces-in _ _ _ (a .pieces))
 
--- ---- the numbers of the items; of rewriting and of the job `rewrite-numbered` and `job-numbered` say it
+-- ---- the numbers of the items; of rewriting, the condition for going through and the job `rewrite-numbered`, `through-numbered` and `job-numbered` say it
 
 pub list-numbered : (setLen workLen : ℕ) (site table : List ℕ) → Numbered (listVerdict setLen workLen site table)
 unfolding listVerdict

@@ -9,15 +9,17 @@ use Rattle.verdict.specs.declared.Verdict.the-variants.{Accepted, Refused}
 use Rattle.refusals.specs.Laws.Items.{Numbered}
 use Rattle.list_entry.specs.Listing.{SetAfter, ListAfter}
 use Rattle.apply_entry.specs.Applying.{SiteAfter}
+use Rattle.through.specs.Through.{through}
+use Rattle.sheet.specs.Bytes.{editsOf}
 use Rattle.rewriting.specs.Rewriting.{TableAfter, rewritten}
-use Rattle.rewrite_entry.specs.Laws.Refusal.{rewrite-numbered}
+use Rattle.rewrite_entry.specs.Laws.Refusal.{rewrite-numbered, through-numbered}
 use Rattle.classes_entry.specs.Classing.{ClassesAfter}
 use Rattle.trailer.specs.Pieces.{siteIn, conditionIn, sheetIn}
 use Rattle.job_run.specs.Job.{JobAfter}
 use Rattle.job_entry.specs.Laws.Refusal.{job-numbered}
 use Rattle.desk.specs.Returned.{Returned}
 use Rattle.demands.specs.Laws.Accepted.{list-numbered, apply-numbered, classes-numbered}
-use Rattle.demands.specs.Demand1.{Answers, Demand1Job, Demand1List, Demand1Apply, Demand1Rewrite, Demand1Classes, Demand1}
+use Rattle.demands.specs.Demand1.{Answers, Demand1Job, Demand1List, Demand1Apply, Demand1Rewrite, Demand1Through, Demand1Classes, Demand1}
 
 -- what is left after a verdict is the full answer after Accepted, and zeros after each refusal
 answers : (After : Verdict → Type 0) {Full Zeros : Type 0} → (After Accepted → Full) → ((n k : ℕ) → After (Refused n k) → Zeros)
@@ -71,6 +73,12 @@ demand-1-rewrite table sheet result result′ reason fault n r =
     answers (λ v. TableAfter v (rewritten table sheet) result result′ n) (λ p. p) (λ item k p. (p .1, p .0))
     _ (rewrite-numbered (length result) table sheet) r
 
+demand-1-through : Demand1Through
+unfolding Demand1Through TableAfter
+demand-1-through sheet result result′ reason fault n r =
+    answers (λ v. TableAfter v (through (editsOf sheet)) result result′ n) (λ p. p) (λ item k p. (p .1, p .0))
+    _ (through-numbered (length result) sheet) r
+
 demand-1-classes : Demand1Classes
 unfolding Demand1Classes ClassesAfter
 demand-1-classes site classes classes′ reason fault n r =
@@ -84,5 +92,6 @@ demand-1 =
       listing = demand-1-list;
       applying = demand-1-apply;
       rewriting = demand-1-rewrite;
+      going-through = demand-1-through;
       classes = demand-1-classes;
     }

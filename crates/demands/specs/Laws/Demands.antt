@@ -47,10 +47,10 @@ module _ {site table : List ℕ} (a : siteVerdict site ≡ Accepted) (b : condit
       list-accepted (length (c .set)) (length (c .work)) site table
       (record { set-size = c .set-size; work-size = c .work-size; site-accepted = a; table-accepted = b })
 
-  list-reason : c .reason ≡ 0
+  pub list-reason : c .reason ≡ 0
   list-reason = c .returned .reason-is ∙ ap reasonOf list-goes
 
-  listed : Listed (siteOf site) (formOf (tableOf table)) (c .set′) (c .count)
+  pub listed : Listed (siteOf site) (formOf (tableOf table)) (c .set′) (c .count)
   unfolding SetAfter
   listed = (rw list-goes at (c .returned .left)) .set-after
 

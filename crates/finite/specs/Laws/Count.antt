@@ -1,6 +1,6 @@
 -- Laws of counting: how many numbers below a bound pass a test.
 use mathlib.Core.Path.{_≡_, refl, sym, subst}
-use mathlib.Core.Bool.{Bool, true, false}
+use mathlib.Core.Bool.{Bool, true, false, cond}
 use Prim.Native.Nat.{ℕ, zero, suc, _+_, _≤_, _<_}
 use native.Mathlib.Nat.{add-zero, add-suc}
 use native.Mathlib.Omega.{arith}
@@ -20,6 +20,14 @@ unfolding any below count
 any-counted zero f = refl
 any-counted (suc n) f =
     either (look (f n)) (λ e. rw (e, count) (sym (below-in 0 (1 + count n f) (omega arith)))) (λ e. let z : 0 + count n f ≡ count n f = omega arith in rw (e, count, z) (any-counted n f))
+
+-- where all numbers pass or none does, all or none are counted
+pub count-like : (n : ℕ) (f : ℕ → Bool) (b : Bool) → ((x : ℕ) → x < n → f x ≡ b) → count n f ≡ cond b n 0
+unfolding count
+count-like zero f true h = refl
+count-like zero f false h = refl
+count-like (suc n) f true h = rw (h n (omega arith), count-like n f true (λ x k. h x (omega arith))) (omega arith)
+count-like (suc n) f false h = rw (h n (omega arith), count-like n f false (λ x k. h x (omega arith))) (omega arith)
 
 -- where more numbers pass, more are counted
 pub count-mono : (n : ℕ) (f g : ℕ → Bool) → ((x : ℕ) → x < n → f x ≡ true → g x ≡ true) → count n f ≤ count n g

@@ -1,14 +1,16 @@
--- The list of a rewritten table today and the list of the table after the sheet are the same bytes, with the same count.
+-- The list of a rewritten table today and the list of the table after the sheet are the same bytes, with the same count; and the list of a condition
+-- that holds everywhere or nowhere.
 use mathlib.Core.Path.{_≡_, sym, _∙_, ap}
 use mathlib.Core.Logic.{_↔_, Iff·symm}
 use mathlib.Core.List.{List}
-use mathlib.Core.Bool.{true, false}
+use mathlib.Core.Bool.{Bool, true, false, cond}
 use Prim.Native.Nat.{ℕ, _<_}
-use lib.ListN.{length}
+use lib.ListN.{length, replicate}
 use Rattle.finite.specs.Tests.{count}
 use Rattle.finite.specs.Laws.Bools.{both}
+use Rattle.finite.specs.Laws.Count.{count-like}
 use Rattle.bitset.specs.Set.{setBytes, has}
-use Rattle.bitset.specs.Laws.Bytes.{same-slots}
+use Rattle.bitset.specs.Laws.Bytes.{same-slots, like-bytes}
 use Rattle.limits.specs.Limits.{slots}
 use Rattle.semantics.specs.Form.{Form}
 use Rattle.semantics.specs.Holds.{Env, Model, Holds}
@@ -38,3 +40,13 @@ module _ {A B : List ℕ} {m n : ℕ} where
       → (xs : List Node) → nodesFit 0 xs ≡ true → 0 < length xs
       → Listed M (formOf (rewriteSheet es xs)) A m → Listed (sheet es M) (formOf xs) B n → (A ≡ B) × (m ≡ n)
   same-lists es l M v g xs f h p q = same-listed p q (λ ρ s k. Iff·symm (rewritten-holds es l M v g xs f h ρ s k))
+
+-- a condition that holds at every slot, or at none
+pub like-listed : {M : Model} {φ : Form} {A : List ℕ} {n : ℕ} (b : Bool) → Listed M φ A n
+    → ((ρ : Env) (s : ℕ) → s < slots → Holds M ρ φ s ↔ (b ≡ true)) → (A ≡ replicate setBytes (cond b 255 0)) × (n ≡ cond b slots 0)
+unfolding slots
+like-listed {A = A} b p on =
+    let none : Env = λ v x. false in
+    let is : (s : ℕ) → s < slots → has A s ≡ b =
+    λ s h. both (λ g. on none s h .0 (p .listed none s h .0 g)) (λ g. p .listed none s h .1 (on none s h .1 g)) in
+    (like-bytes b A (p .size) (p .bytes) is, p .counted ∙ count-like slots (has A) b is)

@@ -9,12 +9,12 @@ own-size-requires : tie.Need-own-size-requires
 own-size-requires c κs = search needs
 
 returns : tie.Need-returns
-returns c = 
+returns c =
     let z = c .before in let a = z .before .before .args in
     behind-none _ (a .n) (z .own-size .ensures .0) (a .out .now) (omega arith)
 
 returns-2 : tie.Need-returns-2
-returns-2 c = 
+returns-2 c =
     let z = c .before .before in let a = z .before .before .args in
     behind-full _ (a .n) (z .own-size .ensures .0) (a .out .now) (omega arith)
 
@@ -25,12 +25,12 @@ add-made-2 : tie.Need-add-made-2
 add-made-2 c = omega arith
 
 returns-3 : tie.Need-returns-3
-returns-3 c = 
+returns-3 c =
     let z = c .before .before .before in let a = z .before .before .args in
     behind-long _ (a .n) (z .own-size .ensures .0) (omega arith) (a .out .now) (omega arith)
 
 put-own-requires : tie.Need-put-own-requires
-put-own-requires c κs = 
+put-own-requires c κs =
     let z = c .before .before .before .before in let s = z .before .before in
     (omega (arith, z .own-size .ensures .0, s .pre .0), omega arith)
 
@@ -53,7 +53,7 @@ same-length : tie.Need-same-length
 same-length c = omega arith
 
 returns-4 : tie.Need-returns-4
-returns-4 c = 
+returns-4 c =
     let p = c .before .before in let q = p .before .before .before .before in let z = q .before .before .before .before .before in
     let a = z .before .before .args in
     behind-put _ (a .n) (z .own-size .ensures .0) (omega arith) (a .out .now) (omega arith) (q .put-own .ensures) (p .put-node .ensures)

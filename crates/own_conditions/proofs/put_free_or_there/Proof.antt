@@ -38,7 +38,7 @@ same-length : tie.Need-same-length
 same-length c = omega arith
 
 returns : tie.Need-returns
-returns c = 
+returns c =
     let n4 = c .before .before in let n3 = n4 .before .before .before .before in let n2 = n3 .before .before .before .before in
     let n1 = n2 .before .before .before .before in let a = n1 .before .before .before .args in
     free-put (a .out .now) (a .at) (a .m) (a .n1) (a .n2) (n1 .put-reaches .ensures) (n2 .put-node .ensures) (n3 .put-reaches2 .ensures) (n4 .put-node2 .ensures)

@@ -6,7 +6,7 @@ use Rattle.own_conditions.proofs.put_link.Statement.{statement}
 use Rattle.own_conditions.proofs.put_link.Tie as tie
 
 put-neither-nil-requires : tie.Need-put-neither-nil-requires
-put-neither-nil-requires c κs = 
+put-neither-nil-requires c κs =
     let a = c .before .before .args in omega (arith, link-least (a .m) (a .n1) (a .n2))
 
 is-functional-requires : tie.Need-is-functional-requires
@@ -16,7 +16,7 @@ same-length : tie.Need-same-length
 same-length c = omega arith
 
 returns : tie.Need-returns
-returns c = 
+returns c =
     let n = c .before .before .before .before in let a = n .before .before .before .args in
     general-put (a .out .now) (a .at) (a .m) (a .n1) (a .n2) (n .put-neither-nil .ensures) (c .before .is-functional .ensures) (c .if1 .taken)
 
@@ -24,7 +24,7 @@ add-put-free-or-there : tie.Need-add-put-free-or-there
 add-put-free-or-there c = omega arith
 
 put-free-or-there-requires : tie.Need-put-free-or-there-requires
-put-free-or-there-requires c κs = 
+put-free-or-there-requires c κs =
     let f = c .before in let n = f .before .before .before .before in let a = n .before .before .before .args in
     omega (arith, link-whole (a .m) (a .n1) (a .n2) (f .before .is-functional .ensures) (f .if1 .left))
 
@@ -38,7 +38,7 @@ add-put-node-3 : tie.Need-add-put-node-3
 add-put-node-3 c = omega arith
 
 put-node-requires : tie.Need-put-node-requires
-put-node-requires c κs = 
+put-node-requires c κs =
     let f = c .before .before .before .before .before in let n = f .before .before .before .before in let a = n .before .before .before .args in
     omega (arith, link-whole (a .m) (a .n1) (a .n2) (f .before .is-functional .ensures) (f .if1 .left))
 
@@ -46,7 +46,7 @@ same-length-2 : tie.Need-same-length-2
 same-length-2 c = omega arith
 
 returns-2 : tie.Need-returns-2
-returns-2 c = 
+returns-2 c =
     let p = c .before .before in let q = p .before .before .before .before in let f = q .before .before in
     let n = f .before .before .before .before in let a = n .before .before .before .args in
     functional-put (a .out .now) (a .at) (a .m) (a .n1) (a .n2) (n .put-neither-nil .ensures) (f .before .is-functional .ensures) (f .if1 .left) (q .put-free-or-there .ensures) (p .put-node .ensures)

@@ -29,7 +29,7 @@ same-length : tie.Need-same-length
 same-length c = omega arith
 
 returns : tie.Need-returns
-returns c = 
+returns c =
     let n3 = c .before .before in let n2 = n3 .before .before .before .before in let n1 = n2 .before .before .before .before in
     let a = n1 .before .before .before .args in
     neither-put (a .out .now) (a .at) (a .n1) (a .n2) (n1 .put-nowhere .ensures) (n2 .put-nowhere2 .ensures) (n3 .put-node .ensures)

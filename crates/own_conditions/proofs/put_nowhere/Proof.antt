@@ -44,7 +44,7 @@ same-length : tie.Need-same-length
 same-length c = omega arith
 
 returns : tie.Need-returns
-returns c = 
+returns c =
     let n5 = c .before .before in let n4 = n5 .before .before .before .before in let n3 = n4 .before .before .before .before in
     let n2 = n3 .before .before .before .before in let n1 = n2 .before .before .before .before in let s = n1 .before .before .before in
     puts-five (s .args .out .now) (s .args .at) _ _ _ _ _ (n1 .put-node .ensures) (n2 .put-node2 .ensures) (n3 .put-node3 .ensures) (n4 .put-node4 .ensures) (n5 .put-node5 .ensures)

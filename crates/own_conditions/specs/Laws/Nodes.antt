@@ -6,6 +6,7 @@ use mathlib.Core.Option.{Option, none, some}
 use Prim.Native.Nat.{ℕ, _+_, _-_, _≤_, _<_}
 use native.Mathlib.Omega.{arith}
 use lib.ListN.{length}
+use borrow.Author.Tests.{not-true, not-false}
 use Rattle.finite.specs.Laws.Bools.{either, look}
 use Rattle.semantics.specs.Edit.{Edit, CN1, CN2, AP, DP, AT, DT1, DT2, AS, DS, functional}
 use Rattle.semantics.specs.Table.{Node, Leaf, Unary, Binary, kTrue, kName, kNot, kAnd, kOr, leaf, unary, binary, kindNo}
@@ -79,26 +80,18 @@ free-put o at m n1 n2 {o₁} {o₂} e₁ e₂ e₃ e₄ =
     let b : o₂ ≡ puts o at 0 (emit (no! t) at) = e₂ ∙ rw a (sym (puts-on o at kNot 0 t)) in
     rw (e₄, e₃, b, h, g, reaches-nodes (at + 6) n1 m kName n2) (sym (puts-join o at kOr (no! t) u))
 
-off : {b : Bool} → not b ≡ true → b ≡ false
-off {b = true} h = sym h
-off {b = false} h = refl
-
-on! : {b : Bool} → not b ≡ false → b ≡ true
-on! {b = true} h = refl
-on! {b = false} h = sym h
-
 -- AT's condition, by whether the link is functional
 module _ (o : List ℕ) (at m n1 n2 : ℕ) {o₁ : List ℕ} (e₁ : o₁ ≡ puts o at 0 (emit (neitherNil n1 n2) at)) where
   pub general-put : {b : Bool} → b ≡ functional m → not b ≡ true → o₁ ≡ puts o at 0 (ownNodes at (own (AT m n1 n2)))
   unfolding own ownNodes
-  general-put e t = rw (sym e ∙ off t) e₁
+  general-put e t = rw (sym e ∙ not-true _ t) e₁
 
   pub functional-put : {o₂ o₃ : List ℕ} {b : Bool} → b ≡ functional m → not b ≡ false → o₂ ≡ puts o₁ (at + 11) 0 (emit (freeOrThere m n1 n2) (at + 11))
       → o₃ ≡ put o₂ (at + 23) (node andNo 0 (at + 10) (at + 22)) → o₃ ≡ puts o at 0 (ownNodes at (own (AT m n1 n2)))
   unfolding own ownNodes root size kindNo
   functional-put e t e₂ e₃ =
       let h : at + 23 ≡ at + 11 + 12 = omega arith in let g : at + 22 ≡ at + 11 + 11 = omega arith in
-      rw (sym e ∙ on! t) (rw (e₃, e₂, e₁, h, g) (sym (puts-join o at kAnd (neitherNil n1 n2) (freeOrThere m n1 n2))))
+      rw (sym e ∙ not-false _ t) (rw (e₃, e₂, e₁, h, g) (sym (puts-join o at kAnd (neitherNil n1 n2) (freeOrThere m n1 n2))))
 
 -- how many nodes it has
 link-size : (m n1 n2 : ℕ) → ownSize (own (AT m n1 n2)) ≡ cond (functional m) 24 11
@@ -115,7 +108,7 @@ link-sized m n1 n2 e =
 
 -- where the link is functional, there are 24
 pub link-whole : (m n1 n2 : ℕ) {b : Bool} → b ≡ functional m → not b ≡ false → ownSize (own (AT m n1 n2)) ≡ 24
-link-whole m n1 n2 e t = link-size m n1 n2 ∙ rw (sym e ∙ on! t) refl
+link-whole m n1 n2 e t = link-size m n1 n2 ∙ rw (sym e ∙ not-false _ t) refl
 
 -- ---- behind a table
 

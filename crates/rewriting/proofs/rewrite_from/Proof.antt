@@ -18,13 +18,13 @@ no-rows-requires : tie.Need-no-rows-requires
 no-rows-requires c κs = tt
 
 passes-requires : tie.Need-passes-requires
-passes-requires c κs = 
+passes-requires c κs =
     let r = c .before .before .before .before in let i = r .before in let t = i .before in let s = t .before .before .before in
     let p = s .pre .0 in let n = length-replicate {A = ℕ} in
     ((p .0, p .1, p .3, ap length (t .no-table .ensures) ∙ n tableBytes 0, ap length (i .no-images .ensures) ∙ n tableNodes 0, ap length (r .no-rows .ensures) ∙ n tableNodes 0), ((p .2, s .pre .1 .0), s .pre .1 .1))
 
 finish-requires : tie.Need-finish-requires
-finish-requires c κs = 
+finish-requires c κs =
     let p = c .before .before in let r = p .before .before .before .before .before in let s = r .before .before .before .before .before in
     (s .pre .0 .4, p .passes .ensures .1)
 

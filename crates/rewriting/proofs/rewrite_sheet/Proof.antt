@@ -20,7 +20,7 @@ copy-requires : tie.Need-copy-requires
 copy-requires c κs = search needs
 
 rewrite-from-requires : tie.Need-rewrite-from-requires
-rewrite-from-requires c κs = 
+rewrite-from-requires c κs =
     let k = c .before .before .before in let t = k .before .before in let z = t .before .before in let s = z .before .before in
     let w = ap length (t .no-table .ensures) ∙ length-replicate {A = ℕ} tableBytes 0 in let p = s .pre .0 in
     ((omega (arith, p .1), omega (arith, p .0), bytes-copied (s .args .table .now) _ _ (k .copy .ensures) (λ i. omega (arith, z .before .shared-slice-known .given i)) (bytes-zero tableBytes (t .no-table .ensures)), omega (arith, k .copy .kept, w), p .2), (rw (copied (s .args .table .now) _ _ (k .copy .ensures)) (s .pre .1 .0), s .pre .1 .1))
@@ -29,7 +29,7 @@ same-length : tie.Need-same-length
 same-length c = omega (arith, c .before .before .rewrite-from .kept)
 
 returns : tie.Need-returns
-returns c = 
+returns c =
     let r = c .before .before in let k = r .before .before .before .before in let s = k .before .before .before .before .before .before in
     rewrote-as (copied (s .args .table .now) _ _ (k .copy .ensures)) (r .rewrite-from .ensures)
 

@@ -13,7 +13,7 @@ no-table-requires : tie.Need-no-table-requires
 no-table-requires c κs = tt
 
 rewrite-from-requires : tie.Need-rewrite-from-requires
-rewrite-from-requires c κs = 
+rewrite-from-requires c κs =
     let t = c .before .before in let s = t .before .before .before in let z = t .no-table .ensures in
     ((omega arith, omega arith, bytes-zero tableBytes z, ap length z ∙ length-replicate {A = ℕ} tableBytes 0, s .pre .0), (rw (true-node tableBytes z) true-fits, s .pre .1))
 
@@ -21,7 +21,7 @@ same-length : tie.Need-same-length
 same-length c = omega (arith, c .before .before .rewrite-from .kept)
 
 returns : tie.Need-returns
-returns c = 
+returns c =
     let r = c .before .before in let t = r .before .before .before in
     rewrote-as (true-node tableBytes (t .no-table .ensures)) (r .rewrite-from .ensures)
 

@@ -1,4 +1,4 @@
--- The table that rewriting gives is accepted: items 7 to 10 are not met by it, unless item 14 is met.
+-- The tables that rewriting and the condition for going through give are accepted: items 7 to 10 are not met by them, unless item 14 is met.
 use mathlib.Core.Path.{_≡_, sym, _∙_, ap}
 use mathlib.Core.Bool.{true, false}
 use mathlib.Core.List.{List, _++_}
@@ -12,10 +12,12 @@ use Rattle.semantics.specs.Table.{Node}
 use Rattle.semantics.specs.Edit.{Edit, sheetLegal}
 use Rattle.semantics.specs.Block.{rewriteTable, rewriteSheet}
 use Rattle.semantics.specs.Laws.Rewrite.{sheet-fits, sheet-some, sheet-even, sheet-closed}
+use Rattle.through.specs.Through.{through}
+use Rattle.through.specs.Laws.Through.{through-some, through-fits, through-even, through-closed}
 use Rattle.condition.specs.Bytes.{tableOf, bytesOf}
 use Rattle.condition.specs.Refusal.{conditionVerdict}
 use Rattle.condition.specs.Laws.Bytes.{length-table, length-bytes, table-back}
-use Rattle.condition.specs.Laws.Verdict.{accepted-sound, sound-accepted}
+use Rattle.condition.specs.Laws.Verdict.{accepted-sound, bytes-accepted}
 use Rattle.sheet.specs.Bytes.{editsOf}
 use Rattle.sheet.specs.Refusal.{sheetVerdict}
 use Rattle.sheet.specs.Laws.Accepted.{accepted-sheet}
@@ -31,6 +33,11 @@ module _ (ys : List Node) (zs o : List ℕ) (n : ℕ) (e : n ≡ length ys) (f :
   pub taken-table : tableOf (take (6 * n) o) ≡ ys
   taken-table = ap tableOf taken ∙ table-back ys
 
+-- the condition for going through
+pub through-accepted : (es : List Edit) → sheetLegal es ≡ true → length (through es) ≤ tableNodes → conditionVerdict (bytesOf (through es)) ≡ Accepted
+through-accepted es l h = bytes-accepted (through es) (through-some es l) h (through-fits es l) (through-even es l) (through-closed es l)
+
+-- a rewritten table
 module _ (es : List Edit) (l : sheetLegal es ≡ true) (table : List ℕ) (a : conditionVerdict table ≡ Accepted)
     (short : tooLong rewriteTable es (tableOf table) ≡ false) where
   abbrev ys : List Node
@@ -39,22 +46,16 @@ module _ (es : List Edit) (l : sheetLegal es ≡ true) (table : List ℕ) (a : c
   pub few-nodes : length ys ≤ tableNodes
   few-nodes =
       let s = accepted-sound table a in
-      not-below tableNodes (length ys) (sym (too-long-end rewriteTable table-grows es (tableOf table) (omega (arith, s .few, length-table table))) ∙ short)
+      not-below tableNodes (length ys)
+      (sym (too-long-end rewriteTable table-grows es (tableOf table) (omega (arith, s .few, length-table table))) ∙ short)
 
-  pub bytes-accepted : conditionVerdict (bytesOf ys) ≡ Accepted
-  bytes-accepted =
+  pub image-accepted : conditionVerdict (bytesOf ys) ≡ Accepted
+  image-accepted =
       let s = accepted-sound table a in
-      let some : 0 < length (tableOf table) = omega (arith, s .some, length-table table) in
-      let n = length-bytes ys in
-      sound-accepted (bytesOf ys)
-      (record {
-        multiple = omega (arith, n);
-        some = omega (arith, n, sheet-some es l (tableOf table) (s .fits) some);
-        few = omega (arith, n, few-nodes);
-        fits = rw (table-back ys) (sheet-fits es l (tableOf table) (s .fits));
-        even-rule = rw (table-back ys) (sheet-even es l (tableOf table) (s .fits) (s .even-rule));
-        is-closed = rw (table-back ys) (sheet-closed es l (tableOf table) (s .fits) some (s .is-closed));
-      })
+      let xs = tableOf table in
+      let some : 0 < length xs = omega (arith, s .some, length-table table) in
+      bytes-accepted ys (sheet-some es l xs (s .fits) some) few-nodes (sheet-fits es l xs (s .fits)) (sheet-even es l xs (s .fits) (s .even-rule))
+      (sheet-closed es l xs (s .fits) some (s .is-closed))
 
 -- the same of an accepted sheet's bytes, and of the first n nodes of the buffer that rewriting leaves
 pub rewritten-accepted : (table sheet : List ℕ) → conditionVerdict table ≡ Accepted → sheetVerdict sheet ≡ Accepted
@@ -63,4 +64,4 @@ pub rewritten-accepted : (table sheet : List ℕ) → conditionVerdict table ≡
     → conditionVerdict (take (6 * n) o) ≡ Accepted
 rewritten-accepted table sheet a b short zs o n e f =
     rw (taken (rewriteSheet (editsOf sheet) (tableOf table)) zs o n e f)
-    (bytes-accepted (editsOf sheet) (accepted-sheet sheet b .are-legal) table a short)
+    (image-accepted (editsOf sheet) (accepted-sheet sheet b .are-legal) table a short)

@@ -25,7 +25,7 @@ use Rattle.condition.specs.Bytes.{tableOf}
 use Rattle.condition.specs.Refusal.{sizeFits, firstUnfit, firstUneven, conditionVerdict}
 use Rattle.condition.specs.Laws.Bytes.{length-bytes, table-back}
 use Rattle.condition.specs.Laws.Fits.{fit-none}
-use Rattle.condition.specs.Laws.Verdict.{size-in, even-none, item-9, no-item}
+use Rattle.condition.specs.Laws.Verdict.{size-in, item-9, bytes-accepted}
 use Rattle.sheet.specs.Bytes.{editsOf}
 use Rattle.sheet.specs.Refusal.{sheetVerdict}
 use Rattle.sheet.specs.Laws.Read.{edits-back}
@@ -47,8 +47,7 @@ module _ (xs : List Node) (some : 0 < length xs) (few : length xs ≤ tableNodes
   fields-ok = fit-none (condition.bytesOf xs) (rw (table-back xs) fits)
 
   pub table-accepted : evenTable xs ≡ true → closed (formOf xs) ≡ true → conditionVerdict (condition.bytesOf xs) ≡ Accepted
-  table-accepted e c =
-      no-item (condition.bytesOf xs) size-ok fields-ok (even-none (condition.bytesOf xs) (rw (table-back xs) e)) (rw (table-back xs) c)
+  table-accepted = bytes-accepted xs some few fits
 
   pub table-odd : (w : ℕ) → w < length xs → first (length xs) (λ i. not (even (treeAt xs i))) ≡ w
       → conditionVerdict (condition.bytesOf xs) ≡ Refused 9 w
