@@ -390,12 +390,12 @@ static void expect_rewrite(uint32_t reason, uint32_t nodes, const char *what)
     expect(r.reason == reason && r.where == 0 && r.nodes == nodes, what);
 }
 
-/* The reason of the sheet's condition for going through, with the nodes of its table. */
-static void expect_through(uint32_t reason, uint32_t nodes, const char *what)
+/* The reason of the sheet's condition for going through, with the nodes of its table or W. */
+static void expect_through(uint32_t reason, uint32_t number, const char *what)
 {
     static uint8_t table[DESK_TABLE_BYTES];
     struct desk_rewritten r = desk_through(sheet.at, sheet.length, table, sizeof table);
-    expect(r.reason == reason && r.where == 0 && r.nodes == nodes, what);
+    expect(r.reason == reason && r.where == (reason ? number : 0) && r.nodes == (reason ? 0 : number), what);
     try_entry(THROUGH, entries[THROUGH].lengths);
 }
 
@@ -683,6 +683,21 @@ static void try_before_full_through(void)
     expect_through(DESK_TABLE_FULL, 0, "a full table rewritten");
 }
 
+/* Items 11 and 12 before 14: a sheet that is a byte too long, an edit too long, and one whose last edit is none, all with too large a table. */
+static void try_refused_through(void)
+{
+    build_sheet(DS, 1, 0, 0);
+    add_edits(DESK_EDITS_MAX, DS, 1, 0, 0);
+    expect_through(DESK_SHEET_LENGTH, 0, "65 edits");
+    sheet.length -= DESK_EDIT_BYTES - 1;
+    expect_through(DESK_SHEET_LENGTH, 0, "a byte more than 64 edits");
+    sheet.length -= 1 + DESK_EDIT_BYTES;
+    add_edits(1, OPERATIONS, 0, 0, 0);
+    expect_through(DESK_EDIT, DESK_EDITS_MAX - 1, "an unknown edit, the last of 64");
+    sheet.at[DESK_EDIT_BYTES + 2] = 1;
+    expect_through(DESK_EDIT, 1, "an unused operand that is not 0");
+}
+
 /* A file too short for a trailer, and a trailer alone: its three pieces are empty. */
 static void try_short_files(void)
 {
@@ -723,6 +738,7 @@ static void *try_known_answers(void *unused)
     try_through_runs();
     try_full_through();
     try_before_full_through();
+    try_refused_through();
     try_short_files();
     try_large_sites();
     return unused;
