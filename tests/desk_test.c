@@ -622,8 +622,8 @@ static void try_through_on_a(void)
 }
 
 /* Edits of a kind that fit 64 times, and others up to the last that fits. With k AT of one functional link there are 1 + 25 k + 6 k (k - 1)
- * nodes: each makes six nodes more of the two diamonds of each behind it. With k AS there are 1 + 6 k + k (k - 1). A DS of a name makes four
- * names of each but nil, ten nodes more. */
+ * nodes: each has two diamonds, and makes seven nodes of every diamond of those behind it. With k AS there are 1 + 6 k + k (k - 1): each has a
+ * here, and makes three nodes of it. Each DS makes eleven nodes of every name but nil, and four of these are such names again. */
 static void try_through_runs(void)
 {
     static const struct {
