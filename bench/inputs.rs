@@ -272,10 +272,12 @@ pub fn plan(n: usize) -> Vec<u8> {
     (0..n).flat_map(edit).collect()
 }
 
-/// DS 63 times in front of AT of a functional link: each puts three nodes on the path of the AT's diamonds, and one above them.
+/// DS 47 times in front of CN2 and AT, which have a diamond inside another. Each DS puts two nodes on the path at each of the two, and one above
+/// them: 249 nodes, the longest path of all sheets that were tried.
 pub fn long_paths() -> Vec<u8> {
-    let mut sheet = [8, 0, 0, 0].repeat(63);
-    sheet.extend([4, GENERAL as u8, 0, 0]);
+    let functional = GENERAL as u8;
+    let mut sheet = [8, 0, 0, 0].repeat(47);
+    sheet.extend([1, 1, 0, functional, 4, functional, 0, 1]);
     sheet
 }
 

@@ -68,7 +68,7 @@ pub fn show() {
         ("rewriting, a line of 2,048 nodes", Call::Rewrite(inputs::line(NODES), inputs::labels(0))),
         ("going through, 31 AT, to 2,036 nodes", Call::Through(inputs::links(31, GENERAL))),
         ("going through, 42 AS, to 1,975 nodes", Call::Through(inputs::slots_added(42))),
-        ("going through, 64 edits, longest paths", Call::Through(inputs::long_paths())),
+        ("going through, a path of 249 nodes", Call::Through(inputs::long_paths())),
         ("classes", Call::Classes(dense.clone())),
         ("the job, 2,047 nested loops", Call::job(dense, loops, inputs::labels(0))),
     ] {
