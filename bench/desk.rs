@@ -1,6 +1,6 @@
 //! A second desk in plain Rust, written from the specification alone. The proved library is timed beside it.
 //!
-//! The five functions have the library's arguments and answers, test the same items in the same order, and leave the same bytes in
+//! The six functions have the library's arguments and answers, test the same items in the same order, and leave the same bytes in
 //! every buffer. Sets are four words; listing keeps each node's set and computes it again where a free variable has moved.
 
 use std::ops::{BitAnd, BitOr, Not};
@@ -748,6 +748,64 @@ impl Table {
         }
     }
 
+    /// `a b & <E> !`: no slot is in both.
+    fn apart(&mut self, a: u16, b: u16) -> u16 {
+        let both = self.and(a, b);
+        let some = self.diamond(E as u8, both);
+        self.not(some)
+    }
+
+    fn not_nil(&mut self, n: u8) -> u16 {
+        let n = self.name(n);
+        let nil = self.name(0);
+        self.apart(n, nil)
+    }
+
+    /// @n1 has no f-target, or has @n2.
+    fn target_fits(&mut self, f: u8, n1: u8, n2: u8) -> u16 {
+        let from = self.name(n1);
+        let all = self.push(0, 0, 0, 0);
+        let leads = self.diamond(f, all);
+        let free = self.apart(from, leads);
+        let from = self.name(n1);
+        let to = self.name(n2);
+        let leads = self.diamond(f, to);
+        let both = self.and(from, leads);
+        let there = self.diamond(E as u8, both);
+        self.or(free, there)
+    }
+
+    /// The edit's own condition; none for an edit that always goes through.
+    fn goes(&mut self, edit: Edit) -> Option<u16> {
+        match edit {
+            Edit::At(m, n1, n2) => {
+                let from = self.not_nil(n1);
+                let to = self.not_nil(n2);
+                let ends = self.and(from, to);
+                if (m as usize) < GENERAL {
+                    return Some(ends);
+                }
+                let fits = self.target_fits(m, n1, n2);
+                Some(self.and(ends, fits))
+            }
+            Edit::As(_, k) => {
+                let here = self.push(1, 0, 0, 0);
+                let slot = self.push(12, k, 0, 0);
+                Some(self.apart(here, slot))
+            }
+            Edit::Ds(n) => Some(self.not_nil(n)),
+            _ => None,
+        }
+    }
+
+    /// The table, and the edit's own condition behind it.
+    fn and_goes(&mut self, edit: Edit) {
+        let older = self.0.len() as u16 - 1;
+        if let Some(own) = self.goes(edit) {
+            self.and(older, own);
+        }
+    }
+
     /// Each old node's block, in order.
     fn rewrite(&mut self, old: &[Node], edit: Edit, images: &mut Vec<u16>) {
         self.0.clear();
@@ -767,18 +825,28 @@ impl Table {
     }
 }
 
-/// Item 14. The last edit is rewritten first.
-fn rewrite_sheet(nodes: &[Node], sheet: &[Edit]) -> Result<Vec<Node>, Refusal> {
+/// Item 14. The last edit is taken first: each table is rewritten through it, and then `close` puts behind it what else is wanted.
+fn over_sheet(nodes: &[Node], sheet: &[Edit], close: impl Fn(&mut Table, Edit)) -> Result<Vec<Node>, Refusal> {
     let (mut now, mut next) = (Table(nodes.to_vec()), Table(Vec::with_capacity(NODES)));
     let mut images = Vec::with_capacity(NODES);
     for &edit in sheet.iter().rev() {
         next.rewrite(&now.0, edit, &mut images);
+        close(&mut next, edit);
         if next.0.len() > NODES {
             return Err((14, 0));
         }
         std::mem::swap(&mut now, &mut next);
     }
     Ok(now.0)
+}
+
+fn rewrite_sheet(nodes: &[Node], sheet: &[Edit]) -> Result<Vec<Node>, Refusal> {
+    over_sheet(nodes, sheet, |_, _| {})
+}
+
+/// The condition for going through: true, and each edit's own condition.
+fn through_sheet(sheet: &[Edit]) -> Result<Vec<Node>, Refusal> {
+    over_sheet(&[Node { kind: 0, param: 0, left: 0, right: 0 }], sheet, Table::and_goes)
 }
 
 fn write_table(nodes: &[Node], out: &mut [u8]) {
@@ -880,7 +948,7 @@ fn different(classes: &Classes) -> u32 {
     seen.count()
 }
 
-// ---- the five functions
+// ---- the six functions
 
 /// Item 1.
 fn lengths(buffers: &[(&[u8], usize)]) -> Result<(), Refusal> {
@@ -925,13 +993,8 @@ pub fn apply(site: &[u8], sheet: &[u8], result: &mut [u8]) -> Applied {
     Applied { reason, place }
 }
 
-pub fn rewrite(cond: &[u8], sheet: &[u8], result: &mut [u8]) -> Rewritten {
-    let table = (|| {
-        lengths(&[(result, TABLE)])?;
-        let condition = Condition::check(cond)?;
-        let edits = read_sheet(sheet)?;
-        rewrite_sheet(&condition.nodes, &edits)
-    })();
+/// The table in its buffer, or zeros.
+fn write_answer(table: Result<Vec<Node>, Refusal>, result: &mut [u8]) -> Rewritten {
     match table {
         Ok(nodes) => {
             write_table(&nodes, result);
@@ -942,6 +1005,24 @@ pub fn rewrite(cond: &[u8], sheet: &[u8], result: &mut [u8]) -> Rewritten {
             Rewritten { reason, place, nodes: 0 }
         }
     }
+}
+
+pub fn rewrite(cond: &[u8], sheet: &[u8], result: &mut [u8]) -> Rewritten {
+    let table = (|| {
+        lengths(&[(result, TABLE)])?;
+        let condition = Condition::check(cond)?;
+        let edits = read_sheet(sheet)?;
+        rewrite_sheet(&condition.nodes, &edits)
+    })();
+    write_answer(table, result)
+}
+
+pub fn through(sheet: &[u8], result: &mut [u8]) -> Rewritten {
+    let table = (|| {
+        lengths(&[(result, TABLE)])?;
+        through_sheet(&read_sheet(sheet)?)
+    })();
+    write_answer(table, result)
 }
 
 pub fn classes(site: &[u8], classes: &mut [u8]) -> Classed {

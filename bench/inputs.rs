@@ -212,6 +212,11 @@ pub fn loops(n: usize) -> Vec<u8> {
 
 // ---- sheets
 
+/// A name but 0, in turn.
+fn other_name(k: usize) -> u8 {
+    1 + (k % (NAMES - 1)) as u8
+}
+
 /// AP: name 1 gains label 0, again and again.
 pub fn labels(n: usize) -> Vec<u8> {
     [2, 1, 0, 0].repeat(n)
@@ -219,13 +224,61 @@ pub fn labels(n: usize) -> Vec<u8> {
 
 /// DT1: link 0 from name 1 to names 1, 2, ..
 pub fn cuts(n: usize) -> Vec<u8> {
-    (0..n).flat_map(|k| [5, 0, 1, 1 + (k % (NAMES - 1)) as u8]).collect()
+    (0..n).flat_map(|k| [5, 0, 1, other_name(k)]).collect()
 }
 
 /// DS and AS of the same slot, in turn.
 pub fn slots_gone(n: usize) -> Vec<u8> {
     let slot = |k: usize| 2 + (k / 2 % (NAMES - 2)) as u8;
     (0..n).flat_map(|k| if k % 2 == 0 { [8, slot(k), 0, 0] } else { [7, slot(k), slot(k), 0] }).collect()
+}
+
+/// CN1: names 2, 3, .. move to names 1, 2, ..
+pub fn moves(n: usize) -> Vec<u8> {
+    (0..n).flat_map(|k| [0, other_name(k + 1), other_name(k), 0]).collect()
+}
+
+/// AT of four links from `first` on in turn, between names that follow each other.
+pub fn links(n: usize, first: usize) -> Vec<u8> {
+    (0..n).flat_map(|k| [4, (first + k % 4) as u8, other_name(k), other_name(k + 1)]).collect()
+}
+
+/// AS of slots 100, 101, ..
+pub fn slots_added(n: usize) -> Vec<u8> {
+    (0..n).flat_map(|k| [7, other_name(k), 100 + k as u8, 0]).collect()
+}
+
+/// DS of names 1, 2, ..
+pub fn slots_removed(n: usize) -> Vec<u8> {
+    (0..n).flat_map(|k| [8, other_name(k), 0, 0]).collect()
+}
+
+/// Eight edits at a time: a slot goes, another comes under its name, two names move there, and it gets a label and links.
+pub fn plan(n: usize) -> Vec<u8> {
+    let edit = |k: usize| {
+        let turn = (k / 8) as u8;
+        let (slot, general, functional) = (100 + turn, turn % 4, 4 + turn % 4);
+        match k % 8 {
+            0 => [8, 1, 0, 0],
+            1 => [7, 1, slot, 0],
+            2 => [0, 2, 1, 0],
+            3 => [4, general, 1, 2],
+            4 => [0, 3, 2, 0],
+            5 => [4, functional, 1, 3],
+            6 => [2, 1, 0, 0],
+            _ => [4, (general + 1) % 4, 2, 3],
+        }
+    };
+    (0..n).flat_map(edit).collect()
+}
+
+/// DS 47 times in front of CN2 and AT, which have a diamond inside another. Each DS puts two nodes on the path at each of the two, and one above
+/// them: 249 nodes, the longest path of all sheets that were tried.
+pub fn long_paths() -> Vec<u8> {
+    let functional = GENERAL as u8;
+    let mut sheet = [8, 0, 0, 0].repeat(47);
+    sheet.extend([1, 1, 0, functional, 4, functional, 0, 1]);
+    sheet
 }
 
 /// Every kind of edit but DS and AS.

@@ -1,11 +1,22 @@
-//! The proved library's five functions, as include/desk.h has them. With `--cfg before` also those of an earlier build (bench/beside).
+//! The proved library's six functions, as include/desk.h has them. With `--cfg before` also those of an earlier build (bench/beside).
 
 use crate::desk::{Applied, Classed, Done, Listed, Rewritten};
 use crate::Desk;
 
+/// Declares `through` of one build. It stands apart from the others, since an earlier build may lack it.
+macro_rules! through {
+    ($through:ident) => {{
+        extern "C" {
+            fn $through(sheet: *const u8, sheet_len: usize, result: *mut u8, result_len: usize) -> Rewritten;
+        }
+        // Safety: as below.
+        |sheet, result| unsafe { $through(sheet.as_ptr(), sheet.len(), result.as_mut_ptr(), result.len()) }
+    }};
+}
+
 /// Declares what one build exports, and makes a desk of it.
 macro_rules! library {
-    ($name:ident: $list:ident $apply:ident $rewrite:ident $classes:ident $job:ident) => {
+    ($name:ident: $list:ident $apply:ident $rewrite:ident $classes:ident $job:ident, $through:expr) => {
         extern "C" {
             fn $list(
                 site: *const u8, site_len: usize, cond: *const u8, cond_len: usize,
@@ -39,6 +50,7 @@ macro_rules! library {
             rewrite: |cond, sheet, result| unsafe {
                 $rewrite(cond.as_ptr(), cond.len(), sheet.as_ptr(), sheet.len(), result.as_mut_ptr(), result.len())
             },
+            through: $through,
             classes: |site, classes| unsafe { $classes(site.as_ptr(), site.len(), classes.as_mut_ptr(), classes.len()) },
             job: |file, out| unsafe {
                 $job(
@@ -51,6 +63,8 @@ macro_rules! library {
     };
 }
 
-library!(NOW: desk_list desk_apply desk_rewrite desk_classes desk_job);
-#[cfg(before)]
-library!(BEFORE: before_list before_apply before_rewrite before_classes before_job);
+library!(NOW: desk_list desk_apply desk_rewrite desk_classes desk_job, through!(desk_through));
+#[cfg(before_through)]
+library!(BEFORE: before_list before_apply before_rewrite before_classes before_job, through!(before_through));
+#[cfg(all(before, not(before_through)))]
+library!(BEFORE: before_list before_apply before_rewrite before_classes before_job, |_, _| unreachable!("not timed"));

@@ -4,31 +4,50 @@
 //! Times are medians of processor time; calls of the two are interleaved. All answers and buffers are compared; a difference ends the run.
 //!
 //! With `--cfg before` an earlier build of the library is timed too (bench/beside). A line then gives the times of the earlier build, of the
-//! present one and of the Rust, the ratio of present to earlier, in how many samples the present was slower, and the ratio to the Rust.
+//! present one and of the Rust, the ratio of present to earlier, in how many samples the present was slower, and the ratio to the Rust. With
+//! `--cfg before_through` the earlier build has `through` too; without it those lines are of the present library and the Rust.
 
 mod desk;
 mod inputs;
 mod library;
 mod stack;
 
-use desk::{Applied, Classed, Done, Listed, Results, Rewritten, E, NODES, SET, SITE, SLOTS, TABLE, WORK};
+use desk::{Applied, Classed, Done, Listed, Results, Rewritten, E, GENERAL, NODES, SET, SITE, SLOTS, TABLE, WORK};
 use std::time::Duration;
 
-/// The five functions of a desk.
+/// The six functions of a desk.
 struct Desk {
     list: fn(&[u8], &[u8], &mut [u8], &mut [u8]) -> Listed,
     apply: fn(&[u8], &[u8], &mut [u8]) -> Applied,
     rewrite: fn(&[u8], &[u8], &mut [u8]) -> Rewritten,
+    through: fn(&[u8], &mut [u8]) -> Rewritten,
     classes: fn(&[u8], &mut [u8]) -> Classed,
     job: fn(&[u8], Results) -> Done,
 }
 
-const RUST: Desk = Desk { list: desk::list, apply: desk::apply, rewrite: desk::rewrite, classes: desk::classes, job: desk::job };
+const RUST: Desk = Desk {
+    list: desk::list,
+    apply: desk::apply,
+    rewrite: desk::rewrite,
+    through: desk::through,
+    classes: desk::classes,
+    job: desk::job,
+};
+
+type Side = fn(&Call, &mut Buffers) -> Vec<u32>;
 
 /// What is timed: the library or the two builds of it, then the Rust.
-static SIDES: &[fn(&Call, &mut Buffers) -> Vec<u32>] = &[
+static SIDES: &[Side] = &[
     Call::library,
     #[cfg(before)]
+    Call::before,
+    Call::rust,
+];
+
+/// The same for `through`, which an earlier build may lack.
+static THROUGH_SIDES: &[Side] = &[
+    Call::library,
+    #[cfg(before_through)]
     Call::before,
     Call::rust,
 ];
@@ -66,6 +85,7 @@ enum Call {
     List(Vec<u8>, Vec<u8>),
     Apply(Vec<u8>, Vec<u8>),
     Rewrite(Vec<u8>, Vec<u8>),
+    Through(Vec<u8>),
     Classes(Vec<u8>),
     Job(Vec<u8>, Vec<u8>, Vec<u8>, Vec<u8>),
 }
@@ -74,6 +94,13 @@ impl Call {
     fn job(site: Vec<u8>, cond: Vec<u8>, sheet: Vec<u8>) -> Call {
         let file = inputs::job(&site, &cond, &sheet);
         Call::Job(file, site, cond, sheet)
+    }
+
+    fn sides(&self) -> &'static [Side] {
+        match self {
+            Call::Through(_) => THROUGH_SIDES,
+            _ => SIDES,
+        }
     }
 
     fn library(&self, out: &mut Buffers) -> Vec<u32> {
@@ -105,6 +132,10 @@ impl Call {
                 let r = (desk.rewrite)(cond, sheet, &mut out.table);
                 vec![r.reason, r.place, r.nodes]
             }
+            Call::Through(sheet) => {
+                let r = (desk.through)(sheet, &mut out.table);
+                vec![r.reason, r.place, r.nodes]
+            }
             Call::Classes(site) => {
                 let r = (desk.classes)(site, &mut out.classes);
                 vec![r.reason, r.place, r.count]
@@ -126,6 +157,7 @@ impl Call {
             Call::List(site, cond) => [slots(site), arcs(site), nodes(cond), None],
             Call::Apply(site, sheet) => [slots(site), arcs(site), None, edits(sheet)],
             Call::Rewrite(cond, sheet) => [None, None, nodes(cond), edits(sheet)],
+            Call::Through(sheet) => [None, None, None, edits(sheet)],
             Call::Classes(site) => [slots(site), arcs(site), None, None],
             Call::Job(_, site, cond, sheet) => [slots(site), arcs(site), nodes(cond), edits(sheet)],
         }
@@ -136,7 +168,7 @@ impl Call {
         match self {
             Call::List(..) => format!("{} listed", answer[2]),
             Call::Apply(..) => "through".to_string(),
-            Call::Rewrite(..) => format!("{} nodes", answer[2]),
+            Call::Rewrite(..) | Call::Through(..) => format!("{} nodes", answer[2]),
             Call::Classes(..) => format!("{} classes", answer[2]),
             Call::Job(..) => format!("{} nodes, {} classes", answer[4], answer[5]),
         }
@@ -175,10 +207,14 @@ fn median(values: &[f64]) -> f64 {
 }
 
 fn title(text: &str) {
+    title_for(text, SIDES);
+}
+
+fn title_for(text: &str, sides: &[Side]) {
     println!("\n{text}");
     let (what, outcome) = ("input", "outcome");
     let two = " before µs      now µs     Rust µs now/before slower now/Rust";
-    let times = if cfg!(before) { two } else { "library µs     Rust µs ratio" };
+    let times = if sides.len() > 2 { two } else { "library µs     Rust µs ratio" };
     println!("{what:44} slots   arcs nodes edits  {outcome:24} {times}");
 }
 
@@ -200,24 +236,25 @@ fn columns(times: &[Vec<f64>]) -> String {
     }
 }
 
-/// The side that is sampled as the `n`th: all in turn, the Rust last. Two builds take turns at going first.
-fn turn(n: usize) -> usize {
-    let (round, side, libraries) = (n / SIDES.len(), n % SIDES.len(), SIDES.len() - 1);
+/// The side that is sampled as the `n`th of so many sides: all in turn, the Rust last. Two builds take turns at going first.
+fn turn(n: usize, sides: usize) -> usize {
+    let (round, side, libraries) = (n / sides, n % sides, sides - 1);
     if side < libraries { (side + round) % libraries } else { side }
 }
 
 fn measure(what: &str, call: Call) {
-    let mut out: Vec<Buffers> = SIDES.iter().map(|_| Buffers::new()).collect();
-    let answers: Vec<Vec<u32>> = SIDES.iter().zip(&mut out).map(|(side, out)| side(&call, out)).collect();
+    let sides = call.sides();
+    let mut out: Vec<Buffers> = sides.iter().map(|_| Buffers::new()).collect();
+    let answers: Vec<Vec<u32>> = sides.iter().zip(&mut out).map(|(side, out)| side(&call, out)).collect();
     let same = answers.iter().all(|answer| *answer == answers[0]) && out.iter().all(|buffers| *buffers == out[0]);
     assert!(same, "{what}: the sides differ, {answers:?}");
     assert_eq!(answers[0][0], 0, "{what}: refused");
-    let mut sample = |side: usize, turns| time(turns, || drop(std::hint::black_box(SIDES[side](&call, &mut out[side]))));
+    let mut sample = |side: usize, turns| time(turns, || drop(std::hint::black_box(sides[side](&call, &mut out[side]))));
     let once = sample(0, 1);
     let turns = (SAMPLE.as_nanos() / once.as_nanos().max(1)).clamp(1, 1000) as u32;
     let samples = if once > Duration::from_millis(30) { 5 } else { SAMPLES };
-    let mut times = vec![Vec::new(); SIDES.len()];
-    for side in (0..samples * SIDES.len()).map(turn) {
+    let mut times = vec![Vec::new(); sides.len()];
+    for side in (0..samples * sides.len()).map(|n| turn(n, sides.len())) {
         times[side].push(sample(side, turns).as_secs_f64() * 1e6);
     }
     let [slots, arcs, nodes, edits] = call.size().map(|n| n.map_or("-".to_string(), |n| n.to_string()));
@@ -284,6 +321,30 @@ fn rewriting() {
     }
 }
 
+/// Each edit passes over the table that the edits behind it have made, so the time grows with edits times nodes.
+fn going_through() {
+    title_for("Through: edits of one kind", THROUGH_SIDES);
+    for k in [1, 8, 64] {
+        measure("CN1, which adds no node", Call::Through(inputs::moves(k)));
+    }
+    for k in [1, 2, 4, 8, 16, 32, 64] {
+        measure("AT of links 0 to 3", Call::Through(inputs::links(k, 0)));
+    }
+    for k in [1, 2, 4, 8, 16, 31] {
+        measure("AT of links 4 to 7", Call::Through(inputs::links(k, GENERAL)));
+    }
+    for k in [1, 2, 4, 8, 16, 32, 42] {
+        measure("AS", Call::Through(inputs::slots_added(k)));
+    }
+    for k in [1, 2, 3, 4, 5] {
+        measure("DS", Call::Through(inputs::slots_removed(k)));
+    }
+    title_for("Through: all of these, mixed", THROUGH_SIDES);
+    for k in [1, 2, 4, 8, 16, 32, 64] {
+        measure("DS, AS, CN1, AP, AT of links 0 to 7", Call::Through(inputs::plan(k)));
+    }
+}
+
 fn classing() {
     title("Classes: slots, on sparse and on dense sites");
     for n in [16, 32, 64, 128, 256] {
@@ -314,6 +375,7 @@ fn all() {
     listing();
     applying();
     rewriting();
+    going_through();
     classing();
     jobs();
     stack::show();
@@ -325,11 +387,12 @@ fn main() {
         Some("list") => listing(),
         Some("apply") => applying(),
         Some("rewrite") => rewriting(),
+        Some("through") => going_through(),
         Some("classes") => classing(),
         Some("job") => jobs(),
         Some("stack") => stack::show(),
         Some(other) => {
-            eprintln!("{other} is none of list, apply, rewrite, classes, job and stack");
+            eprintln!("{other} is none of list, apply, rewrite, through, classes, job and stack");
             std::process::exit(2);
         }
     }

@@ -1,6 +1,6 @@
 //! How much stack each function takes: it is called in a thread whose stack is painted before and looked at after.
 
-use crate::desk::{E, NODES, SLOTS};
+use crate::desk::{E, GENERAL, NODES, SLOTS};
 use crate::{inputs, Buffers, Call};
 use std::ffi::c_void;
 
@@ -66,6 +66,9 @@ pub fn show() {
         ("applying, 64 edits", Call::Apply(dense.clone(), inputs::slots_gone(64))),
         ("rewriting, to 1,792 nodes", Call::Rewrite(mixed.clone(), sheet.clone())),
         ("rewriting, a line of 2,048 nodes", Call::Rewrite(inputs::line(NODES), inputs::labels(0))),
+        ("going through, 31 AT, to 2,036 nodes", Call::Through(inputs::links(31, GENERAL))),
+        ("going through, 42 AS, to 1,975 nodes", Call::Through(inputs::slots_added(42))),
+        ("going through, a path of 249 nodes", Call::Through(inputs::long_paths())),
         ("classes", Call::Classes(dense.clone())),
         ("the job, 2,047 nested loops", Call::job(dense, loops, inputs::labels(0))),
     ] {

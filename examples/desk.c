@@ -89,6 +89,17 @@ static int does_not_go_through(const uint8_t *sheet, size_t sheet_len)
     return r.reason == DESK_NOT_THROUGH && r.where == 0 && zeros;
 }
 
+/* Whether the condition for the sheet's going through has this many nodes and lists on A every slot, or none if the sheet does not work. */
+static int through(const uint8_t *sheet, size_t sheet_len, uint32_t count, int works)
+{
+    uint8_t wanted[DESK_SET_BYTES];
+    struct desk_rewritten t = desk_through(sheet, sheet_len, table, sizeof table);
+    struct desk_listed r = desk_list(site_a, sizeof site_a, table, DESK_NODE_BYTES * t.nodes, set, sizeof set, work, sizeof work);
+    memset(wanted, works ? 0xff : 0, sizeof wanted);
+    return t.reason == DESK_OK && t.nodes == count && r.reason == DESK_OK && r.count == (works ? (uint32_t)DESK_SLOT_COUNT : 0) &&
+           memcmp(set, wanted, sizeof set) == 0;
+}
+
 /* ---- the samples */
 
 enum { S1 = 1 << 1, S2 = 1 << 2, S3 = 1 << 3, S4 = 1 << 4 };
@@ -127,6 +138,21 @@ static void check_sheets(void)
     check("AT 4 1 1: refused, 13", does_not_go_through(at_11, sizeof at_11));
     check("CN2 1 1 4: name 1 at 1", both_list(name_1, sizeof name_1, cn2_1, sizeof cn2_1, S1) && result[DESK_NAMES_AT + 1] == 1);
     check("CN2 1 3 4: at 0", both_list(name_1, sizeof name_1, cn2_3, sizeof cn2_3, 1) && result[DESK_NAMES_AT + 1] == 0);
+}
+
+static void check_through(void)
+{
+    static const uint8_t dt2[] = {6, 4, 1, 0}, ds[] = {8, 1, 0, 0}, as_4[] = {7, 3, 4, 0}, as_3[] = {7, 3, 3, 0};
+    static const uint8_t at_0[] = {4, 0, 1, 2}, at_12[] = {4, 4, 1, 2}, at_11[] = {4, 4, 1, 1}, twice[] = {8, 1, 0, 0, 8, 1, 0, 0};
+    check("through no edit: 1 node, works", through(dt2, 0, 1, 1));
+    check("through DT2 4 1: 1 node, works", through(dt2, sizeof dt2, 1, 1));
+    check("through DS 1: 7 nodes, works", through(ds, sizeof ds, 7, 1));
+    check("through DS 1 twice: 23 nodes, does not", through(twice, sizeof twice, 23, 0));
+    check("through AS 3 4: 7 nodes, works", through(as_4, sizeof as_4, 7, 1));
+    check("through AS 3 3: 7 nodes, does not", through(as_3, sizeof as_3, 7, 0));
+    check("through AT 0 1 2: 13 nodes, works", through(at_0, sizeof at_0, 13, 1));
+    check("through AT 4 1 2: 26 nodes, does not", through(at_12, sizeof at_12, 26, 0));
+    check("through AT 4 1 1: 26 nodes, does not", through(at_11, sizeof at_11, 26, 0));
 }
 
 static void check_classes(void)
@@ -179,6 +205,7 @@ int main(void)
     build_a(site_a);
     check_lists();
     check_sheets();
+    check_through();
     check_classes();
     check_job();
     return differences != 0;

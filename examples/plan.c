@@ -1,6 +1,6 @@
-/* A cooperative plans to pull a probe. Which places will still have a chain of uplinks to a gateway, and which fans will no longer be driven
- * by a connected probe? Everything that this program uses is explained in docs/SPEC.md and include/desk.h. It prints examples/plan.out, and
- * returns 1 if a call is refused.
+/* A cooperative plans to pull a probe. Does the plan work on the site as it is? Which places will still have a chain of uplinks to a gateway,
+ * and which fans will no longer be driven by a connected probe? Everything that this program uses is explained in docs/SPEC.md and
+ * include/desk.h. It prints examples/plan.out, and returns 1 if a call is refused.
  *
  *     rt staticlib desk
  *     gcc -std=c11 -Iinclude examples/plan.c target/staticlib/libdesk.a -o plan && ./plan
@@ -123,6 +123,28 @@ static int refused(uint32_t reason, uint32_t where)
     return reason != DESK_OK;
 }
 
+/* Kept beside the sheet: the condition for its going through, which is built without a site and can be listed on any. */
+struct check {
+    uint8_t table[DESK_TABLE_BYTES];
+    struct desk_rewritten built;
+};
+
+static int build_check(struct check *check)
+{
+    check->built = desk_through(pull, sizeof pull, check->table, sizeof check->table);
+    return refused(check->built.reason, check->built.where);
+}
+
+/* Whether the sheet works on a site: the condition lists every slot there, or none. Returns 0 if the call was not refused. */
+static int ask_check(const struct check *check, const uint8_t *site, int *works)
+{
+    static uint8_t set[DESK_SET_BYTES], work[DESK_WORK_BYTES];
+    struct desk_listed listed = desk_list(site, DESK_SITE_BYTES, check->table, DESK_NODE_BYTES * check->built.nodes, set, sizeof set,
+                                          work, sizeof work);
+    *works = listed.count == DESK_SLOT_COUNT;
+    return refused(listed.reason, listed.where);
+}
+
 /* Lists a condition before and after the probe is pulled. Returns 0 if neither call was refused. */
 static int ask(struct plan *plan, const uint8_t *site, const uint8_t *cond, size_t cond_len)
 {
@@ -162,10 +184,16 @@ int main(void)
 {
     static uint8_t site[DESK_SITE_BYTES];
     static struct plan chains, fans;
+    static struct check check;
+    int now = 0, again = 0;
     build_site(site, BIN_2);
-    if (ask(&chains, site, chain, sizeof chain) || ask(&fans, site, idle_fan, sizeof idle_fan))
+    if (build_check(&check) || ask_check(&check, site, &now) || ask(&chains, site, chain, sizeof chain) ||
+        ask(&fans, site, idle_fan, sizeof idle_fan) || ask_check(&check, chains.site_after, &again))
         return 1;
-    printf("To be pulled: %s\n\nAn uplink chain leads to a gateway:\n\n", places[BIN_2].name);
+    printf("To be pulled: %s\n", places[BIN_2].name);
+    printf("Does that work? A condition of %u nodes says: today %s, once it is done %s\n", (unsigned)check.built.nodes,
+           now ? "yes" : "no", again ? "yes" : "no");
+    printf("\nAn uplink chain leads to a gateway:\n\n");
     print_places(&chains);
     printf("\n%u places before, %u after\n", (unsigned)chains.listed.count, (unsigned)chains.done.after);
     printf("rewritten to %u nodes, the condition lists %u places today: %s\n", (unsigned)chains.done.nodes, (unsigned)chains.done.today,

@@ -1,4 +1,4 @@
-/* The desk for C: five functions over bytes, in libdesk.a (`rt staticlib desk`), for x86-64 Linux.
+/* The desk for C: six functions over bytes, in libdesk.a (`rt staticlib desk`), for x86-64 Linux.
  *
  * docs/SPEC.md says what the bytes mean and has a glossary. This file names all the numbers, so that no caller has to write one: the
  * offset of each part of a site, the kinds of node, the ways, the operations, the lengths of buffers and the reasons for a refusal.
@@ -22,6 +22,7 @@
  *                  2,048 nodes
  *   desk_job       the largest of the above, plus 5 KB. It lists two tables, the condition and the REWRITTEN one, and the
  *                  second has longer paths: DS, for instance, puts three nodes on the path for each diamond
+ *   desk_through   under 45 KB for every sheet that was tried; the longest path in a table of these has 249 nodes
  *
  * Time. There is no limit on rounds. A mu or nu is evaluated round by round, in up to DESK_SLOT_COUNT rounds. If it reads the variable of a
  * loop around it, it starts again in every round of that loop, so the rounds of nested loops multiply. On a chain of 256 slots one loop
@@ -163,7 +164,7 @@ enum desk_reason {
     DESK_EDIT = 12,             /* an edit has an unknown operation, an operand out of range or forbidden, or an unused operand that is
                                  * not 0; where: the lowest such edit */
     DESK_NOT_THROUGH = 13,      /* an edit does not go through on the site that the edits before it leave; where: the first such edit */
-    DESK_TABLE_FULL = 14        /* after some edit the rewritten table has over 2,048 nodes */
+    DESK_TABLE_FULL = 14        /* after some edit the table of desk_rewrite or desk_through has over 2,048 nodes */
 };
 
 /* ---- the answers. `reason` is a number of enum desk_reason */
@@ -179,7 +180,7 @@ struct desk_applied {
 
 struct desk_rewritten {
     uint32_t reason, where;
-    uint32_t nodes;             /* how many nodes the rewritten table has */
+    uint32_t nodes;             /* how many nodes the table has */
 };
 
 struct desk_classed {
@@ -207,6 +208,11 @@ struct desk_applied desk_apply(const uint8_t *site, size_t site_len, const uint8
  * bytes, and can be passed to desk_list as it is. Items 1, 7 to 12, 14. */
 struct desk_rewritten desk_rewrite(const uint8_t *cond, size_t cond_len, const uint8_t *sheet, size_t sheet_len,
                                    uint8_t *result, size_t result_len);
+
+/* Writes the condition for the sheet's going through into `result` (DESK_TABLE_BYTES), from the sheet alone: on each valid site it lists every
+ * slot if the sheet goes through, and no slot if it does not. The table is the first DESK_NODE_BYTES times `nodes` bytes, and can be passed to
+ * desk_list as it is. Items 1, 11, 12, 14; never 13, since no site is given. */
+struct desk_rewritten desk_through(const uint8_t *sheet, size_t sheet_len, uint8_t *result, size_t result_len);
 
 /* Writes the class number of each slot into `classes` (DESK_CLASSES_BYTES): the lowest slot that some likeness (bisimulation) relates to it.
  * Items 1, 3 to 6. */

@@ -1,8 +1,10 @@
 #!/usr/bin/env python3
-"""Writes crates/test_changes/stdin and stdout: sites, conditions and sheets, and for each what applying, rewriting and listing answer.
+"""Writes crates/test_changes/stdin and stdout: sites, conditions and sheets, and for each what applying, rewriting and listing answer,
+and the sheet's condition for going through.
 
 Written from docs/SPEC.md alone and in another way than the crates: a site is a Python object with sets
-and dictionaries, and the blocks of rewriting are the specification's own postfix texts, read word by word.
+and dictionaries, and the blocks of rewriting and the conditions of edits are the specification's own postfix
+texts, read word by word.
 """
 import copy
 import random
@@ -200,13 +202,47 @@ def rewrite_edit(edit, nodes):
     return out
 
 
-def rewrite(condition, sheet):
-    nodes = pieces.nodes_of(condition)
+def over_sheet(nodes, sheet, step):
+    """What a step makes of the table at each edit, the last one first."""
     for edit in reversed(edits_of(sheet)):
-        nodes = rewrite_edit(edit, nodes)
+        nodes = step(edit, nodes)
         if len(nodes) > NODES:
             return None, (14, 0)
     return pieces.table(*nodes), None
+
+
+def rewrite(condition, sheet):
+    return over_sheet(pieces.nodes_of(condition), sheet, rewrite_edit)
+
+
+# ---- going through: the texts of the edits' own conditions
+
+def own_text(edit):
+    """What has to hold for the edit to go through; None where it always does."""
+    op, x, y, z = edit
+    if op == 4:
+        words = "n1 nil & <E> ! n2 nil & <E> ! &"
+        if x >= GENERAL:
+            words += " n1 t <m> & <E> ! n1 n2 <m> & <E> | &"
+        return words, {"m": x, "n1": y, "n2": z}
+    if op == 7:
+        return "h k & <E> !", {"k": y}
+    if op == 8:
+        return "n nil & <E> !", {"n": x}
+    return None
+
+
+def through_edit(edit, nodes):
+    nodes = rewrite_edit(edit, nodes)
+    older, own = len(nodes) - 1, own_text(edit)
+    if own:
+        image = put_text(nodes, *own, None)
+        nodes.append((7, 0, older, image))
+    return nodes
+
+
+def through(sheet):
+    return over_sheet([(0, 0, 0, 0)], sheet, through_edit)
 
 
 # ---- what is printed
@@ -219,25 +255,40 @@ def outcome(verdict, work, show):
     return result, "refused %d %d" % verdict if verdict else show(result)
 
 
+def show_table(d):
+    return "%d nodes %s" % (len(d) // NODE_BYTES, d.hex())
+
+
+def works(site, table, after):
+    """The list of a condition for going through: every slot where the sheet was applied, none where it was not."""
+    line = lists.answer(site, table)
+    count = int(line.split()[0]) if not line.startswith("refused") else None
+    assert count in (None, 0 if after is None else SLOTS), (line, after is None)
+    return line
+
+
 def answer(site, condition, sheet):
     after, applied = outcome(
         pieces.judge_site(site) or pieces.judge_sheet(sheet), lambda: apply(site, sheet),
         lambda d: "applied" + "".join(" %d:%d" % (k, b) for k, b in enumerate(d) if b != site[k]))
     table, nodes = outcome(
-        pieces.judge_condition(condition) or pieces.judge_sheet(sheet), lambda: rewrite(condition, sheet),
-        lambda d: "%d nodes %s" % (len(d) // NODE_BYTES, d.hex()))
+        pieces.judge_condition(condition) or pieces.judge_sheet(sheet), lambda: rewrite(condition, sheet), show_table)
     lines = [applied, nodes]
     if after is not None and table is not None:
         one, two = lists.answer(after, condition), lists.answer(site, table)
         assert one == two, (one, two)
         lines += ["after " + one, "today " + two]
+    table, nodes = outcome(pieces.judge_sheet(sheet), lambda: through(sheet), show_table)
+    lines.append("through " + nodes)
+    if table is not None:
+        lines.append("works " + works(site, table, after))
     return lines
 
 
 # ---- cases
 
-def random_edit(rng, site):
-    op = rng.randrange(OPERATIONS)
+def random_edit(rng, site, operations):
+    op = rng.choice(operations)
     new = rng.choice([s for s in range(1, SLOTS) if s not in site.present] or [255])
     operands = {
         pieces.name: lambda: rng.choice((rng.randrange(NAMES), rng.randrange(1, 4))),
@@ -251,13 +302,13 @@ def random_edit(rng, site):
     return (op, *(operands[o]() for o in pieces.OPERANDS[op]))
 
 
-def random_sheet(rng, d, length):
-    """Edits that go through, for the most part."""
+def random_sheet(rng, d, length, operations=range(OPERATIONS), stray=0.01):
+    """Edits that go through, but for some that need not."""
     site, sheet = Site(d), bytearray()
     for _ in range(length):
         for _ in range(20):
-            edit = random_edit(rng, site)
-            if goes_through(site, edit) or rng.random() < 0.01:
+            edit = random_edit(rng, site, operations)
+            if goes_through(site, edit) or rng.random() < stray:
                 break
         else:
             continue
@@ -335,7 +386,8 @@ def every_edit():
 
 
 def order():
-    """The order of the items: the site before the sheet, the condition before the sheet, 12 before 13 before 14; and the longest pieces."""
+    """The order of the items: the site before the sheet, the condition before the sheet, 12 before 13 before 14; the longest pieces; and sites
+    that are refused beside a sheet that is not."""
     absent, labelled, full = bytearray(A), bytearray(A), pieces.full_table(2)
     absent[0] = 14
     pieces.put(labelled, label_at(1), 9)
@@ -355,10 +407,63 @@ def order():
     yield A, full, sheet(DT2)
     yield A, full, sheet((2, 1, 0))
     yield A, full + pieces.table((6, 0, NODES - 1, NODES - 1)), sheet()
+    yield A[:-1], R, sheet(DT2)
+    yield labelled, R, sheet(DT2)
+
+
+def going():
+    """Sheets on site A, name 3 at nil: each edit that may not go through, and earlier edits that make a later one go or not."""
+    at, there = 4, (4, 4, 2, 1)
+    yield from ([edit] for edit in ((8, 1), (7, 3, 4), (at, 0, 1, 2)))
+    # a functional link: its target is there, there is none, there is another; the ends at nil
+    yield from ([(at, m, x, y)] for m, x, y in ((4, 2, 1), (5, 1, 2), (4, 1, 1), (0, 0, 1), (0, 1, 0), (3, 3, 1), (7, 1, 3), (7, 3, 3)))
+    yield from ([edit] for edit in ((7, 3, 0), (7, 3, 255), (8, 0), (8, 3)))
+    yield [(8, 1), (7, 3, 4)]
+    yield [(0, 1, 2), (8, 1)]
+    yield [DT2, (at, 4, 1, 2)]
+    yield [(5, 4, 2, 1), (at, 4, 2, 2)]
+    yield [(5, 4, 1, 2), (at, 4, 1, 2)]
+    yield [there, there]
+    yield [(at, 5, 1, 2), (at, 5, 1, 1)]
+    yield [(0, 3, 1), (8, 3)]
+    yield [(0, 1, 3), (8, 1)]
+    yield [(1, 3, 1, 4), (8, 3), (at, 4, 1, 2)]
+    yield [(1, 3, 1, 4), (8, 3), (8, 3)]
+    yield [(8, 1), (at, 0, 1, 2)]
+    yield [(8, 1), (7, 3, 2)]
+    yield [(7, 3, 4), (7, 5, 4)]
+    yield [(7, 3, 4), (8, 3), (7, 5, 4)]
+    yield [(7, 3, 4), (at, 4, 3, 1), (at, 6, 1, 3), (8, 3)]
+    yield [(2, 1, 0), (3, 2, 1), (at, 0, 1, 2), (at, 4, 2, 1), (5, 0, 1, 2), (6, 4, 2), (at, 4, 2, 2)]
+
+
+def links(zeros, fours, fives):
+    """So many AT of links 0, 4 and 5, and one of 6 and 7 each, all of which go through on site A."""
+    return [(4, 0, 1, 2)] * zeros + [(4, 4, 2, 1)] * fours + [(4, 5, 1, 2)] * fives + [(4, 6, 1, 2), (4, 7, 1, 2)]
+
+
+def long_going():
+    """As many edits as a sheet has, and tables at their limit: 1 + 12 * 11 + (25 * 16 + 6 * 16 * 15) + 25 * 3 = 2,048 nodes, and 2,049."""
+    for edit in ((0, 1, 2), (1, 1, 2, 4), (2, 1, 0), (3, 1, 0), (4, 0, 1, 2), (5, 4, 1, 2), (6, 4, 1), (8, 0)):
+        yield [edit] * EDITS
+    for edit, most in (((4, 4, 2, 1), 16), ((7, 3, 4), 42), ((8, 1), 5)):
+        yield [edit] * most
+        yield [edit] * (most + 1)
+    full = links(11, 16, 1)
+    yield full
+    yield links(8, 16, 2)
+    yield [(2, 1, 0)] + full
+    yield [(4, 1, 1, 2)] + full
+    yield [(6, 4, 3)] + full
+    yield [(8, 3)] + full
+    yield full + [(0, 1, 2)] * (EDITS - len(full))
+    yield full + [(8, 3)]
 
 
 def cases(rng):
     yield from by_hand()
+    for edits in (*going(), *long_going()):
+        yield A, named(1), sheet(*edits)
     site, condition = dense_site(), every_kind()
     for edit in every_edit():
         yield site, condition, sheet(edit)
@@ -369,6 +474,9 @@ def cases(rng):
         edits = random_sheet(rng, site, rng.choice((1, 2, 3, 4, 6)))
         part = rng.randrange(8)
         yield damaged(rng, site) if part == 0 else site, damaged(rng, condition) if part == 1 else condition, damaged(rng, edits) if part == 2 else edits
+    for _ in range(60):
+        site = lists.random_site(rng, rng.choice((0, 30, 120)))
+        yield site, named(1), random_sheet(rng, site, rng.choice((1, 2, 3, 4, 6)), (0, 1, 4, 4, 4, 5, 6, 7, 8), 0.1)
 
 
 def main():
@@ -382,7 +490,8 @@ def main():
         stdout += lines
         for line in lines:
             words = line.split()
-            key = " ".join(words[:2]) if words[0] == "refused" else "nodes" if "nodes" in words else words[0]
+            told = 3 if "refused" in words[1:] else 2 if words[0] in ("refused", "works") else 1
+            key = "nodes" if words[1:2] == ["nodes"] else " ".join(words[:told])
             count[key] = count.get(key, 0) + 1
     pieces.write("test_changes", stdin, stdout)
     print(count, file=sys.stderr)

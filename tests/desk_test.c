@@ -1,9 +1,10 @@
 /* Compares the library with the oracle on random and damaged jobs: `desk_test [JOBS [SEED]]`.
  *
- * Each job goes through desk_job, its pieces through the other four functions, and once more through one of the five with each buffer in
+ * Each job goes through desk_job, its pieces through the other five functions, and once more through one of the six with each buffer in
  * turn a byte short or a byte long, and with buffers of other wrong lengths. Results, counts, reasons and W are compared, and every byte
  * of every buffer; buffers are filled with 0xAA before, inputs must stay as they are, and the memory after each input and buffer may not
- * be touched. The first difference ends the run with 1, and so does something that so many jobs should have met and have not. */
+ * be touched. The condition for a sheet's going through is listed on the job's site, and applying has to agree with it. The first difference
+ * ends the run with 1, and so does something that so many jobs should have met and have not. */
 #define _DEFAULT_SOURCE
 #include "random_jobs.h"
 
@@ -106,8 +107,8 @@ static void check_numbers(const char *function, const void *one, const void *oth
 
 /* ---- what the jobs have met */
 
-enum { LIST, APPLY, REWRITE, CLASSES, JOB, ENTRIES };
-enum { BUFFERS = 11 };
+enum { LIST, APPLY, REWRITE, CLASSES, JOB, THROUGH, ENTRIES };
+enum { BUFFERS = 12 };
 
 static struct {
     unsigned long reasons[ENTRIES][REASONS];
@@ -116,6 +117,7 @@ static struct {
     unsigned long through[OPERATIONS], stuck[OPERATIONS];    /* edits that went through, and that did not */
     unsigned long shorter[BUFFERS], longer[BUFFERS];         /* calls with this buffer a byte short, a byte long */
     unsigned long listed;                                    /* lists that are not empty */
+    unsigned long works[2];                                  /* sheets whose condition listed no slot, and every slot */
 } met;
 
 static void meet_nodes(void)
@@ -201,6 +203,18 @@ static uint32_t try_rewrite(const size_t *lengths)
     return other.reason;
 }
 
+static uint32_t try_through(const size_t *lengths)
+{
+    struct input a = lend(0, &sheet);
+    open_buffer(0, lengths[0]);
+    struct desk_rewritten one = desk_through(INPUT(a), BUFFER(0));
+    struct desk_rewritten other = oracle_through(INPUT(a), ORACLE(0));
+    check_numbers("desk_through", &one, &other, sizeof one);
+    check_buffers("desk_through", 1, other.reason, -1);
+    check_input("desk_through", a);
+    return other.reason;
+}
+
 static uint32_t try_classes(const size_t *lengths)
 {
     struct input a = lend(0, &site);
@@ -238,6 +252,7 @@ static const struct entry {
     [REWRITE] = {try_rewrite, 1, {DESK_TABLE_BYTES}},
     [CLASSES] = {try_classes, 1, {DESK_CLASSES_BYTES}},
     [JOB] = {try_job, 6, {DESK_SITE_BYTES, DESK_TABLE_BYTES, DESK_SET_BYTES, DESK_SET_BYTES, DESK_CLASSES_BYTES, DESK_WORK_BYTES}},
+    [THROUGH] = {try_through, 1, {DESK_TABLE_BYTES}},
 };
 
 static uint32_t try_entry(int e, const size_t *lengths)
@@ -247,14 +262,32 @@ static uint32_t try_entry(int e, const size_t *lengths)
     return reason;
 }
 
-/* The job at hand through all five, with buffers as they should be. */
+/* What the condition for going through says is what applying does: listed on the site at hand it has every slot, or none. The library's own
+ * tables and lists, so that a mistake that the oracle shares shows too. */
+static void try_works(void)
+{
+    static uint8_t table[DESK_TABLE_BYTES], result[DESK_SITE_BYTES], set[DESK_SET_BYTES], work[DESK_WORK_BYTES], wanted[DESK_SET_BYTES];
+    struct desk_rewritten through = desk_through(sheet.at, sheet.length, table, sizeof table);
+    struct desk_applied applied = desk_apply(site.at, site.length, sheet.at, sheet.length, result, sizeof result);
+    if (through.reason != DESK_OK || (applied.reason != DESK_OK && applied.reason != DESK_NOT_THROUGH))
+        return;
+    const bool works = applied.reason == DESK_OK;
+    struct desk_listed r = desk_list(site.at, site.length, table, DESK_NODE_BYTES * through.nodes, set, sizeof set, work, sizeof work);
+    memset(wanted, works ? 0xff : 0, sizeof wanted);
+    if (r.reason != DESK_OK || r.where != 0 || r.count != (works ? SLOTS : 0) || memcmp(set, wanted, sizeof set) != 0)
+        fail("desk_through", "what its table lists from what applying does");
+    met.works[works]++;
+}
+
+/* The job at hand through all six, with buffers as they should be. */
 static void try_all(void)
 {
     for (int e = 0; e < ENTRIES; e++)
         try_entry(e, entries[e].lengths);
+    try_works();
 }
 
-/* One buffer of the eleven, counted over the entry points, is a byte short or a byte long. */
+/* One buffer of the twelve, counted over the entry points, is a byte short or a byte long. */
 static void try_off_by_one(int number, bool longer)
 {
     size_t lengths[BUFFERS_MOST];
@@ -327,11 +360,18 @@ static void build_chain(int kind, int param, int count)
         add_node(kind, param, i, children(kind) == 2 ? i : 0);
 }
 
-static void build_sheet(int op, int x, int y, int z)
+/* So many times the same edit behind the sheet. */
+static void add_edits(int times, int op, int x, int y, int z)
 {
     const uint8_t edit[DESK_EDIT_BYTES] = {(uint8_t)op, (uint8_t)x, (uint8_t)y, (uint8_t)z};
+    for (int k = 0; k < times; k++)
+        append(&sheet, edit, sizeof edit);
+}
+
+static void build_sheet(int op, int x, int y, int z)
+{
     sheet.length = 0;
-    append(&sheet, edit, sizeof edit);
+    add_edits(1, op, x, y, z);
 }
 
 /* The reason, with the count or W. */
@@ -348,6 +388,25 @@ static void expect_rewrite(uint32_t reason, uint32_t nodes, const char *what)
     static uint8_t table[DESK_TABLE_BYTES];
     struct desk_rewritten r = desk_rewrite(cond.at, cond.length, sheet.at, sheet.length, table, sizeof table);
     expect(r.reason == reason && r.where == 0 && r.nodes == nodes, what);
+}
+
+/* The reason of the sheet's condition for going through, with the nodes of its table or W. */
+static void expect_through(uint32_t reason, uint32_t number, const char *what)
+{
+    static uint8_t table[DESK_TABLE_BYTES];
+    struct desk_rewritten r = desk_through(sheet.at, sheet.length, table, sizeof table);
+    expect(r.reason == reason && r.where == (reason ? number : 0) && r.nodes == (reason ? 0 : number), what);
+    try_entry(THROUGH, entries[THROUGH].lengths);
+}
+
+/* How many slots that condition lists on the site at hand: all if the sheet goes through, or none. */
+static void expect_works(bool works, const char *what)
+{
+    static uint8_t table[DESK_TABLE_BYTES], set[DESK_SET_BYTES], work[DESK_WORK_BYTES];
+    struct desk_rewritten t = desk_through(sheet.at, sheet.length, table, sizeof table);
+    struct desk_listed r = desk_list(site.at, site.length, table, DESK_NODE_BYTES * t.nodes, set, sizeof set, work, sizeof work);
+    expect(t.reason == DESK_OK && r.reason == DESK_OK && r.count == (works ? SLOTS : 0), what);
+    try_works();
 }
 
 /* The reason of a job, with the count of both lists. */
@@ -458,6 +517,187 @@ static void try_links(void)
     }
 }
 
+/* The tables of short sheets, every byte, and whether the sheets work on site A. */
+#define EDIT(op, x, y, z) (op), (x), (y), (z)
+#define NODE(kind, param, left, right) (kind), (param), (left), 0, (right), 0 /* children below 256 */
+
+/* The first nodes of AT m 1 2: true, and that neither end is nil. */
+#define ENDS_1_2                                                                                                             \
+    NODE(0, 0, 0, 0),                                                                                                        \
+        NODE(3, 1, 0, 0), NODE(3, 0, 0, 0), NODE(7, 0, 1, 2), NODE(8, 16, 3, 0), NODE(5, 0, 4, 0), /* n1 nil & <E> ! */      \
+        NODE(3, 2, 0, 0), NODE(3, 0, 0, 0), NODE(7, 0, 6, 7), NODE(8, 16, 8, 0), NODE(5, 0, 9, 0), /* n2 nil & <E> ! */      \
+        NODE(7, 0, 5, 10)
+
+static const struct known {
+    const char *what;
+    bool works;
+    int edits, nodes;
+    uint8_t sheet[2 * DESK_EDIT_BYTES], table[26 * DESK_NODE_BYTES];
+} known[] = {
+    {"through no edit", true, 0, 1, {0}, {NODE(0, 0, 0, 0)}},
+    {"through DT2 4 1", true, 1, 1, {EDIT(6, 4, 1, 0)}, {NODE(0, 0, 0, 0)}},
+    {"through DS 1", true, 1, 7, {EDIT(8, 1, 0, 0)},
+     {NODE(0, 0, 0, 0), NODE(3, 1, 0, 0), NODE(3, 0, 0, 0), NODE(7, 0, 1, 2), NODE(8, 16, 3, 0), NODE(5, 0, 4, 0), NODE(7, 0, 0, 5)}},
+    {"through AS 3 4", true, 1, 7, {EDIT(7, 3, 4, 0)},
+     {NODE(0, 0, 0, 0), NODE(1, 0, 0, 0), NODE(12, 4, 0, 0), NODE(7, 0, 1, 2), NODE(8, 16, 3, 0), NODE(5, 0, 4, 0), NODE(7, 0, 0, 5)}},
+    {"through AS 3 3", false, 1, 7, {EDIT(7, 3, 3, 0)},
+     {NODE(0, 0, 0, 0), NODE(1, 0, 0, 0), NODE(12, 3, 0, 0), NODE(7, 0, 1, 2), NODE(8, 16, 3, 0), NODE(5, 0, 4, 0), NODE(7, 0, 0, 5)}},
+    {"through AT 0 1 2", true, 1, 13, {EDIT(4, 0, 1, 2)}, {ENDS_1_2, NODE(7, 0, 0, 11)}},
+    {"through AT 4 1 2", false, 1, 26, {EDIT(4, 4, 1, 2)},
+     {ENDS_1_2, NODE(3, 1, 0, 0), NODE(0, 0, 0, 0), NODE(8, 4, 13, 0), NODE(7, 0, 12, 14), NODE(8, 16, 15, 0), NODE(5, 0, 16, 0),
+      NODE(3, 1, 0, 0), NODE(3, 2, 0, 0), NODE(8, 4, 19, 0), NODE(7, 0, 18, 20), NODE(8, 16, 21, 0), NODE(6, 0, 17, 22),
+      NODE(7, 0, 11, 23), NODE(7, 0, 0, 24)}},
+    {"through DS 1, AS 3 4", true, 2, 16, {EDIT(8, 1, 0, 0), EDIT(7, 3, 4, 0)},
+     {NODE(0, 0, 0, 0), NODE(1, 0, 0, 0), NODE(3, 1, 0, 0), NODE(5, 0, 2, 0), NODE(7, 0, 1, 3), NODE(12, 4, 0, 0), NODE(7, 0, 4, 5),
+      NODE(8, 16, 6, 0), NODE(5, 0, 7, 0), NODE(7, 0, 0, 8), NODE(3, 1, 0, 0), NODE(3, 0, 0, 0), NODE(7, 0, 10, 11), NODE(8, 16, 12, 0),
+      NODE(5, 0, 13, 0), NODE(7, 0, 9, 14)}},
+    {"through CN1 1 2, DS 1", true, 2, 7, {EDIT(0, 1, 2, 0), EDIT(8, 1, 0, 0)},
+     {NODE(0, 0, 0, 0), NODE(3, 2, 0, 0), NODE(3, 0, 0, 0), NODE(7, 0, 1, 2), NODE(8, 16, 3, 0), NODE(5, 0, 4, 0), NODE(7, 0, 0, 5)}},
+};
+
+static void try_through_tables(void)
+{
+    static uint8_t table[DESK_TABLE_BYTES], wanted[DESK_TABLE_BYTES];
+    build_a();
+    build_r();
+    for (size_t k = 0; k < sizeof known / sizeof *known; k++) {
+        sheet.length = 0;
+        append(&sheet, known[k].sheet, (size_t)(DESK_EDIT_BYTES * known[k].edits));
+        memset(wanted, 0, sizeof wanted);
+        memcpy(wanted, known[k].table, (size_t)(DESK_NODE_BYTES * known[k].nodes));
+        memset(table, 0xaa, sizeof table);
+        desk_through(sheet.at, sheet.length, table, sizeof table);
+        expect(memcmp(table, wanted, sizeof table) == 0, known[k].what);
+        expect_through(DESK_OK, (uint32_t)known[k].nodes, known[k].what);
+        expect_works(known[k].works, known[k].what);
+        build_file();
+        try_all();
+    }
+}
+
+/* On site A: a functional link to the target that is there, where there is none and where there is another; ends at nil; slots that are there;
+ * and edits that make a later one go through, or not. */
+static const struct on_a {
+    bool works;
+    int edits;
+    uint8_t sheet[3 * DESK_EDIT_BYTES];
+} on_a[] = {
+    {true, 1, {EDIT(AT, 4, 2, 1)}},
+    {true, 1, {EDIT(AT, 5, 1, 2)}},
+    {false, 1, {EDIT(AT, 4, 1, 2)}},
+    {false, 1, {EDIT(AT, 4, 1, 1)}},
+    {false, 1, {EDIT(AT, 0, 0, 1)}},
+    {false, 1, {EDIT(AT, 0, 1, 0)}},
+    {false, 1, {EDIT(AT, 5, 3, 1)}},
+    {false, 1, {EDIT(AT, 5, 1, 3)}},
+    {false, 1, {EDIT(AS, 3, 0, 0)}},
+    {true, 1, {EDIT(AS, 3, 255, 0)}},
+    {false, 1, {EDIT(DS, 0, 0, 0)}},
+    {false, 1, {EDIT(DS, 3, 0, 0)}},
+    {true, 2, {EDIT(DT2, 4, 1, 0), EDIT(AT, 4, 1, 2)}},
+    {true, 2, {EDIT(DT1, 4, 2, 1), EDIT(AT, 4, 2, 2)}},
+    {false, 2, {EDIT(DT1, 4, 1, 2), EDIT(AT, 4, 1, 2)}},
+    {true, 2, {EDIT(AT, 5, 1, 2), EDIT(AT, 5, 1, 2)}},
+    {false, 2, {EDIT(AT, 5, 1, 2), EDIT(AT, 5, 1, 1)}},
+    {true, 2, {EDIT(CN1, 3, 1, 0), EDIT(DS, 3, 0, 0)}},
+    {false, 2, {EDIT(CN1, 1, 3, 0), EDIT(DS, 1, 0, 0)}},
+    {true, 3, {EDIT(CN2, 3, 1, 4), EDIT(DS, 3, 0, 0), EDIT(AT, 4, 1, 2)}},
+    {false, 3, {EDIT(CN2, 3, 1, 4), EDIT(DS, 3, 0, 0), EDIT(DS, 3, 0, 0)}},
+    {false, 2, {EDIT(DS, 1, 0, 0), EDIT(AT, 0, 1, 2)}},
+    {true, 2, {EDIT(DS, 1, 0, 0), EDIT(AS, 3, 2, 0)}},
+    {false, 2, {EDIT(AS, 3, 4, 0), EDIT(AS, 5, 4, 0)}},
+    {true, 3, {EDIT(AS, 3, 4, 0), EDIT(DS, 3, 0, 0), EDIT(AS, 5, 4, 0)}},
+    {true, 2, {EDIT(AS, 3, 4, 0), EDIT(AT, 4, 3, 1)}},
+};
+
+static void try_through_on_a(void)
+{
+    build_a();
+    for (size_t k = 0; k < sizeof on_a / sizeof *on_a; k++) {
+        sheet.length = 0;
+        append(&sheet, on_a[k].sheet, (size_t)(DESK_EDIT_BYTES * on_a[k].edits));
+        expect_works(on_a[k].works, "a sheet that works on site A, or does not");
+        try_entry(THROUGH, entries[THROUGH].lengths);
+    }
+}
+
+/* Edits of a kind that fit 64 times, and others up to the last that fits. With k AT of one functional link there are 1 + 25 k + 6 k (k - 1)
+ * nodes: each has two diamonds, and makes seven nodes of every diamond of those behind it. With k AS there are 1 + 6 k + k (k - 1): each has a
+ * here, and makes three nodes of it. Each DS makes eleven nodes of every name but nil, and four of these are such names again. */
+static void try_through_runs(void)
+{
+    static const struct {
+        int times, op, x, y, z;
+        uint32_t nodes; /* 0: too many */
+    } runs[] = {
+        {64, CN1, 1, 2, 0, 1},   {64, CN2, 1, 2, 4, 1},   {64, AP, 1, 0, 0, 1},      {64, DP, 1, 0, 0, 1},
+        {64, DT1, 4, 1, 2, 1},   {64, DT2, 4, 1, 0, 1},   {64, AT, 0, 1, 2, 769},    {64, DS, 0, 0, 0, 385},
+        {16, AT, 4, 2, 1, 1841}, {17, AT, 4, 2, 1, 0},    {64, AT, 7, 2, 1, 0},      {42, AS, 3, 4, 0, 1975},
+        {43, AS, 3, 4, 0, 0},    {64, AS, 3, 4, 0, 0},    {5, DS, 1, 0, 0, 1151},    {6, DS, 1, 0, 0, 0},
+        {64, DS, 1, 0, 0, 0},
+    };
+    build_a();
+    for (size_t k = 0; k < sizeof runs / sizeof *runs; k++) {
+        sheet.length = 0;
+        add_edits(runs[k].times, runs[k].op, runs[k].x, runs[k].y, runs[k].z);
+        expect_through(runs[k].nodes ? DESK_OK : DESK_TABLE_FULL, runs[k].nodes, "edits of one kind");
+        try_works();
+    }
+}
+
+/* So many AT of links 0, 4 and 5, and one of 6 and 7 each, all of which go through on site A. */
+static void add_links(int zeros, int fours, int fives)
+{
+    add_edits(zeros, AT, 0, 1, 2);
+    add_edits(fours, AT, 4, 2, 1);
+    add_edits(fives, AT, 5, 1, 2);
+    add_edits(1, AT, 6, 1, 2);
+    add_edits(1, AT, 7, 1, 2);
+}
+
+/* A full table, 1 + 11 * 12 + (16 * 25 + 6 * 16 * 15) + 3 * 25 = 2,048 nodes. And one of 1 + 8 * 12 + (16 * 25 + 6 * 16 * 15) + (2 * 25 + 6 * 2) +
+ * 2 * 25 = 2,049, which only the own condition of the first edit makes too long: rewritten through it, the table has 2,037. */
+static void try_full_through(void)
+{
+    build_a();
+    sheet.length = 0;
+    add_links(11, 16, 1);
+    expect_through(DESK_OK, DESK_NODES_MAX, "through to a full table");
+    expect_works(true, "a full table of a sheet that works");
+    sheet.length = 0;
+    add_links(8, 16, 2);
+    expect_through(DESK_TABLE_FULL, 0, "through to a node more than a table has");
+}
+
+/* In front of the edits of a full table: one that adds nothing, one that adds only its own condition, and one that only rewrites diamonds. */
+static void try_before_full_through(void)
+{
+    build_sheet(AP, 1, 0, 0);
+    add_links(11, 16, 1);
+    expect_through(DESK_OK, DESK_NODES_MAX, "an edit that leaves a full table as it is");
+    build_sheet(AT, 1, 1, 2);
+    add_links(11, 16, 1);
+    expect_through(DESK_TABLE_FULL, 0, "a condition behind a full table");
+    build_sheet(DT2, 4, 3, 0);
+    add_links(11, 16, 1);
+    expect_through(DESK_TABLE_FULL, 0, "a full table rewritten");
+}
+
+/* Items 11 and 12 before 14: a sheet that is a byte too long, an edit too long, and one whose last edit is none, all with too large a table. */
+static void try_refused_through(void)
+{
+    build_sheet(DS, 1, 0, 0);
+    add_edits(DESK_EDITS_MAX, DS, 1, 0, 0);
+    expect_through(DESK_SHEET_LENGTH, 0, "65 edits");
+    sheet.length -= DESK_EDIT_BYTES - 1;
+    expect_through(DESK_SHEET_LENGTH, 0, "a byte more than 64 edits");
+    sheet.length -= 1 + DESK_EDIT_BYTES;
+    add_edits(1, OPERATIONS, 0, 0, 0);
+    expect_through(DESK_EDIT, DESK_EDITS_MAX - 1, "an unknown edit, the last of 64");
+    sheet.at[DESK_EDIT_BYTES + 2] = 1;
+    expect_through(DESK_EDIT, 1, "an unused operand that is not 0");
+}
+
 /* A file too short for a trailer, and a trailer alone: its three pieces are empty. */
 static void try_short_files(void)
 {
@@ -493,6 +733,12 @@ static void *try_known_answers(void *unused)
     try_doubles();
     try_full_tables();
     try_links();
+    try_through_tables();
+    try_through_on_a();
+    try_through_runs();
+    try_full_through();
+    try_before_full_through();
+    try_refused_through();
     try_short_files();
     try_large_sites();
     return unused;
@@ -528,6 +774,8 @@ static const struct row {
     {"rewrite: reason", met.reasons[REWRITE], REASONS, 0x5f83},
     {"classes: reason", met.reasons[CLASSES], REASONS, 0x7b},
     {"job: reason", met.reasons[JOB], REASONS, ALL(REASONS)},
+    {"through: reason", met.reasons[THROUGH], REASONS, 0x5803},
+    {"through: works", met.works, 2, ALL(2)},
     {"kind", met.kinds, KINDS, ALL(KINDS)},
     {"way, diamond", met.diamonds, WAYS, ALL(WAYS)},
     {"way, box", met.boxes, WAYS, ALL(WAYS)},

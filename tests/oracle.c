@@ -1,4 +1,4 @@
-/* The desk's five functions once more: plain, in another way than the library, from the specification alone. */
+/* The desk's six functions once more: plain, in another way than the library, from the specification alone. */
 #include "oracle.h"
 
 #include <stdlib.h>
@@ -516,7 +516,7 @@ static int put_words(const struct words *w, int image, struct node *table, int *
 {
     enum { DEEPEST = 8 };
     int stack[DEEPEST], depth = 0;
-    char text[64];
+    char text[80];
     strcpy(text, w->text);
     for (char *word = strtok(text, " "); word; word = strtok(NULL, " ")) {
         struct node node = {0, 0, 0, 0};
@@ -565,13 +565,44 @@ static int rewrite_edit(const uint8_t *edit, const struct node *old, int old_cou
     return count;
 }
 
-/* The whole sheet, its last edit first; 0 where a table is too long. */
-static int rewrite(struct node *table, int count, const uint8_t *sheet, size_t edits)
+/* What has to hold on a site for the edit to go through there, in the words of the specification; no text: it always does. */
+static struct words own_words(const uint8_t *edit)
 {
-    enum { LONGEST_BLOCK = 11 };
-    static struct node longer[DESK_NODES_MAX * LONGEST_BLOCK];
+    switch (edit[0]) {
+    case AT:
+        return (struct words){.text = edit[1] < GENERAL ? "n1 nil & <E> ! n2 nil & <E> ! &"
+                                                        : "n1 nil & <E> ! n2 nil & <E> ! & n1 t <m> & <E> ! n1 n2 <m> & <E> | &",
+                              .way = edit[1], .n1 = edit[2], .n2 = edit[3]};
+    case AS:
+        return (struct words){.text = "h k & <E> !", .k = edit[2]};
+    case DS:
+        return (struct words){.text = "n nil & <E> !", .n = edit[1]};
+    }
+    return (struct words){.text = NULL};
+}
+
+/* The edit's own condition and an "and" behind the table, which is the left operand. */
+static int put_own(const uint8_t *edit, struct node *table, int count)
+{
+    struct words w = own_words(edit);
+    if (!w.text)
+        return count;
+    int older = count - 1, own = put_words(&w, older, table, &count);
+    table[count] = (struct node){AND, 0, older, own};
+    return count + 1;
+}
+
+/* The passes over a sheet, its last edit first, which oracle_rewrite and oracle_through share; for the latter each edit's own condition comes
+ * behind the table that was rewritten through the edit. 0 where a table is too long. */
+static int rewrite(struct node *table, int count, const uint8_t *sheet, size_t edits, bool with_own)
+{
+    enum { LONGEST_BLOCK = 11, LONGEST_OWN = 25 };
+    static struct node longer[DESK_NODES_MAX * LONGEST_BLOCK + LONGEST_OWN];
     for (size_t k = edits; k-- > 0;) {
-        count = rewrite_edit(sheet + DESK_EDIT_BYTES * k, table, count, longer);
+        const uint8_t *edit = sheet + DESK_EDIT_BYTES * k;
+        count = rewrite_edit(edit, table, count, longer);
+        if (with_own)
+            count = put_own(edit, longer, count);
         if (count > DESK_NODES_MAX)
             return 0;
         memcpy(table, longer, sizeof *table * (size_t)count);
@@ -773,7 +804,7 @@ static void judge(struct read *r, struct piece site, struct piece cond, struct p
         apply(r, sheet);
     if (!r->reason && sheet.at && cond.at) {
         memcpy(r->rewritten, r->table, sizeof r->table);
-        r->rewritten_count = rewrite(r->rewritten, r->count, sheet.at, sheet.length / DESK_EDIT_BYTES);
+        r->rewritten_count = rewrite(r->rewritten, r->count, sheet.at, sheet.length / DESK_EDIT_BYTES, false);
         if (r->rewritten_count == 0)
             r->reason = 14;
     }
@@ -818,6 +849,23 @@ struct desk_rewritten oracle_rewrite(const uint8_t *cond, size_t cond_len, const
     if (!r->reason)
         table_write(r->rewritten, (size_t)r->rewritten_count, result);
     return (struct desk_rewritten){r->reason, r->where, r->reason ? 0 : (uint32_t)r->rewritten_count};
+}
+
+struct desk_rewritten oracle_through(const uint8_t *sheet, size_t sheet_len, uint8_t *result, size_t result_len)
+{
+    struct read *r = &answer;
+    memset(result, 0, result_len);
+    if (result_len != DESK_TABLE_BYTES)
+        return (struct desk_rewritten){1, 0, 0};
+    judge(r, none, none, (struct piece){sheet, sheet_len});
+    if (r->reason)
+        return (struct desk_rewritten){r->reason, r->where, 0};
+    r->rewritten[0] = (struct node){TRUE, 0, 0, 0};
+    r->rewritten_count = rewrite(r->rewritten, 1, sheet, sheet_len / DESK_EDIT_BYTES, true);
+    if (r->rewritten_count == 0)
+        return (struct desk_rewritten){14, 0, 0};
+    table_write(r->rewritten, (size_t)r->rewritten_count, result);
+    return (struct desk_rewritten){0, 0, (uint32_t)r->rewritten_count};
 }
 
 struct desk_classed oracle_classes(const uint8_t *site, size_t site_len, uint8_t *classes, size_t classes_len)

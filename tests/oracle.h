@@ -1,4 +1,4 @@
-/* Another implementation of the desk's five functions, written from the specification alone, for the tests to compare with. */
+/* Another implementation of the desk's six functions, written from the specification alone, for the tests to compare with. */
 #ifndef ORACLE_H
 #define ORACLE_H
 
@@ -94,6 +94,7 @@ struct desk_applied oracle_apply(const uint8_t *site, size_t site_len, const uin
                                  uint8_t *result, size_t result_len);
 struct desk_rewritten oracle_rewrite(const uint8_t *cond, size_t cond_len, const uint8_t *sheet, size_t sheet_len,
                                      uint8_t *result, size_t result_len);
+struct desk_rewritten oracle_through(const uint8_t *sheet, size_t sheet_len, uint8_t *result, size_t result_len);
 struct desk_classed oracle_classes(const uint8_t *site, size_t site_len, uint8_t *classes, size_t classes_len);
 struct desk_done oracle_job(const uint8_t *file, size_t file_len, uint8_t *site, size_t site_len, uint8_t *table, size_t table_len,
                             uint8_t *after, size_t after_len, uint8_t *today, size_t today_len,

@@ -21,7 +21,7 @@ SEED = 2048
 # ---- the items, as docs/SPEC.md, "Reasons" words them
 
 def members(data, at):
-    return {8 * i + k for i in range(SET_BYTES) for k in range(8) if data[at + i] >> k & 1}
+    return {8 * i + k for i in range(SET_BYTES) if data[at + i] for k in range(8) if data[at + i] >> k & 1}
 
 
 def judge_site(d):

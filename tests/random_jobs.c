@@ -271,7 +271,7 @@ static int some_moved_name(void)
     return one_in(5) ? between(1, NAMES - 1) : between(1, 4);
 }
 
-static void random_edit(uint8_t *edit)
+static void random_edit(uint8_t *edit, int operation)
 {
     const int link = one_in(2) ? below(LINKS) : one_in(2) ? GENERAL : 0, functional = between(GENERAL, LINKS - 1);
     const int label = one_in(3) ? below(LABELS) : below(3);
@@ -280,20 +280,23 @@ static void random_edit(uint8_t *edit)
         {some_name(), label, 0},             {link, some_name(), some_name()},             {link, some_name(), some_name()},
         {functional, some_name(), 0},        {some_moved_name(), below(SLOTS), 0},         {some_name(), 0, 0},
     };
-    edit[0] = (uint8_t)below(OPERATIONS);
+    edit[0] = (uint8_t)operation;
     for (int k = 0; k < 3; k++)
         edit[k + 1] = (uint8_t)forms[edit[0]][k];
 }
 
-/* Edits that go through, for the most part. */
+/* Edits that go through, for the most part. Some sheets have more of those that may not, and some have more that do not. */
 static void random_sheet(void)
 {
+    static const int asking[] = {AT, AT, AT, AS, DS, CN1};
+    const bool asks = one_in(4);
+    const int stray = one_in(8) ? 5 : 100;
     int wanted = one_in(30) ? between(7, DESK_EDITS_MAX) : one_in(3) ? between(0, 6) : between(0, 3);
     uint8_t edit[DESK_EDIT_BYTES];
     sheet.length = 0;
     for (int tries = 0; tries < 20 * wanted && (int)sheet.length / DESK_EDIT_BYTES < wanted; tries++) {
-        random_edit(edit);
-        if (model_edit(&model, edit) || one_in(100))
+        random_edit(edit, asks && !one_in(4) ? asking[below(sizeof asking / sizeof *asking)] : below(OPERATIONS));
+        if (model_edit(&model, edit) || one_in(stray))
             append(&sheet, edit, sizeof edit);
     }
 }
@@ -412,7 +415,7 @@ static void damage_sheet(void)
 {
     static const uint8_t bounds[] = {0, GENERAL - 1, GENERAL, LINKS - 1, LINKS, OPERATIONS, LABELS - 1, LABELS, NAMES - 1, NAMES, 255};
     uint8_t edit[DESK_EDIT_BYTES];
-    random_edit(edit);
+    random_edit(edit, below(OPERATIONS));
     if (one_in(2))
         edit[below(DESK_EDIT_BYTES)] = one_in(4) ? (uint8_t)below(256) : bounds[below(sizeof bounds)];
     if (one_in(2) && sheet.length >= DESK_EDIT_BYTES)

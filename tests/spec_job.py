@@ -93,12 +93,14 @@ def stored_pieces():
 
 
 def stored_cases():
-    """Site, condition and sheet, with the lines of their answer: applying, rewriting, and both lists where neither was refused."""
+    """Site, condition and sheet, with the lines of their answer: applying, rewriting, and both lists where neither was refused; then the condition
+    for going through and, where it was not refused, its list."""
     pieces, lines, at = list(stored_pieces()), read("crates/test_changes/stdout").splitlines(), 0
     for k in range(0, len(pieces), 3):
-        size = 4 if lines[at + 2:at + 3] and lines[at + 2].startswith("after ") else 2
-        yield pieces[k:k + 3], lines[at:at + size]
-        at += size
+        end = next(n for n in range(at, len(lines)) if lines[n].startswith("through ")) + 1
+        end += end < len(lines) and lines[end].startswith("works ")
+        yield pieces[k:k + 3], lines[at:end]
+        at = end
 
 
 # ---- rewriting, by the tables of the specification
