@@ -3,3 +3,4 @@ pub mod Site
 pub mod Quick
 pub mod Pass
 pub mod Said
+pub mod Through

@@ -2,4 +2,5 @@
 pub mod Site
 pub mod Rows
 pub mod Said
+pub mod Through
 pub mod Laws

@@ -1,5 +1,6 @@
 // Reads sites, conditions and sheets on standard input and prints for each three what the desk answers: the bytes that applying changes,
-// behind their offsets; the rewritten table; and the lists of the condition on the site after and of the rewritten table today.
+// behind their offsets; the rewritten table; the lists of the condition on the site after and of the rewritten table today; and the condition for
+// going through, with its list today.
 // A refusal is printed as `refused N W`. What a buffer should not hold, and a buffer of another length that is not refused, is said.
 use bitset::SET_BYTES;
 use libc::STDOUT_FILENO;
@@ -124,13 +125,43 @@ fn print_list(site: &[u8], cond: &[u8]) {
     print_list_in(site, cond, &mut set, &mut work);
 }
 
+// The list of a table, the first n bytes of a buffer.
+fn print_list_of(site: &[u8], table: &[u8], n: usize) {
+    if n <= table.len() {
+        print_list(site, &table[0..n]);
+    }
+}
+
 // The lists of the condition on the site after, and of the rewritten table, the first n bytes of a buffer, today.
 fn print_lists(site: &[u8], cond: &[u8], after: &[u8], table: &[u8], n: usize) {
     io::write_all(STDOUT_FILENO, b"after ");
     print_list(after, cond);
     io::write_all(STDOUT_FILENO, b"today ");
-    if n <= table.len() {
-        print_list(site, &table[0..n]);
+    print_list_of(site, table, n);
+}
+
+fn short_through_is_refused(sheet: &[u8]) -> bool {
+    let mut result = [170u8; TABLE_BYTES - 1];
+    let r = rewrite_entry::through(sheet, &mut result);
+    is_item_1(rewriting::verdict(r)) & (rewriting::nodes(r) == 0) & pieces::all_zero(&result)
+}
+
+// Makes the condition for going through and prints it; its length, 0 where it is refused.
+fn through(sheet: &[u8], result: &mut [u8]) -> usize {
+    io::write_all(STDOUT_FILENO, b"through ");
+    let r = rewrite_entry::through(sheet, result);
+    show_rewritten(r, result);
+    pieces::say(!short_through_is_refused(sheet), b" short buffer taken");
+    io::write_all(STDOUT_FILENO, b"\n");
+    NODE_BYTES * rewriting::nodes(r) as usize
+}
+
+// The list of the condition for going through on the site, where there is one.
+fn print_works(site: &[u8], sheet: &[u8], table: &mut [u8]) {
+    let n = through(sheet, table);
+    if n > 0 {
+        io::write_all(STDOUT_FILENO, b"works ");
+        print_list_of(site, table, n);
     }
 }
 
@@ -140,6 +171,7 @@ fn answer_in(site: &[u8], cond: &[u8], sheet: &[u8], after: &mut [u8], table: &m
     if applied & (n > 0) {
         print_lists(site, cond, after, table, n);
     }
+    print_works(site, sheet, table);
 }
 
 fn answer(site: &[u8], cond: &[u8], sheet: &[u8]) {
