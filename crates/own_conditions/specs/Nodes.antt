@@ -3,11 +3,8 @@ use mathlib.Core.List.{List, [], _∷_}
 use mathlib.Core.Option.{Option, none, some}
 use Prim.Native.Nat.{ℕ, _+_}
 use Rattle.limits.specs.Limits.{everyWay, nameNo, notNo, andNo, diaNo}
-use Rattle.semantics.specs.Table.{Node}
+use Rattle.semantics.specs.Table.{Node, node}
 use Rattle.semantics.specs.Block.{Block, size, emit}
-
-abbrev pub node : ℕ → ℕ → ℕ → ℕ → Node
-node k p l r = record { kind = k; param = p; left = l; right = r }
 
 -- x y & <E> !, where x and y are leaves
 abbrev pub nowhereNodes : (at k p l q : ℕ) → List Node

@@ -3,7 +3,7 @@ use mathlib.Core.List.{List, [], _∷_}
 use mathlib.Core.Bool.{Bool, not}
 use Prim.Native.Nat.{ℕ}
 use Rattle.finite.specs.Tests.{same}
-use Rattle.semantics.specs.Table.{Node}
+use Rattle.semantics.specs.Table.{Node, node}
 use Rattle.semantics.specs.Edit.{Edit, CN1, CN2, AT, DT2, AS, DS}
 use Rattle.samples.specs.Site.{some, Small, siteA, ring}
 
@@ -31,10 +31,6 @@ pub record Row : Type 0 where
 
 abbrev pub row : Small → List Edit → List Node → Expected → Row
 row a es xs x = record { site = a; edits = es; table = xs; expected = x }
-
--- a node: kind, parameter, left, right
-abbrev pub node : ℕ → ℕ → ℕ → ℕ → Node
-node k p l r = record { kind = k; param = p; left = l; right = r }
 
 -- R: mu 0 (label 0 or diamond 4 variable 0), 5 nodes
 unfoldable pub tableR : List Node

@@ -1,9 +1,8 @@
 -- Sheets, their conditions for going through node by node, and whether each works on site A. Counted by hand.
 use mathlib.Core.List.{List, [], _∷_}
 use mathlib.Core.Bool.{Bool, true, false}
-use Rattle.semantics.specs.Table.{Node}
+use Rattle.semantics.specs.Table.{Node, node}
 use Rattle.semantics.specs.Edit.{Edit, CN1, AT, DT2, AS, DS}
-use Rattle.samples.specs.Rows.{node}
 
 pub record Foreseen : Type 0 where
   pub edits : List Edit

@@ -163,12 +163,12 @@ rewrite e images out (x ∷ xs) =
     let B = block e (kindOf (x .kind)) (x .param) (old (getD images (x .left) 0)) (old (getD images (x .right) 0)) in
     rewrite e (images ++ (root B (length out) ∷ [])) (out ++ emit B (length out)) xs
 
-unfoldable pub rewriteTable : Edit → List Node → List Node
-rewriteTable e xs = rewrite e [] [] xs
-
 -- what is made of a table for an edit
 abbrev pub Pass : Type 0
 Pass = Edit → List Node → List Node
+
+unfoldable pub rewriteTable : Pass
+rewriteTable e xs = rewrite e [] [] xs
 
 -- through a sheet, the last edit first, with a pass for each edit
 unfoldable pub passed : Pass → List Edit → List Node → List Node

@@ -63,6 +63,10 @@ pub record Node : Type 0 where
   pub left : ℕ
   pub right : ℕ
 
+-- a node: kind, parameter, left, right
+abbrev pub node : ℕ → ℕ → ℕ → ℕ → Node
+node k p l r = record { kind = k; param = p; left = l; right = r }
+
 -- the tree of a node, from its kind, its parameter and the trees of its children
 unfoldable pub atom : Leaf → ℕ → Form
 atom kTrue p = top

@@ -9,14 +9,14 @@ use lib.ListN.{length}
 use borrow.Author.Tests.{not-true, not-false}
 use Rattle.finite.specs.Laws.Bools.{either, look}
 use Rattle.semantics.specs.Edit.{Edit, CN1, CN2, AP, DP, AT, DT1, DT2, AS, DS, functional}
-use Rattle.semantics.specs.Table.{Node, Leaf, Unary, Binary, kTrue, kName, kNot, kAnd, kOr, leaf, unary, binary, kindNo}
+use Rattle.semantics.specs.Table.{Node, node, Leaf, Unary, Binary, kTrue, kName, kNot, kAnd, kOr, leaf, unary, binary, kindNo}
 use Rattle.semantics.specs.Block.{Block, old, end, on, join, size, root, emit, nm, no!, _&_, ⟨_⟩_}
 use Rattle.semantics.specs.Laws.Emit.{emit-length}
 use Rattle.blocks.specs.Write.{put, puts}
 use Rattle.blocks.specs.Laws.Write.{puts-one, puts-then}
 use Rattle.limits.specs.Limits.{tableNodes, everyWay, trueNo, nameNo, notNo, orNo, andNo}
 use Rattle.through.specs.Through.{neitherNil, freeOrThere, own, closing}
-use Rattle.own_conditions.specs.Nodes.{node, nowhereNodes, reachesNodes, ownSize, ownNodes}
+use Rattle.own_conditions.specs.Nodes.{nowhereNodes, reachesNodes, ownSize, ownNodes}
 use Rattle.own_conditions.specs.Behind.{PutBehind}
 
 -- five nodes, one by one
