@@ -140,7 +140,7 @@ enum desk_operation {
 /* ---- the lengths of the other buffers */
 
 #define DESK_CLASSES_BYTES DESK_SLOT_COUNT           /* the class number of each slot */
-#define DESK_TABLE_BYTES DESK_CONDITION_BYTES_MAX    /* a rewritten condition, then zeros */
+#define DESK_TABLE_BYTES DESK_CONDITION_BYTES_MAX    /* a table of desk_rewrite or desk_through, then zeros */
 #define DESK_WORK_BYTES (DESK_NODES_MAX * DESK_SET_BYTES) /* all zeros at return */
 
 #define DESK_STACK_BYTES 4194304

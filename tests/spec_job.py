@@ -3,7 +3,8 @@
 
 - The worked job: its blocks of bytes against crates/job/stdin and stdout, and against the answers to the same job in crates/test_changes and
   crates/test_jobs.
-- The blocks of rewriting: the table of SPEC, "Rewriting" is read and carried out on every condition and sheet of crates/test_changes.
+- The blocks of rewriting and the edits' own conditions: the tables of SPEC are read and carried out on every condition and sheet of
+  crates/test_changes.
 - The offsets of a site's parts and the numbers of kinds, operations and reasons against the header's constants.
 
 Prints what differs, and then exits with 1. Run at the repository's top: tests/spec_job.py
@@ -105,9 +106,9 @@ def stored_cases():
 
 # ---- rewriting, by the tables of the specification
 
-def rows(spec, section):
-    """The rows of the tables in a section, as lists of cells."""
-    text = re.search(rf"(?ms)^## \d+\. {section}\n(.*?)(?=^## |\Z)", spec).group(1)
+def rows(spec, section=None):
+    """The rows of the tables in a section, or in all, as lists of cells."""
+    text = re.search(rf"(?ms)^## \d+\. {section}\n(.*?)(?=^## |\Z)", spec).group(1) if section else spec
     for line in text.splitlines():
         if line.startswith("|"):
             yield [cell.strip().replace("\\|", "|") for cell in re.split(r"(?<!\\)\|", line)[1:-1]]
@@ -177,35 +178,74 @@ def put_block(words, known, image, kinds, out):
         out.append(node)
 
 
-def rewritten(blocks, operations, kinds, condition, sheet):
-    """The nodes of the rewritten table; None where a table is too long."""
-    word = lambda k: int.from_bytes(condition[k:k + 2], "little")
-    table = [(condition[k], condition[k + 1], word(k + 2), word(k + 4)) for k in range(0, len(condition), NODE_BYTES)]
+def rewritten_once(blocks, operations, kinds, table, edit):
     two, one = {kinds["or"], kinds["and"]}, {kinds[k] for k in ("not", "diamond", "box", "mu", "nu")}
+    out, images = [], []
+    for kind, param, left, right in table:
+        found = block_for(blocks, operations, edit, (kind, param), kinds)
+        if found:
+            put_block(*found, images[left] if kind in one else None, kinds, out)
+        else:
+            out.append((kind, param, images[left] if kind in one | two else 0, images[right] if kind in two else 0))
+        images.append(len(out) - 1)
+    return out
+
+
+def table_line(table, sheet, step):
+    """What is printed of the table that the steps make, the last edit first."""
     for at in range(len(sheet) - EDIT_BYTES, -1, -EDIT_BYTES):
-        out, images = [], []
-        for kind, param, left, right in table:
-            found = block_for(blocks, operations, sheet[at:at + EDIT_BYTES], (kind, param), kinds)
-            if found:
-                put_block(*found, images[left] if kind in one else None, kinds, out)
-            else:
-                out.append((kind, param, images[left] if kind in one | two else 0, images[right] if kind in two else 0))
-            images.append(len(out) - 1)
-        table = out
+        table = step(table, sheet[at:at + EDIT_BYTES])
         if len(table) > TABLE_NODES:
-            return None
-    return b"".join(bytes((k, p)) + x.to_bytes(2, "little") + y.to_bytes(2, "little") for k, p, x, y in table)
+            return "refused 14 0"
+    data = b"".join(bytes((k, p)) + x.to_bytes(2, "little") + y.to_bytes(2, "little") for k, p, x, y in table)
+    return f"{len(table)} nodes {data.hex()}"
+
+
+def owns_of(spec, operations):
+    """The operation, the links (of AT) and the words of each edit's own condition: the rows of an edit, its condition and the number of nodes."""
+    owns = []
+    for row in rows(spec):
+        if len(row) != 3 or not row[2].isdigit() or row[0].split()[0] not in operations:
+            continue
+        words, (edit, _, links) = row[1].strip("`").split(), row[0].partition(", m from ")
+        compare(f"the nodes of {row[1]}", row[2], str(len(words)))
+        first, last = map(int, links.split(" to ")) if links else (0, 255)
+        owns.append((operations[edit.split()[0]][0], range(first, last + 1), words))
+    if not owns:
+        faults.append("docs/SPEC.md has no table of the edits' own conditions")
+    return owns
+
+
+def put_own(owns, operations, kinds, table, edit):
+    """The edit's own condition and an "and" behind the table, which becomes the left operand."""
+    older, names = len(table) - 1, next(operands for number, operands in operations.values() if number == edit[0])
+    for number, links, words in owns:
+        if number == edit[0] and edit[1] in links:
+            put_block(words, dict(zip(names, edit[1:])), None, kinds, table)
+            table.append((kinds["and"], 0, older, len(table) - 1))
+    return table
+
+
+def refused_before(line):
+    return line.startswith("refused") and line != "refused 14 0"
 
 
 def rewriting(spec, cases):
     kinds, operations = kinds_of(spec), operations_of(spec)
-    blocks = blocks_of(spec, operations)
+    blocks, owns = blocks_of(spec, operations), owns_of(spec, operations)
+
+    def rewrite(table, edit):
+        return rewritten_once(blocks, operations, kinds, table, edit)
+
     for number, ((_, condition, sheet), answer) in enumerate(cases):
-        if answer[1].startswith("refused") and answer[1] != "refused 14 0":
-            continue
-        table = rewritten(blocks, operations, kinds, condition, sheet)
-        line = "refused 14 0" if table is None else f"{len(table) // NODE_BYTES} nodes {table.hex()}"
-        compare(f"case {number} of crates/test_changes, rewritten", line, answer[1])
+        word = lambda k: int.from_bytes(condition[k:k + 2], "little")
+        if not refused_before(answer[1]):
+            table = [(condition[k], condition[k + 1], word(k + 2), word(k + 4)) for k in range(0, len(condition), NODE_BYTES)]
+            compare(f"case {number} of crates/test_changes, rewritten", table_line(table, sheet, rewrite), answer[1])
+        through = next(line for line in answer if line.startswith("through "))[len("through "):]
+        if not refused_before(through):
+            line = table_line([(kinds["true"], 0, 0, 0)], sheet, lambda t, e: put_own(owns, operations, kinds, rewrite(t, e), e))
+            compare(f"case {number} of crates/test_changes, through", line, through)
 
 
 # ---- the header
