@@ -18,6 +18,7 @@ ROOTS = [
     "crates/desk/src/lib.rt",
     "crates/demands/specs/Demand1.antt",
     "crates/demands/specs/Demands.antt",
+    "crates/demands/specs/Through.antt",
     "crates/demands/specs/Job.antt",
     "crates/job_text/specs/Text.antt",
 ]

@@ -1,1 +1,1 @@
-// The three demands, over bytes, and their proofs. No code.
+// The demands, over bytes, and their proofs. No code.

@@ -41,6 +41,15 @@ foreseens =
     ∷ node 3 1 0 0 ∷ node 0 0 0 0 ∷ node 8 4 13 0 ∷ node 7 0 12 14 ∷ node 8 16 15 0 ∷ node 5 0 16 0
     ∷ node 3 1 0 0 ∷ node 3 2 0 0 ∷ node 8 4 19 0 ∷ node 7 0 18 20 ∷ node 8 16 21 0
     ∷ node 6 0 17 22 ∷ node 7 0 11 23 ∷ node 7 0 0 24 ∷ []) false
+    -- AT 4 1 1: slot 2 has another target
+    ∷ foreseen (AT 4 1 1 ∷ [])
+    (node 0 0 0 0
+    ∷ node 3 1 0 0 ∷ node 3 0 0 0 ∷ node 7 0 1 2 ∷ node 8 16 3 0 ∷ node 5 0 4 0
+    ∷ node 3 1 0 0 ∷ node 3 0 0 0 ∷ node 7 0 6 7 ∷ node 8 16 8 0 ∷ node 5 0 9 0
+    ∷ node 7 0 5 10
+    ∷ node 3 1 0 0 ∷ node 0 0 0 0 ∷ node 8 4 13 0 ∷ node 7 0 12 14 ∷ node 8 16 15 0 ∷ node 5 0 16 0
+    ∷ node 3 1 0 0 ∷ node 3 1 0 0 ∷ node 8 4 19 0 ∷ node 7 0 18 20 ∷ node 8 16 21 0
+    ∷ node 6 0 17 22 ∷ node 7 0 11 23 ∷ node 7 0 0 24 ∷ []) false
     -- CN1 1 2 then DS 1: DS's condition is rewritten through CN1, which adds none
     ∷ foreseen (CN1 1 2 ∷ DS 1 ∷ [])
     (node 0 0 0 0 ∷ node 3 2 0 0 ∷ node 3 0 0 0 ∷ node 7 0 1 2 ∷ node 8 16 3 0 ∷ node 5 0 4 0 ∷ node 7 0 0 5 ∷ []) true
@@ -50,4 +59,11 @@ foreseens =
     ∷ node 1 0 0 0 ∷ node 3 1 0 0 ∷ node 5 0 2 0 ∷ node 7 0 1 3 ∷ node 12 4 0 0 ∷ node 7 0 4 5 ∷ node 8 16 6 0 ∷ node 5 0 7 0
     ∷ node 7 0 0 8
     ∷ node 3 1 0 0 ∷ node 3 0 0 0 ∷ node 7 0 10 11 ∷ node 8 16 12 0 ∷ node 5 0 13 0 ∷ node 7 0 9 14 ∷ []) true
+    -- DS 1 twice: after the first, name 1 is at nil. The name in the older condition becomes y n ! & nil n y & <E> & |
+    ∷ foreseen (DS 1 ∷ DS 1 ∷ [])
+    (node 0 0 0 0
+    ∷ node 3 1 0 0 ∷ node 3 1 0 0 ∷ node 5 0 2 0 ∷ node 7 0 1 3
+    ∷ node 3 0 0 0 ∷ node 3 1 0 0 ∷ node 3 1 0 0 ∷ node 7 0 6 7 ∷ node 8 16 8 0 ∷ node 7 0 5 9 ∷ node 6 0 4 10
+    ∷ node 3 0 0 0 ∷ node 7 0 11 12 ∷ node 8 16 13 0 ∷ node 5 0 14 0 ∷ node 7 0 0 15
+    ∷ node 3 1 0 0 ∷ node 3 0 0 0 ∷ node 7 0 17 18 ∷ node 8 16 19 0 ∷ node 5 0 20 0 ∷ node 7 0 16 21 ∷ []) false
     ∷ []
