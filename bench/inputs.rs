@@ -273,7 +273,7 @@ pub fn plan(n: usize) -> Vec<u8> {
 }
 
 /// DS 47 times in front of CN2 and AT, which have a diamond inside another. Each DS puts two nodes on the path at each of the two, and one above
-/// them: 249 nodes, the longest path of all sheets that were tried.
+/// them: 249 nodes.
 pub fn long_paths() -> Vec<u8> {
     let functional = GENERAL as u8;
     let mut sheet = [8, 0, 0, 0].repeat(47);

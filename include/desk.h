@@ -22,7 +22,7 @@
  *                  2,048 nodes
  *   desk_job       the largest of the above, plus 5 KB. It lists two tables, the condition and the REWRITTEN one, and the
  *                  second has longer paths: DS, for instance, puts three nodes on the path for each diamond
- *   desk_through   under 45 KB for every sheet that was tried; the longest path in a table of these has 249 nodes
+ *   desk_through   31 KB, plus 110 bytes for each node on the longest path of the table; at most 42 KB was measured, for a path of 249 nodes
  *
  * Time. There is no limit on rounds. A mu or nu is evaluated round by round, in up to DESK_SLOT_COUNT rounds. If it reads the variable of a
  * loop around it, it starts again in every round of that loop, so the rounds of nested loops multiply. On a chain of 256 slots one loop

@@ -204,7 +204,7 @@ def table_line(table, sheet, step):
 def owns_of(spec, operations):
     """The operation, the links (of AT) and the words of each edit's own condition: the rows of an edit, its condition and the number of nodes."""
     owns = []
-    for row in rows(spec):
+    for row in rows(spec, "The condition for going through"):
         if len(row) != 3 or not row[2].isdigit() or row[0].split()[0] not in operations:
             continue
         words, (edit, _, links) = row[1].strip("`").split(), row[0].partition(", m from ")

@@ -9,6 +9,8 @@ pub mod Reflect
 pub mod Loops
 pub mod First
 pub mod Arms
+-- zeros
+pub mod Zeros
 -- binary digits
 pub mod Bits
 pub mod Weights

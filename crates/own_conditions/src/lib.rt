@@ -12,7 +12,7 @@ use limits::TABLE_NODES;
 use limits::TRUE;
 use sheet::Op;
 ghost use mathlib.Core.Path.{_≡_};
-ghost use Prim.Native.Nat.{_+_, _*_, _≤_, _<_};
+ghost use Prim.Native.Nat.{_+_, _≤_, _<_};
 ghost use lib.ListN.{length};
 ghost use mathlib.Core.Bool.{cond};
 ghost use Rattle.semantics.specs.Edit.{AT, functional};
@@ -24,9 +24,9 @@ ghost use Rattle.blocks.specs.Write.{puts};
 ghost use Rattle.own_conditions.specs.Nodes.{nowhereNodes, reachesNodes, ownSize, ownNodes};
 ghost use Rattle.own_conditions.specs.Behind.{PutBehind};
 
-// No slot meets both of two leaves, by their kinds and parameters: x y & <E> !, five nodes from number at on.
+// No slot is in both of two leaves, given by their kinds and parameters: x y & <E> !, five nodes from number at on.
 fn put_nowhere(out: &mut [u8], at: usize, k: u8, p: u8, l: u8, q: u8)
-    requires { ⌜ (6 * (at + 5) ≤ length (now out)) × (at < 60000) ⌝ }
+    requires { ⌜ (length (now out) ≡ tableBytes) × (at + 5 ≤ tableNodes) ⌝ }
     ensures { λ _. ⌜ now (out .exit) ≡ puts (now (out .entry)) at 0 (nowhereNodes at k p l q) ⌝ }
 {
     put_node(out, at, k, p, 0, 0);
@@ -36,9 +36,9 @@ fn put_nowhere(out: &mut [u8], at: usize, k: u8, p: u8, l: u8, q: u8)
     put_node(out, at + 4, NOT, 0, at + 3, 0);
 }
 
-// Link m leads from @n to a slot that meets a leaf: n y <m> & <E>, five nodes from number at on.
+// Link m leads from @n to a slot of a leaf: n y <m> & <E>, five nodes from number at on.
 fn put_reaches(out: &mut [u8], at: usize, n: u8, m: u8, k: u8, p: u8)
-    requires { ⌜ (6 * (at + 5) ≤ length (now out)) × (at < 60000) ⌝ }
+    requires { ⌜ (length (now out) ≡ tableBytes) × (at + 5 ≤ tableNodes) ⌝ }
     ensures { λ _. ⌜ now (out .exit) ≡ puts (now (out .entry)) at 0 (reachesNodes at n m k p) ⌝ }
 {
     put_node(out, at, NAME, n, 0, 0);
@@ -50,7 +50,7 @@ fn put_reaches(out: &mut [u8], at: usize, n: u8, m: u8, k: u8, p: u8)
 
 // n1 nil & <E> ! n2 nil & <E> ! &
 fn put_neither_nil(out: &mut [u8], at: usize, n1: u8, n2: u8)
-    requires { ⌜ (6 * (at + 11) ≤ length (now out)) × (at < 50000) ⌝ }
+    requires { ⌜ (length (now out) ≡ tableBytes) × (at + 11 ≤ tableNodes) ⌝ }
     ensures { λ _. ⌜ now (out .exit) ≡ puts (now (out .entry)) at 0 (emit (neitherNil n1 n2) at) ⌝ }
 {
     put_nowhere(out, at, NAME, n1, NAME, 0);
@@ -60,7 +60,7 @@ fn put_neither_nil(out: &mut [u8], at: usize, n1: u8, n2: u8)
 
 // n1 t <m> & <E> ! n1 n2 <m> & <E> |
 fn put_free_or_there(out: &mut [u8], at: usize, m: u8, n1: u8, n2: u8)
-    requires { ⌜ (6 * (at + 12) ≤ length (now out)) × (at < 50000) ⌝ }
+    requires { ⌜ (length (now out) ≡ tableBytes) × (at + 12 ≤ tableNodes) ⌝ }
     ensures { λ _. ⌜ now (out .exit) ≡ puts (now (out .entry)) at 0 (emit (freeOrThere m n1 n2) at) ⌝ }
 {
     put_reaches(out, at, n1, m, TRUE, 0);
@@ -71,7 +71,7 @@ fn put_free_or_there(out: &mut [u8], at: usize, m: u8, n1: u8, n2: u8)
 
 // AT's condition.
 fn put_link(out: &mut [u8], at: usize, m: u8, n1: u8, n2: u8)
-    requires { ⌜ (6 * (at + ownSize (own (AT m n1 n2))) ≤ length (now out)) × (at < 40000) ⌝ }
+    requires { ⌜ (length (now out) ≡ tableBytes) × (at + ownSize (own (AT m n1 n2)) ≤ tableNodes) ⌝ }
     ensures { λ _. ⌜ now (out .exit) ≡ puts (now (out .entry)) at 0 (ownNodes at (own (AT m n1 n2))) ⌝ }
 {
     put_neither_nil(out, at, n1, n2);
@@ -111,7 +111,7 @@ fn own_size(e: Op) -> usize
 
 // Writes the edit's own condition from number at on.
 fn put_own(out: &mut [u8], at: usize, e: Op)
-    requires { ⌜ (6 * (at + ownSize (own (editOf e))) ≤ length (now out)) × (at < 40000) ⌝ }
+    requires { ⌜ (length (now out) ≡ tableBytes) × (at + ownSize (own (editOf e)) ≤ tableNodes) ⌝ }
     ensures { λ _. ⌜ now (out .exit) ≡ puts (now (out .entry)) at 0 (ownNodes at (own (editOf e))) ⌝ }
 {
     match e {
@@ -127,8 +127,8 @@ fn put_own(out: &mut [u8], at: usize, e: Op)
     }
 }
 
-// Puts the edit's own condition and the closing "and" behind a table of n nodes. Gives how many nodes there are then; where that is over 2,048,
-// nothing is written.
+// Puts the edit's own condition and the closing "and" behind a table of n nodes. Gives how many nodes there are then, or some number over 2,048 where
+// they are more than a table holds.
 pub fn put_behind(out: &mut [u8], n: usize, e: Op) -> usize
     requires { ⌜ (length (now out) ≡ tableBytes) × (0 < n) ⌝ }
     ensures { λ r. ⌜ PutBehind (closing n (own (editOf e))) n (now (out .entry)) (now (out .exit)) r ⌝ }

@@ -1,4 +1,4 @@
--- The number, W and node count for each case of the answer of rewriting: docs/SPEC.md, "Reasons".
+-- The number, W and node count for each case of the answer of rewriting and of the condition for going through: docs/SPEC.md, "Reasons".
 use Prim.Native.Nat.{ℕ}
 use Rattle.verdict.specs.declared.Verdict.{Verdict}
 use Rattle.verdict.specs.declared.Verdict.the-variants as verdict

@@ -1,4 +1,4 @@
--- What rewriting leaves in its buffer after a verdict. The buffer is named twice: as it was, and as it is at return (′).
+-- What rewriting, or the making of the condition for going through, leaves in its buffer after a verdict. The buffer is named twice: as it was, and as it is at return (′).
 use mathlib.Core.Path.{_≡_}
 use mathlib.Core.List.{List, _++_}
 use Prim.Native.Nat.{ℕ, _*_, _-_}

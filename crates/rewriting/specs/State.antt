@@ -15,13 +15,13 @@ use Rattle.condition.specs.Bytes.{bytesOf}
 use Rattle.rewriting.specs.Refusal.{tooLong, lengthVerdict}
 use Rattle.rewriting.specs.Rewriting.{TableAfter}
 
--- the two passes: rewriting alone, and with each edit's own condition put behind
+-- what is made of a table for an edit: it is rewritten; and with `own` the edit's own condition is put behind it
 abbrev pub passOf : Bool → Pass
 passOf false = rewriteTable
 passOf true = throughEdit
 
 -- a buffer starts with the table xs, which has r nodes; or the table is too long, and r is over 2,048
-pub record Made (xs : List Node) (o : List ℕ) (r : ℕ) : Type 0 where
+pub record TableMade (xs : List Node) (o : List ℕ) (r : ℕ) : Type 0 where
   pub right : length xs ≤ tableNodes → (r ≡ length xs) × (take (6 * length xs) o ≡ bytesOf xs)
   pub long : tableNodes < length xs → tableNodes < r
 

@@ -19,7 +19,7 @@ ghost use Rattle.through.specs.Through.{throughEdit, oneTrue};
 ghost use Rattle.condition.specs.Bytes.{nodes, tableOf};
 ghost use Rattle.sheet.specs.Bytes.{editOf, editsOf};
 ghost use Rattle.limits.specs.Limits.{tableNodes, tableBytes};
-ghost use Rattle.rewriting.specs.State.{passOf, Made, Passed, Finished, Rewrote};
+ghost use Rattle.rewriting.specs.State.{passOf, TableMade, Passed, Finished, Rewrote};
 ghost use Rattle.rewriting.specs.Answer.{verdictOf, nodesOf};
 
 // Zeros from byte n on.
@@ -44,7 +44,7 @@ fn pass(
 ) -> usize
     requires { ⌜ (length (now table) ≡ tableBytes) × (n ≤ tableNodes) × (length (now images) ≡ tableNodes) × (length (now rows) ≡ tableNodes) × (length (now out) ≡ tableBytes) ⌝ }
     requires { ⌜ (legal (editOf e) ≡ true) × (nodesFit 0 (nodes (now table) n) ≡ true) × (0 < n) ⌝ }
-    ensures { λ r. ⌜ Made (passOf own (editOf e) (nodes (now (table .entry)) n)) (now (out .exit)) r ⌝ }
+    ensures { λ r. ⌜ TableMade (passOf own (editOf e) (nodes (now (table .entry)) n)) (now (out .exit)) r ⌝ }
     ensures { λ _. ⌜ (length (now (images .exit)) ≡ tableNodes) × (length (now (rows .exit)) ≡ tableNodes) × (length (now (out .exit)) ≡ tableBytes) ⌝ }
 {
     let made = emitting::rewrite(table, n, e, images, rows, out);
@@ -88,7 +88,7 @@ fn passes(
     count
 }
 
-// The answer of rewriting: how many nodes the rewritten table has, or the item that is met and its W.
+// The answer: how many nodes the table has that is made, or the item that is met and its W.
 pub enum Rewriting {
     Rewritten(u32),
     Refused(u8, u16),

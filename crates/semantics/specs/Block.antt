@@ -8,7 +8,7 @@ use Rattle.finite.specs.Tests.{same}
 use Rattle.limits.specs.Limits.{links, everyWay}
 use Rattle.semantics.specs.Form.{Way, along, against, every}
 use Rattle.semantics.specs.Edit.{Edit, CN1, CN2, AP, DP, AT, DT1, DT2, AS, DS}
-use Rattle.semantics.specs.Table.{Leaf, kTrue, kHere, kLabel, kName, kVar, kSlot, Unary, kNot, kDia, kBox, kMu, kNu, Binary, kOr, kAnd, Kind, leaf, unary, binary, kindNo, kindOf, wayOf, Node}
+use Rattle.semantics.specs.Table.{Leaf, kTrue, kHere, kLabel, kName, kVar, kSlot, Unary, kNot, kDia, kBox, kMu, kNu, Binary, kOr, kAnd, Kind, leaf, unary, binary, kindNo, kindOf, wayOf, Node, node}
 
 -- what an edit does to the neighbours by a way: nothing; a step from @a to @b is there, or is not; no step leaves @n, or reaches it, or either
 pub data Change : Type 0 where
@@ -62,11 +62,9 @@ root (join k x y) b = b + (size x + size y)
 -- a block's nodes: left operand first, then right, then the node itself
 unfoldable pub emit : Block → ℕ → List Node
 emit (old i) b = []
-emit (end k p) b = record { kind = kindNo (leaf k); param = p; left = 0; right = 0 } ∷ []
-emit (on k p x) b = emit x b ++ (record { kind = kindNo (unary k); param = p; left = root x b; right = 0 } ∷ [])
-emit (join k x y) b =
-    emit x b
-    ++ (emit y (b + size x) ++ (record { kind = kindNo (binary k); param = 0; left = root x b; right = root y (b + size x) } ∷ []))
+emit (end k p) b = node (kindNo (leaf k)) p 0 0 ∷ []
+emit (on k p x) b = emit x b ++ (node (kindNo (unary k)) p (root x b) 0 ∷ [])
+emit (join k x y) b = emit x b ++ (emit y (b + size x) ++ (node (kindNo (binary k)) 0 (root x b) (root y (b + size x)) ∷ []))
 
 -- short names for the nodes of blocks
 abbrev pub nm : ℕ → Block

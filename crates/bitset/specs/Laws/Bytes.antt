@@ -44,9 +44,11 @@ same-slots n A B la lb ha hb h =
     ext-getD 0 A B (la ∙ sym lb) (λ i l. same-bits 8 (getD A i 0) (getD B i 0) (ha i) (hb i) (λ k lk.
     sym (has-byte A i k lk) ∙ h (i * 8 + k) (omega arith) ∙ has-byte B i k lk))
 
+like-set : (v : ℕ) {b : Bool} → v < 256 → Is (replicate setBytes v) (λ s. b) → (A : List ℕ) → length A ≡ setBytes → ((k : ℕ) → getD A k 0 < 256)
+    → Is A (λ s. b) → A ≡ replicate setBytes v
+like-set v small law A l h i = same-slots setBytes A (replicate setBytes v) l (length-replicate {A = ℕ} setBytes v) h (like-small v small) (λ s k. i s k ∙ sym (law s k))
+
 -- a set whose slots are all in it, or all out of it
 pub like-bytes : (b : Bool) (A : List ℕ) → length A ≡ setBytes → ((k : ℕ) → getD A k 0 < 256) → Is A (λ s. b) → A ≡ replicate setBytes (cond b 255 0)
-like-bytes true A l h i =
-    same-slots setBytes A (replicate setBytes 255) l (length-replicate {A = ℕ} setBytes 255) h (like-small 255 (omega arith)) (λ s k. i s k ∙ sym (has-full s k))
-like-bytes false A l h i =
-    same-slots setBytes A (replicate setBytes 0) l (length-replicate {A = ℕ} setBytes 0) h (like-small 0 (omega arith)) (λ s k. i s k ∙ sym (has-empty s k))
+like-bytes true = like-set 255 (omega arith) has-full
+like-bytes false = like-set 0 (omega arith) has-empty

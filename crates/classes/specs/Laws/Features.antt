@@ -19,7 +19,8 @@ use Rattle.site.specs.Laws.Read.{present-is, marked-is}
 use Rattle.partition.specs.Gains.{Gains}
 use Rattle.partition.specs.Rows.{inRow, sameRow}
 use Rattle.partition.specs.Partition.{together, Partition, Partitions, byRow}
-use Rattle.partition.specs.Laws.Gains.{zeros-at, gains-none, gains-map, gains-zeros}
+use Rattle.finite.specs.Laws.Zeros.{zeros-at}
+use Rattle.partition.specs.Laws.Gains.{gains-none, gains-map, gains-zeros}
 use Rattle.partition.specs.Laws.Partitions.{partitions-map}
 use Rattle.classes.specs.Laws.Different.{same-turned}
 use Rattle.classes.specs.Features.{labelsFrom, namesFrom, features, feature, FeatureRows, featurePuts}

@@ -41,7 +41,7 @@ none-uneven S e =
     let a = first-past (length (tableOf S)) (uneven S) (not-below _ _ e) in
     all-in (length (tableOf S)) (λ i. even (treeAt (tableOf S) i)) (λ i h. not-false _ (any-none (length (tableOf S)) (uneven S) a i h))
 
-pub even-none : (S : List ℕ) → evenTable (tableOf S) ≡ true → below (firstUneven S) (length (tableOf S)) ≡ false
+even-none : (S : List ℕ) → evenTable (tableOf S) ≡ true → below (firstUneven S) (length (tableOf S)) ≡ false
 unfolding firstUneven evenTable
 even-none S f =
     let a =
@@ -106,7 +106,7 @@ accepted-sound S e =
       is-closed = not-false _ (p₁₀ .0);
     }
 
-pub sound-accepted : (S : List ℕ) → Sound S → conditionVerdict S ≡ Accepted
+sound-accepted : (S : List ℕ) → Sound S → conditionVerdict S ≡ Accepted
 sound-accepted S s =
     no-item S (size-in (length S) (s .multiple) (s .some) (s .few)) (fit-none S (s .fits)) (even-none S (s .even-rule)) (s .is-closed)
 

@@ -1,20 +1,23 @@
 -- Each entry point's chain of items: inputs that meet no item are accepted, and the numbers of the items.
-use mathlib.Core.Path.{_≡_, sym, _∙_}
+use mathlib.Core.Path.{_≡_, sym, _∙_, ap}
 use mathlib.Core.Bool.{false}
-use mathlib.Core.List.{List}
-use Prim.Native.Nat.{ℕ, _≤_}
+use mathlib.Core.List.{List, _++_}
+use Prim.Native.Nat.{ℕ, _*_, _-_, _≤_}
 use native.Mathlib.Omega.{arith}
-use lib.ListN.{length}
+use lib.ListN.{length, replicate}
 use Rattle.finite.specs.Tests.{below}
 use Rattle.finite.specs.Laws.Below.{below-not, not-below}
+use Rattle.verdict.specs.Verdict.{reasonOf}
+use Rattle.verdict.specs.declared.Verdict.{Verdict}
 use Rattle.verdict.specs.declared.Verdict.the-variants.{Accepted}
 use Rattle.bitset.specs.Set.{setBytes}
 use Rattle.site.specs.Layout.{siteBytes}
 use Rattle.site.specs.Site.{siteOf}
 use Rattle.site.specs.Refusal.{siteVerdict}
-use Rattle.limits.specs.Limits.{tableNodes}
+use Rattle.limits.specs.Limits.{tableNodes, tableBytes}
+use Rattle.semantics.specs.Table.{Node}
 use Rattle.semantics.specs.Block.{rewriteTable}
-use Rattle.condition.specs.Bytes.{tableOf}
+use Rattle.condition.specs.Bytes.{tableOf, bytesOf}
 use Rattle.condition.specs.Refusal.{conditionVerdict}
 use Rattle.condition.specs.Laws.Bytes.{length-table}
 use Rattle.condition.specs.Laws.Verdict.{accepted-sound}
@@ -23,7 +26,7 @@ use Rattle.sheet.specs.Refusal.{sheetVerdict}
 use Rattle.listing.specs.Listed.{workBytes}
 use Rattle.applying.specs.Refusal.{goesVerdict}
 use Rattle.rewriting.specs.Refusal.{tooLong, lengthVerdict}
-use Rattle.rewriting.specs.Rewriting.{rewritten}
+use Rattle.rewriting.specs.Rewriting.{rewritten, TableAfter}
 use Rattle.rewriting.specs.Laws.Grow.{table-grows, too-long-end}
 use Rattle.refusals.specs.Refusal.{bufferVerdict}
 use Rattle.refusals.specs.Laws.Items.{buffer-in, Numbered, numbered-then, numbered-buffer, numbered-site, numbered-condition, numbered-sheet, numbered-goes}
@@ -39,6 +42,7 @@ use Rattle.job_run.specs.Buffers.{Buffers}
 use Rattle.job_run.specs.Laws.Refusal.{pieces-in}
 use Rattle.job_entry.specs.Refusal.{buffersVerdict, jobVerdict}
 use Rattle.job_entry.specs.Laws.Refusal.{JobAccepted}
+use Rattle.desk.specs.Returned.{Returned}
 
 -- ---- a rewritten table fits exactly if it was too long after no edit: it never gets shorter
 
@@ -51,6 +55,17 @@ module _ (table sheet : List ℕ) (a : conditionVerdict table ≡ Accepted) wher
 
   pub short-fits : tooLong rewriteTable (editsOf sheet) (tableOf table) ≡ false → length (rewritten table sheet) ≤ tableNodes
   short-fits h = not-below tableNodes (length (rewritten table sheet)) (sym at-end ∙ h)
+
+-- ---- what an accepted call returns, and the table that one leaves
+
+pub reason-none : {due : Verdict} {After : Verdict → Type 0} {reason fault : ℕ} → due ≡ Accepted → Returned due After reason fault → reason ≡ 0
+reason-none a r = r .reason-is ∙ ap reasonOf a
+
+pub table-left : {due : Verdict} (xs : List Node) (result result′ : List ℕ) {n reason fault : ℕ} → due ≡ Accepted
+    → Returned due (λ v. TableAfter v xs result result′ n) reason fault
+    → (n ≡ length xs) × (result′ ≡ bytesOf xs ++ replicate (tableBytes - 6 * n) 0)
+unfolding TableAfter
+table-left xs result result′ a r = rw a at (r .left)
 
 -- ---- no item is met
 

@@ -1,11 +1,13 @@
 -- Demand 1 is met: by cases on the verdict that each call returns.
-use mathlib.Core.Path.{sym, _∙_}
+use mathlib.Core.Path.{_≡_, sym, _∙_}
+use mathlib.Core.List.{List}
 use Prim.Native.Nat.{ℕ}
 use native.Mathlib.Omega.{arith}
 use lib.ListN.{length}
 use Rattle.verdict.specs.Laws.{refused}
 use Rattle.verdict.specs.declared.Verdict.{Verdict}
 use Rattle.verdict.specs.declared.Verdict.the-variants.{Accepted, Refused}
+use Rattle.semantics.specs.Table.{Node}
 use Rattle.refusals.specs.Laws.Items.{Numbered}
 use Rattle.list_entry.specs.Listing.{SetAfter, ListAfter}
 use Rattle.apply_entry.specs.Applying.{SiteAfter}
@@ -19,7 +21,7 @@ use Rattle.job_run.specs.Job.{JobAfter}
 use Rattle.job_entry.specs.Laws.Refusal.{job-numbered}
 use Rattle.desk.specs.Returned.{Returned}
 use Rattle.demands.specs.Laws.Accepted.{list-numbered, apply-numbered, classes-numbered}
-use Rattle.demands.specs.Demand1.{Answers, Demand1Job, Demand1List, Demand1Apply, Demand1Rewrite, Demand1Through, Demand1Classes, Demand1}
+use Rattle.demands.specs.Demand1.{Answers, Zeroed, Demand1Job, Demand1List, Demand1Apply, Demand1Rewrite, Demand1Through, Demand1Classes, Demand1}
 
 -- what is left after a verdict is the full answer after Accepted, and zeros after each refusal
 answers : (After : Verdict → Type 0) {Full Zeros : Type 0} → (After Accepted → Full) → ((n k : ℕ) → After (Refused n k) → Zeros)
@@ -67,17 +69,20 @@ demand-1-apply site sheet result result′ reason fault r =
     answers (λ v. SiteAfter v site sheet result result′) (λ p. p) (λ item k p. p)
     _ (apply-numbered (length result) site sheet) r
 
+-- the table xs is to be made
+table-answers : {due : Verdict} (xs : List Node) (result result′ : List ℕ) {n reason fault : ℕ} → Numbered due
+    → Returned due (λ v. TableAfter v xs result result′ n) reason fault
+    → Answers reason fault (TableAfter Accepted xs result result′ n) (Zeroed result result′ × (n ≡ 0))
+unfolding TableAfter
+table-answers xs result result′ {n} k r = answers (λ v. TableAfter v xs result result′ n) (λ p. p) (λ item w p. (p .1, p .0)) _ k r
+
 demand-1-rewrite : Demand1Rewrite
-unfolding Demand1Rewrite TableAfter
-demand-1-rewrite table sheet result result′ reason fault n r =
-    answers (λ v. TableAfter v (rewritten table sheet) result result′ n) (λ p. p) (λ item k p. (p .1, p .0))
-    _ (rewrite-numbered (length result) table sheet) r
+unfolding Demand1Rewrite
+demand-1-rewrite table sheet result result′ reason fault n r = table-answers (rewritten table sheet) result result′ (rewrite-numbered (length result) table sheet) r
 
 demand-1-through : Demand1Through
-unfolding Demand1Through TableAfter
-demand-1-through sheet result result′ reason fault n r =
-    answers (λ v. TableAfter v (through (editsOf sheet)) result result′ n) (λ p. p) (λ item k p. (p .1, p .0))
-    _ (through-numbered (length result) sheet) r
+unfolding Demand1Through
+demand-1-through sheet result result′ reason fault n r = table-answers (through (editsOf sheet)) result result′ (through-numbered (length result) sheet) r
 
 demand-1-classes : Demand1Classes
 unfolding Demand1Classes ClassesAfter

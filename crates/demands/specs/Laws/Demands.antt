@@ -35,9 +35,9 @@ use Rattle.apply_entry.specs.Refusal.{applyVerdict}
 use Rattle.apply_entry.specs.Applying.{SiteWritten, SiteAfter}
 use Rattle.rewrite_entry.specs.Refusal.{rewriteVerdict}
 use Rattle.rewriting.specs.Refusal.{tooLong}
-use Rattle.rewriting.specs.Rewriting.{TableAfter, rewritten}
+use Rattle.rewriting.specs.Rewriting.{rewritten}
 use Rattle.demands.specs.Demands.{ApplyCall, RewriteCall, ListCall, rewrittenTable, Runnable, SameLists, Demand2, Going, Demand3, ClassCall, SameClasses}
-use Rattle.demands.specs.Laws.Accepted.{fits-short, list-accepted, apply-accepted, rewrite-accepted, classes-accepted}
+use Rattle.demands.specs.Laws.Accepted.{fits-short, reason-none, table-left, list-accepted, apply-accepted, rewrite-accepted, classes-accepted}
 
 -- ---- listing an accepted condition on an accepted site
 
@@ -48,7 +48,7 @@ module _ {site table : List ℕ} (a : siteVerdict site ≡ Accepted) (b : condit
       (record { set-size = c .set-size; work-size = c .work-size; site-accepted = a; table-accepted = b })
 
   pub list-reason : c .reason ≡ 0
-  list-reason = c .returned .reason-is ∙ ap reasonOf list-goes
+  list-reason = reason-none list-goes (c .returned)
 
   pub listed : Listed (siteOf site) (formOf (tableOf table)) (c .set′) (c .count)
   unfolding SetAfter
@@ -75,7 +75,7 @@ module _ {site sheet : List ℕ} (j : Going site sheet) where
         })
 
     apply-reason : c .reason ≡ 0
-    apply-reason = c .returned .reason-is ∙ ap reasonOf apply-goes
+    apply-reason = reason-none apply-goes (c .returned)
 
     left : SiteWritten site sheet (c .result′)
     unfolding SiteAfter
@@ -103,11 +103,10 @@ module _ {site table sheet : List ℕ} (j : Runnable site table sheet) where
         })
 
     rewrite-reason : c .reason ≡ 0
-    rewrite-reason = c .returned .reason-is ∙ ap reasonOf rewrite-goes
+    rewrite-reason = reason-none rewrite-goes (c .returned)
 
     written : (c .nodes ≡ length (rewritten table sheet)) × (c .result′ ≡ bytesOf (rewritten table sheet) ++ replicate (tableBytes - 6 * c .nodes) 0)
-    unfolding TableAfter
-    written = rw rewrite-goes at (c .returned .left)
+    written = table-left (rewritten table sheet) (c .result) (c .result′) rewrite-goes (c .returned)
 
     pub table-accepted : conditionVerdict (rewrittenTable c) ≡ Accepted
     table-accepted =
@@ -164,7 +163,7 @@ module _ {site sheet : List ℕ} (j : Going site sheet) (a : ApplyCall site shee
   same-classes =
       record {
         applies = apply-reason j a;
-        numbers = n .returned .reason-is ∙ ap reasonOf numbered;
+        numbers = reason-none numbered (n .returned);
         same-numbers = λ ρ s t h k.
             Iff·trans
             (class-undistinguished

@@ -1,19 +1,17 @@
 -- The demand on the condition for going through is met.
-use mathlib.Core.Path.{_≡_, refl, sym, _∙_, ap}
-use mathlib.Core.Logic.{_⊎_, inl, inr, _↔_}
+use mathlib.Core.Path.{_≡_, refl, _∙_}
+use mathlib.Core.Logic.{inl, inr}
 use mathlib.Core.Bool.{Bool, true, false, not, cond}
 use mathlib.Core.List.{List, _++_}
-use Prim.Native.Nat.{ℕ, _*_, _-_, _≤_, _<_}
+use Prim.Native.Nat.{ℕ, _*_, _-_, _≤_}
 use native.Mathlib.Omega.{arith}
 use lib.ListN.{length, replicate}
-use Rattle.finite.specs.Tests.{below}
 use Rattle.finite.specs.Laws.Below.{below-not}
 use Rattle.bitset.specs.Set.{setBytes}
 use Rattle.verdict.specs.Verdict.{reasonOf}
 use Rattle.verdict.specs.declared.Verdict.the-variants.{Accepted, Refused}
 use Rattle.limits.specs.Limits.{slots, tableNodes, tableBytes}
 use Rattle.semantics.specs.Edit as edits
-use Rattle.semantics.specs.Table.{formOf}
 use Rattle.semantics.specs.Block.{emit}
 use Rattle.through.specs.Through.{throughEdit, oneTrue, through}
 use Rattle.through.specs.Laws.Through.{through-says}
@@ -24,18 +22,15 @@ use Rattle.condition.specs.Refusal.{conditionVerdict}
 use Rattle.sheet.specs.Bytes.{editsOf}
 use Rattle.sheet.specs.Laws.Accepted.{accepted-sheet}
 use Rattle.applying.specs.Refusal.{goesVerdict}
-use Rattle.rewriting.specs.Rewriting.{TableAfter}
 use Rattle.rewriting.specs.Laws.Grow.{through-grows, too-long-end}
-use Rattle.rewriting.specs.Laws.Accepted.{taken, taken-table}
-use Rattle.rewriting.specs.Laws.Accepted as rewriting
-use Rattle.listing.specs.Listed.{Listed}
+use Rattle.rewriting.specs.Laws.Accepted.{taken, taken-table, through-bytes-accepted}
 use Rattle.listing.specs.Laws.Same.{like-listed}
 use Rattle.apply_entry.specs.Refusal.{applyVerdict}
 use Rattle.refusals.specs.Laws.Items.{buffer-in}
 use Rattle.rewrite_entry.specs.Refusal.{throughVerdict}
 use Rattle.demands.specs.Demands.{ApplyCall, ListCall}
 use Rattle.demands.specs.Through.{ThroughCall, throughTable, Foreseeable, Foretold, DemandThrough}
-use Rattle.demands.specs.Laws.Accepted.{through-accepted}
+use Rattle.demands.specs.Laws.Accepted.{through-accepted, reason-none, table-left}
 use Rattle.demands.specs.Laws.Demands.{list-reason, listed}
 
 module _ {site sheet : List ℕ} (j : Foreseeable site sheet) where
@@ -64,16 +59,12 @@ module _ {site sheet : List ℕ} (j : Foreseeable site sheet) where
           short = too-long-end throughEdit through-grows es oneTrue few-true ∙ below-not tableNodes (length (through es)) (omega (arith, j .table-fits));
         })
 
-    made-reason : c .reason ≡ 0
-    made-reason = c .returned .reason-is ∙ ap reasonOf made-goes
-
     written : (c .nodes ≡ length (through es)) × (c .result′ ≡ bytesOf (through es) ++ replicate (tableBytes - 6 * c .nodes) 0)
-    unfolding TableAfter
-    written = rw made-goes at (c .returned .left)
+    written = table-left (through es) (c .result) (c .result′) made-goes (c .returned)
 
     table-accepted : conditionVerdict (throughTable c) ≡ Accepted
     table-accepted =
-        rw (taken (through es) _ (c .result′) (c .nodes) (written .0) (written .1)) (rewriting.through-accepted es legal (omega (arith, j .table-fits)))
+        rw (taken (through es) _ (c .result′) (c .nodes) (written .0) (written .1)) (through-bytes-accepted es legal (omega (arith, j .table-fits)))
 
     is-through : tableOf (throughTable c) ≡ through es
     is-through = taken-table (through es) _ (c .result′) (c .nodes) (written .0) (written .1)
@@ -105,7 +96,7 @@ module _ {site sheet : List ℕ} (j : Foreseeable site sheet) where
         foretold true g =
             let l = rw g at through-listed in let r = rw g at apply-reason in
             record {
-              makes = made-reason;
+              makes = reason-none made-goes (c .returned);
               lists = list-reason (j .site-accepted) table-accepted t;
               goes-or-not = inl r;
               all-listed = (λ _. l, λ _. r);
@@ -114,7 +105,7 @@ module _ {site sheet : List ℕ} (j : Foreseeable site sheet) where
         foretold false g =
             let l = rw g at through-listed in let r = rw g at apply-reason in
             record {
-              makes = made-reason;
+              makes = reason-none made-goes (c .returned);
               lists = list-reason (j .site-accepted) table-accepted t;
               goes-or-not = inr r;
               all-listed = (λ e. absurd (omega (arith, r, e)), λ p. absurd (omega (arith, l .1, p .1)));

@@ -9,6 +9,7 @@ use lib.ListN.{length, getD, set, replicate, length-replicate}
 use lib.Seq.{getD-set-same, getD-set-other}
 use borrow.Author.Tests.{not-true}
 use Rattle.finite.specs.Tests.{all, bit}
+use Rattle.finite.specs.Laws.Zeros.{zeros-at}
 use Rattle.finite.specs.Laws.Bools.{look, either}
 use Rattle.finite.specs.Laws.Below.{equal?, all-in, all-out, all-cong}
 use Rattle.finite.specs.Laws.Weights.{bit-zero, no-bits}
@@ -54,11 +55,6 @@ more-done {i = i} h b v d =
 pub all-done : {S words : List ℕ} {i : ℕ} → i ≡ 0 → MasksRight S words → DoneFrom S words i → Rows S words
 all-done e g d = record { node = λ j h. g j h (d .node j (omega arith) h) }
 
-zero-at : (n i : ℕ) → _≡_ {A = ℕ} (getD (replicate n 0) i 0) 0
-zero-at zero i = refl
-zero-at (suc n) zero = refl
-zero-at (suc n) (suc i) = zero-at n i
-
 -- none is at the start
 pub none-done : {S : List ℕ} {i : ℕ} → Fit S → 6 * i ≤ length S → Visitable S noMasks i
 none-done {S} f n =
@@ -66,7 +62,7 @@ none-done {S} f n =
       fit = f;
       size = length-replicate {A = ℕ} tableNodes 0;
       inside = n;
-      right = λ j h d. let z = zero-at tableNodes j in absurd (omega arith);
+      right = λ j h d. let z = zeros-at tableNodes j in absurd (omega arith);
     }
 
 -- ---- item 10
@@ -102,7 +98,7 @@ module _ {S words : List ℕ} (r : Rows S words) where
         node = λ i v h l.
             let n = length-table S in
             ap (λ (m : ℕ). bit m v) (u .node i (omega arith)) ∙ free-at i v (omega arith) l;
-        rest = λ i h. let n = length-table S in u .rest i (omega arith) ∙ zero-at tableNodes i;
+        rest = λ i h. let n = length-table S in u .rest i (omega arith) ∙ zeros-at tableNodes i;
       }
 
 -- ---- loops over masks

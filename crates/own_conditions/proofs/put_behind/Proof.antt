@@ -1,6 +1,6 @@
 -- The condition, and the closing "and" over the last node before it.
 use native.Mathlib.Omega.{arith}
-use Rattle.own_conditions.specs.Laws.Nodes.{behind-none, behind-full, behind-long, behind-put}
+use Rattle.own_conditions.specs.Laws.Nodes.{put-none, put-full, put-long, put-closed}
 use borrow.Author.Needs.{needs}
 use Rattle.own_conditions.proofs.put_behind.Statement.{statement}
 use Rattle.own_conditions.proofs.put_behind.Tie as tie
@@ -11,12 +11,12 @@ own-size-requires c κs = search needs
 returns : tie.Need-returns
 returns c =
     let z = c .before in let a = z .before .before .args in
-    behind-none _ (a .n) (z .own-size .ensures .0) (a .out .now) (omega arith)
+    put-none _ (a .n) (z .own-size .ensures .0) (a .out .now) (omega arith)
 
 returns-2 : tie.Need-returns-2
 returns-2 c =
     let z = c .before .before in let a = z .before .before .args in
-    behind-full _ (a .n) (z .own-size .ensures .0) (a .out .now) (omega arith)
+    put-full _ (a .n) (z .own-size .ensures .0) (a .out .now) (omega arith)
 
 add-made : tie.Need-add-made
 add-made c = omega arith
@@ -27,7 +27,7 @@ add-made-2 c = omega arith
 returns-3 : tie.Need-returns-3
 returns-3 c =
     let z = c .before .before .before in let a = z .before .before .args in
-    behind-long _ (a .n) (z .own-size .ensures .0) (omega arith) (a .out .now) (omega arith)
+    put-long _ (a .n) (z .own-size .ensures .0) (omega arith) (a .out .now) (omega arith)
 
 put-own-requires : tie.Need-put-own-requires
 put-own-requires c κs =
@@ -56,7 +56,7 @@ returns-4 : tie.Need-returns-4
 returns-4 c =
     let p = c .before .before in let q = p .before .before .before .before in let z = q .before .before .before .before .before in
     let a = z .before .before .args in
-    behind-put _ (a .n) (z .own-size .ensures .0) (omega arith) (a .out .now) (omega arith) (q .put-own .ensures) (p .put-node .ensures)
+    put-closed _ (a .n) (z .own-size .ensures .0) (omega arith) (a .out .now) (omega arith) (q .put-own .ensures) (p .put-node .ensures)
 
 pub put-behind-spec : {M : Type 1} → statement M
 put-behind-spec =

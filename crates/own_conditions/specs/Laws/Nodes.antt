@@ -1,6 +1,6 @@
 -- Blocks written piece by piece.
 use mathlib.Core.Path.{_≡_, refl, sym, _∙_, ap}
-use mathlib.Core.List.{List, [], _∷_, _++_}
+use mathlib.Core.List.{List, [], _∷_}
 use mathlib.Core.Bool.{Bool, true, false, not, cond}
 use mathlib.Core.Option.{Option, none, some}
 use Prim.Native.Nat.{ℕ, _+_, _-_, _≤_, _<_}
@@ -12,6 +12,7 @@ use Rattle.semantics.specs.Edit.{Edit, CN1, CN2, AP, DP, AT, DT1, DT2, AS, DS, 
 use Rattle.semantics.specs.Table.{Node, node, Leaf, Unary, Binary, kTrue, kName, kNot, kAnd, kOr, leaf, unary, binary, kindNo}
 use Rattle.semantics.specs.Block.{Block, old, end, on, join, size, root, emit, nm, no!, _&_, ⟨_⟩_}
 use Rattle.semantics.specs.Laws.Emit.{emit-length}
+use Rattle.semantics.specs.Laws.Image.{makes, root-last}
 use Rattle.blocks.specs.Write.{put, puts}
 use Rattle.blocks.specs.Laws.Write.{puts-one, puts-then}
 use Rattle.limits.specs.Limits.{tableNodes, everyWay, trueNo, nameNo, notNo, orNo, andNo}
@@ -26,12 +27,12 @@ unfolding puts
 puts-five o at v w x y z e₁ e₂ e₃ e₄ e₅ = let h : at + 0 ≡ at = omega arith in rw (e₅, e₄, e₃, e₂, e₁, h) refl
 
 -- a node over a block, and over two
-pub puts-on : (o : List ℕ) (at : ℕ) (k : Unary) (p : ℕ) (x : Block)
+puts-on : (o : List ℕ) (at : ℕ) (k : Unary) (p : ℕ) (x : Block)
     → puts o at 0 (emit (on k p x) at) ≡ put (puts o at 0 (emit x at)) (at + size x) (node (kindNo (unary k)) p (root x at) 0)
 unfolding emit
 puts-on o at k p x = puts-one o at (emit x at) _ ∙ rw (emit-length x at) refl
 
-pub puts-join : (o : List ℕ) (at : ℕ) (k : Binary) (x y : Block)
+puts-join : (o : List ℕ) (at : ℕ) (k : Binary) (x y : Block)
     → puts o at 0 (emit (join k x y) at)
     ≡ put (puts (puts o at 0 (emit x at)) (at + size x) 0 (emit y (at + size x))) (at + size x + size y)
     (node (kindNo (binary k)) 0 (root x at) (root y (at + size x)))
@@ -39,19 +40,19 @@ unfolding emit
 puts-join o at k x y =
     puts-then o at (emit x at) _ ∙ rw (emit-length x at) (puts-one (puts o at 0 (emit x at)) (at + size x) (emit y (at + size x)) _ ∙ rw (emit-length y (at + size x)) refl)
 
--- a block's last node is its root
-pub root-last : (B : Block) (b : ℕ) → 0 < size B → root B b + 1 ≡ b + size B
-unfolding size root
-root-last (old i) b h = absurd (omega arith)
-root-last (end k p) b h = refl
-root-last (on k p x) b h = omega arith
-root-last (join k x y) b h = omega arith
+-- a block with a node makes it last
+sized-makes : (B : Block) → 0 < size B → makes B ≡ true
+unfolding size makes
+sized-makes (old i) h = absurd (omega arith)
+sized-makes (end k p) h = refl
+sized-makes (on k p x) h = refl
+sized-makes (join k x y) h = refl
 
 -- ---- the conditions
 
 -- n nil & <E> !
-abbrev isNil : ℕ → Block
-isNil n = no! (⟨ everyWay ⟩ (nm n & nm 0))
+abbrev notNil : ℕ → Block
+notNil n = no! (⟨ everyWay ⟩ (nm n & nm 0))
 
 -- n y <m> & <E>
 abbrev reaches : ℕ → ℕ → Block → Block
@@ -67,7 +68,7 @@ pub neither-put : (o : List ℕ) (at n1 n2 : ℕ) {o₁ o₂ o₃ : List ℕ} �
 unfolding emit root size kindNo
 neither-put o at n1 n2 e₁ e₂ e₃ =
     let h : at + 10 ≡ at + 5 + 5 = omega arith in let g : at + 9 ≡ at + 5 + 4 = omega arith in
-    rw (e₃, e₂, e₁, h, g) (sym (puts-join o at kAnd (isNil n1) (isNil n2)))
+    rw (e₃, e₂, e₁, h, g) (sym (puts-join o at kAnd (notNil n1) (notNil n2)))
 
 pub free-put : (o : List ℕ) (at m n1 n2 : ℕ) {o₁ o₂ o₃ o₄ : List ℕ} → o₁ ≡ puts o at 0 (reachesNodes at n1 m trueNo 0)
     → o₂ ≡ put o₁ (at + 5) (node notNo 0 (at + 4) 0) → o₃ ≡ puts o₂ (at + 6) 0 (reachesNodes (at + 6) n1 m nameNo n2)
@@ -136,27 +137,27 @@ closing-put : (o : List ℕ) (n : ℕ) (c : Option Block) {o₁ o₂ : List ℕ}
 unfolding ownSize ownNodes closing emit size root kindNo puts
 closing-put o n none h e₁ e₂ = absurd (omega arith)
 closing-put o n (some B) h e₁ e₂ =
-    let z : n + 0 ≡ n = omega arith in let r : n + size B - 1 ≡ root B n = omega (arith, root-last B n h) in
+    let z : n + 0 ≡ n = omega arith in let r : n + size B - 1 ≡ root B n = omega (arith, root-last B (sized-makes B h) n) in
     rw (e₂, e₁, r) (sym (puts-join o n kAnd (old (n - 1)) B ∙ rw z refl))
 
 module _ (e : Edit) (n : ℕ) {s : ℕ} (es : s ≡ ownSize (own e)) where
-  pub behind-none : (o : List ℕ) → s ≡ 0 → PutBehind (closing n (own e)) n o o n
+  pub put-none : (o : List ℕ) → s ≡ 0 → PutBehind (closing n (own e)) n o o n
   unfolding puts
-  behind-none o h = rw (own-none e n (sym es ∙ h)) (record { fits = λ _. (omega arith, refl); long = λ g. omega arith })
+  put-none o h = rw (own-none e n (sym es ∙ h)) (record { fits = λ _. (omega arith, refl); long = λ g. omega arith })
 
-  pub behind-full : (o : List ℕ) → tableNodes < n → PutBehind (closing n (own e)) n o o n
-  behind-full o h = record { fits = λ g. absurd (omega arith); long = λ _. h }
+  pub put-full : (o : List ℕ) → tableNodes < n → PutBehind (closing n (own e)) n o o n
+  put-full o h = record { fits = λ g. absurd (omega arith); long = λ _. h }
 
   module _ (some : 0 < s) where
     counts : n + length (closing n (own e)) ≡ n + s + 1
     counts = omega (arith, closing-length n (own e) (omega arith))
 
-    pub behind-long : (o : List ℕ) → tableNodes < n + s + 1 → PutBehind (closing n (own e)) n o o (n + s + 1)
-    behind-long o h = record { fits = λ g. absurd (omega (arith, counts)); long = λ _. h }
+    pub put-long : (o : List ℕ) → tableNodes < n + s + 1 → PutBehind (closing n (own e)) n o o (n + s + 1)
+    put-long o h = record { fits = λ g. absurd (omega (arith, counts)); long = λ _. h }
 
-    pub behind-put : (o : List ℕ) {o₁ o₂ : List ℕ} → n + s + 1 ≤ tableNodes → o₁ ≡ puts o n 0 (ownNodes n (own e))
+    pub put-closed : (o : List ℕ) {o₁ o₂ : List ℕ} → n + s + 1 ≤ tableNodes → o₁ ≡ puts o n 0 (ownNodes n (own e))
         → o₂ ≡ put o₁ (n + s) (node andNo 0 (n - 1) (n + s - 1)) → PutBehind (closing n (own e)) n o o₂ (n + s + 1)
-    behind-put o h e₁ e₂ = record {
+    put-closed o h e₁ e₂ = record {
       fits = λ _. (sym counts, closing-put o n (own e) (omega arith) e₁ (rw (← es) e₂));
       long = λ g. absurd (omega (arith, counts));
     }

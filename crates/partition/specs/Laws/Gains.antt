@@ -8,6 +8,7 @@ use native.Mathlib.Omega.{arith}
 use lib.ListN.{length, getD, replicate}
 use Rattle.finite.specs.Tests.{same, any}
 use Rattle.finite.specs.Laws.Weights.{bit-zero}
+use Rattle.finite.specs.Laws.Zeros.{zeros-at}
 use Rattle.bitset.specs.Set.{has, inserted}
 use Rattle.bitset.specs.Laws.Slot.{has-inserted, length-inserted}
 use Rattle.partition.specs.Gains.{Gains}
@@ -50,11 +51,6 @@ pub gains-done : (f : ℕ → ℕ → Bool) {b a : List ℕ} (n i : ℕ) → Gai
 gains-done f n i h l m = rw (let e : n ≡ i = omega arith in e) h
 
 -- bytes that start as zeros have the bits that they gain
-pub zeros-at : (n k : ℕ) → getD {A = ℕ} (replicate n 0) k 0 ≡ 0
-zeros-at zero k = refl
-zeros-at (suc n) zero = refl
-zeros-at (suc n) (suc k) = zeros-at n k
-
 zeros-none : (n y : ℕ) → has (replicate n 0) y ≡ false
 unfolding has
 zeros-none n y = rw (zeros-at n (y / 8)) (bit-zero (y % 8))

@@ -1,5 +1,4 @@
 -- The table is rewritten, and with `own` a condition is put behind it.
-use mathlib.Core.Path.{_∙_, sym}
 use native.Mathlib.Omega.{arith}
 use Rattle.semantics.specs.Laws.Rewrite.{table-some}
 use Rattle.condition.specs.Laws.Bytes.{length-nodes}

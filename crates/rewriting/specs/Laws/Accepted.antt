@@ -34,8 +34,8 @@ module _ (ys : List Node) (zs o : List ℕ) (n : ℕ) (e : n ≡ length ys) (f :
   taken-table = ap tableOf taken ∙ table-back ys
 
 -- the condition for going through
-pub through-accepted : (es : List Edit) → sheetLegal es ≡ true → length (through es) ≤ tableNodes → conditionVerdict (bytesOf (through es)) ≡ Accepted
-through-accepted es l h = bytes-accepted (through es) (through-some es l) h (through-fits es l) (through-even es l) (through-closed es l)
+pub through-bytes-accepted : (es : List Edit) → sheetLegal es ≡ true → length (through es) ≤ tableNodes → conditionVerdict (bytesOf (through es)) ≡ Accepted
+through-bytes-accepted es l h = bytes-accepted (through es) (through-some es l) h (through-fits es l) (through-even es l) (through-closed es l)
 
 -- a rewritten table
 module _ (es : List Edit) (l : sheetLegal es ≡ true) (table : List ℕ) (a : conditionVerdict table ≡ Accepted)

@@ -7,6 +7,7 @@ use lib.ListN.{length, getD, take, drop, replicate, length-drop, take-append-dro
 use lib.Seq.{length-take-le, take-at, take-length, getD-append-add, getD-drop}
 use Rattle.finite.specs.Tests.{all, below}
 use Rattle.finite.specs.Bytes.{Bytes}
+use Rattle.finite.specs.Laws.Zeros.{zeros-at}
 use Rattle.finite.specs.Laws.Bools.{either, look}
 use Rattle.finite.specs.Laws.Below.{below-out, not-below}
 use Rattle.semantics.specs.Table.{Node}
@@ -66,10 +67,5 @@ bytes-copied t d o e T D i =
     (sym (ap₂ (λ (l : List ℕ) (m : ℕ). getD l m 0) o₂ z ∙ getD-append-add t (drop (length t) d) (i - length t) 0 ∙ getD-drop (length t) d (i - length t) 0))
     (D (length t + (i - length t))))
 
-pub zeros : (n j : ℕ) → _≡_ {A = ℕ} (getD (replicate n 0) j 0) 0
-zeros zero j = refl
-zeros (suc n) zero = refl
-zeros (suc n) (suc j) = zeros n j
-
 pub bytes-zero : {s : List ℕ} (n : ℕ) → s ≡ replicate n 0 → Bytes s
-bytes-zero {s} n e i = omega (arith, ap (λ (l : List ℕ). getD l i 0) e, zeros n i)
+bytes-zero {s} n e i = omega (arith, ap (λ (l : List ℕ). getD l i 0) e, zeros-at n i)

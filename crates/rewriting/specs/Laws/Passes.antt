@@ -8,6 +8,7 @@ use native.Mathlib.Nat.{not-suc-le-zero}
 use lib.ListN.{length, getD, take, drop, replicate, length-append, List·getD-append, drop-of-length-le}
 use lib.Seq.{length-take-le, take-at, getD-take, getD-append-add, ext-getD}
 use Rattle.finite.specs.Tests.{below, all}
+use Rattle.finite.specs.Laws.Zeros.{zeros-at}
 use Rattle.finite.specs.Laws.Bools.{either, look, clash, and-l, and-r, or-none}
 use Rattle.finite.specs.Laws.Below.{below-in, below-out, below-not, not-below}
 use Rattle.verdict.specs.declared.Verdict.{Verdict}
@@ -18,7 +19,7 @@ use Rattle.semantics.specs.Block.{emit, rewriteTable, Pass, passed}
 use Rattle.semantics.specs.Laws.Rewrite.{table-some, table-fits}
 use Rattle.through.specs.Through.{own, closing, behind, throughEdit, oneTrue}
 use Rattle.through.specs.Laws.Through.{none-tells, edit-fits}
-use Rattle.condition.specs.Bytes.{nodeAt, nodes, tableOf, bytesOf}
+use Rattle.condition.specs.Bytes.{nodeAt, nodes, bytesOf}
 use Rattle.condition.specs.Laws.Bytes.{length-nodes, length-bytes}
 use Rattle.sheet.specs.Bytes.{editAt, editsOf}
 use Rattle.sheet.specs.Laws.Read.{edits-length, edits-at, edits-drop}
@@ -29,9 +30,9 @@ use Rattle.emitting.specs.Laws.Puts.{puts-low, puts-in, bytes-append}
 use Rattle.own_conditions.specs.Behind.{PutBehind}
 use Rattle.rewriting.specs.Refusal.{tooLong, lengthVerdict}
 use Rattle.rewriting.specs.Rewriting.{TableAfter}
-use Rattle.rewriting.specs.State.{passOf, Made, Passed, Finished, Rewrote}
+use Rattle.rewriting.specs.State.{passOf, TableMade, Passed, Finished, Rewrote}
 use Rattle.rewriting.specs.Laws.Grow.{through-grows}
-use Rattle.rewriting.specs.Laws.Buffers.{zeros, read-table, take-table, copied}
+use Rattle.rewriting.specs.Laws.Buffers.{read-table, take-table}
 
 -- each edit of a legal sheet is legal
 legal-in : (es : List Edit) (j : ℕ) → sheetLegal es ≡ true → j < length es → legal (getD es j (DS 0)) ≡ true
@@ -55,7 +56,7 @@ short-drop pass (e ∷ es) xs (suc k) h = short-drop pass es xs k (or-none (tooL
 -- ---- one pass
 
 -- a table that is made has as many nodes as r counts, or both are too many
-module _ {xs : List Node} {o : List ℕ} {r : ℕ} (m : Made xs o r) where
+module _ {xs : List Node} {o : List ℕ} {r : ℕ} (m : TableMade xs o r) where
   made-short : r ≤ tableNodes → (r ≡ length xs) × (take (6 * length xs) o ≡ bytesOf xs)
   made-short h =
       either
@@ -71,7 +72,7 @@ module _ {xs : List Node} {o : List ℕ} {r : ℕ} (m : Made xs o r) where
       (λ q. let l = not-below tableNodes (length xs) q in absurd (omega (arith, m .right l .0)))
 
 -- a table that is rewritten
-pub made-table : {o : List ℕ} {r : ℕ} (ys : List Node) → r ≡ length ys → TableWritten o ys → length o ≡ tableBytes → Made ys o r
+pub made-table : {o : List ℕ} {r : ℕ} (ys : List Node) → r ≡ length ys → TableWritten o ys → length o ≡ tableBytes → TableMade ys o r
 unfolding TableWritten
 made-table ys e w l = record { right = λ h. (e, w (omega arith)); long = λ h. omega arith }
 
@@ -101,7 +102,7 @@ written-behind xs zs o e room =
 
 -- a table that is rewritten, with an edit's own condition behind it
 pub made-behind : (e : Edit) (xs : List Node) {o o′ : List ℕ} {n r : ℕ} → n ≡ length (rewriteTable e xs) → TableWritten o (rewriteTable e xs)
-    → length o ≡ tableBytes → PutBehind (closing n (own e)) n o o′ r → Made (throughEdit e xs) o′ r
+    → length o ≡ tableBytes → PutBehind (closing n (own e)) n o o′ r → TableMade (throughEdit e xs) o′ r
 unfolding TableWritten throughEdit behind
 made-behind e xs {o} {n = n} en w l p =
     let ys = rewriteTable e xs in let zs = closing (length ys) (own e) in let all = length-append ys zs in let q = rw en at p in
@@ -173,7 +174,7 @@ module _ {pass : Pass} {sheet : List ℕ} {xs : List Node} {o : List ℕ} {count
   unfolding tooLong
   next-long = rw (edits-drop sheet k in-sheet) (rw (rw d at (P .short)) refl)
 
-  pub passing-more : Keeps pass → (spare : List ℕ) {made : ℕ} {o′ : List ℕ} → Made (pass e (nodes o count)) spare made → made ≤ tableNodes
+  pub passing-more : Keeps pass → (spare : List ℕ) {made : ℕ} {o′ : List ℕ} → TableMade (pass e (nodes o count)) spare made → made ≤ tableNodes
       → length spare ≡ tableBytes → o′ ≡ take (6 * made) spare ++ drop (6 * made) o → legal e ≡ true → Passing pass sheet xs o′ made k
   passing-more keeps spare {made} {o′} m f l eo lg =
       let w = made-short m f in
@@ -190,7 +191,7 @@ module _ {pass : Pass} {sheet : List ℕ} {xs : List Node} {o : List ℕ} {count
         fits = rw (← next-table) (kept .1);
       }
 
-  pub passing-long : {made : ℕ} (o′ : List ℕ) {s : List ℕ} → Made (pass e (nodes o count)) s made → tableNodes < made
+  pub passing-long : {made : ℕ} (o′ : List ℕ) {s : List ℕ} → TableMade (pass e (nodes o count)) s made → tableNodes < made
       → Passed pass (editsOf sheet) xs o′ made
   passing-long {made} o′ m h =
       let lt : tableNodes < length next = omega (arith, made-long m h, ap length next-table) in
@@ -253,7 +254,7 @@ rewrote-as {pass} {es} {result = result} {result′} {v} {n} e R = subst (λ (zs
 -- six zeros are the one node true
 pub true-node : {s : List ℕ} (n : ℕ) → s ≡ replicate n 0 → nodes s 1 ≡ oneTrue
 unfolding nodes nodeAt emit kindNo
-true-node n e = simp (e, zeros n)
+true-node n e = simp (e, zeros-at n)
 
 pub true-fits : nodesFit 0 oneTrue ≡ true
 true-fits = none-tells .fits

@@ -4,7 +4,7 @@ use mathlib.Core.Logic.{_⊎_, inl, inr, _↔_, Iff·trans}
 use mathlib.Core.Option.{Option, none, some}
 use mathlib.Core.List.{List}
 use mathlib.Core.Bool.{Bool, true, false, _&&_, _||_}
-use Prim.Native.Nat.{ℕ, _<_}
+use Prim.Native.Nat.{ℕ, suc, _<_}
 use native.Mathlib.Omega.{arith}
 use Rattle.finite.specs.Tests.{same, below}
 use Rattle.finite.specs.Laws.Bools.{either, look, clash, and-in, and-l, or-l, or-r, or-out}
@@ -80,7 +80,7 @@ unfoldable pub Right : Edit → Option Block → Type 0
 Right e none = (M : Model) → goes e M ≡ true
 Right e (some B) = Condition e B
 
-E-fits : below everyWay 17 ≡ true
+E-fits : below everyWay (suc everyWay) ≡ true
 unfolding below
 E-fits = refl
 
@@ -89,10 +89,10 @@ unfolding below
 nil-fits = refl
 
 -- x y & <E>, and its negation
-somewhere-fits : {a b : Bool} → a ≡ true → b ≡ true → (below everyWay 17 && (a && b)) ≡ true
+somewhere-fits : {a b : Bool} → a ≡ true → b ≡ true → (below everyWay (suc everyWay) && (a && b)) ≡ true
 somewhere-fits f g = and-in E-fits (and-in f g)
 
-nowhere-fits : {a b : Bool} → a ≡ true → b ≡ true → (same 0 0 && (below everyWay 17 && (a && b))) ≡ true
+nowhere-fits : {a b : Bool} → a ≡ true → b ≡ true → (same 0 0 && (below everyWay (suc everyWay) && (a && b))) ≡ true
 nowhere-fits f g = and-in (same-refl 0) (somewhere-fits f g)
 
 -- AT's condition, by whether the link is functional
@@ -115,7 +115,7 @@ module _ (m n1 n2 : ℕ) (l1 : below n1 names ≡ true) (l2 : below n2 names ≡
   unfolding blockFits unaryFits leafFits fill atom one two occ even evenBlock goes Holds
   functional-right f =
       let small = functional-small m f in
-      let way = below-in m 17 (omega arith) in
+      let way = below-in m (suc everyWay) (omega arith) in
       record {
         fits = λ n. and-in (neither-fits n) (and-in (nowhere-fits l1 (and-in way (same-refl 0))) (somewhere-fits l1 (and-in way l2)));
         evens = λ ts. refl;

@@ -4,20 +4,19 @@ use mathlib.Core.Logic.{_↔_, Iff·trans, Iff·symm}
 use mathlib.Core.Option.{Option, none, some}
 use mathlib.Core.List.{List, [], _∷_}
 use mathlib.Core.Bool.{Bool, true, false, _||_}
-use Prim.Native.Nat.{ℕ, zero, suc, _-_, _≤_, _<_}
+use Prim.Native.Nat.{ℕ, _<_}
 use native.Mathlib.Omega.{arith}
-use lib.ListN.{length, drop}
+use lib.ListN.{length}
 use Rattle.finite.specs.Tests.{same, below, all}
-use Rattle.finite.specs.Laws.Bools.{clash, and-in, and-l, and-r, or-none, both}
-use Rattle.finite.specs.Laws.Below.{below-not, not-below, all-in}
+use Rattle.finite.specs.Laws.Bools.{clash, and-in, and-l, and-r}
+use Rattle.finite.specs.Laws.Below.{all-in}
 use Rattle.limits.specs.Limits.{slots, variables}
 use Rattle.semantics.specs.Form.{occ, free, closed, even}
 use Rattle.semantics.specs.Holds.{Env, Model, Holds}
 use Rattle.semantics.specs.Edit.{Edit, edit, legal, goes, Valid, sheetLegal, sheetGoes}
-use Rattle.semantics.specs.Table.{kTrue, kindNo, kindOf, Node, atom, build, tree, trees, treeAt, formOf, leafFits, kindFits, nodeFits, nodesFit, evenTable}
+use Rattle.semantics.specs.Table.{kindNo, kindOf, Node, atom, build, tree, trees, treeAt, formOf, leafFits, kindFits, nodeFits, nodesFit, evenTable}
 use Rattle.semantics.specs.Block.{Block, emit, passed, rewriteTable}
 use Rattle.semantics.specs.Laws.Edits.{goes-out, edit-valid}
-use Rattle.semantics.specs.Laws.Eval.{eval, eval-table}
 use Rattle.semantics.specs.Laws.Rewrite.{table-fits, table-some, table-evens, table-image}
 use Rattle.through.specs.Through.{own, behind, throughEdit, oneTrue, through}
 use Rattle.through.specs.Laws.Own.{Right, own-right}
@@ -92,11 +91,11 @@ module _ (e : Edit) (es : List Edit) (l : legal e ≡ true) (xs : List Node) (r 
     );
   }
 
-  pub step-tells : Tells (e ∷ es) (throughEdit e xs)
+  step-tells : Tells (e ∷ es) (throughEdit e xs)
   unfolding throughEdit
   step-tells = put-tells (own e) (own-right e l)
 
-pub through-tells : (es : List Edit) → sheetLegal es ≡ true → Tells es (through es)
+through-tells : (es : List Edit) → sheetLegal es ≡ true → Tells es (through es)
 unfolding passed sheetLegal
 through-tells [] l = none-tells
 through-tells (e ∷ es) l = step-tells e es (and-l _ _ l) (through es) (through-tells es (and-r (legal e) _ l))
@@ -131,11 +130,3 @@ module _ (es : List Edit) (l : sheetLegal es ≡ true) where
   through-closed =
       let n = through-tells es l .no-variable in
       all-in variables _ (λ v _. rw (n true v, n false v))
-
-  -- the set computed, whose size is 256 or 0
-  pub through-set : (M : Model) → Valid M → (ρ : Env) (s : ℕ) → s < slots → eval M ρ (formOf (through es)) s ≡ sheetGoes es M
-  unfolding formOf
-  through-set M v ρ s k =
-      let set = eval-table (through es) through-fits through-even (length (through es) - 1) (omega (arith, through-some)) M ρ s k in
-      let says = through-says es l M v ρ s k in
-      both (λ p. says .0 (set .0 p)) (λ p. set .1 (says .1 p))
