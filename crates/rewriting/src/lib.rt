@@ -18,7 +18,7 @@ ghost use Rattle.semantics.specs.Block.{rewriteTable};
 ghost use Rattle.through.specs.Through.{throughEdit, oneTrue};
 ghost use Rattle.condition.specs.Bytes.{nodes, tableOf};
 ghost use Rattle.sheet.specs.Bytes.{editOf, editsOf};
-ghost use Rattle.limits.specs.Limits.{tableNodes, tableBytes};
+ghost use Rattle.limits.specs.Limits.{tableNodes, nodeSize, tableBytes};
 ghost use Rattle.rewriting.specs.State.{passOf, TableMade, Passed, Finished, Rewrote};
 ghost use Rattle.rewriting.specs.Answer.{verdictOf, nodesOf};
 
@@ -126,23 +126,20 @@ fn no_rows() -> [u8; TABLE_NODES]
     [0; TABLE_NODES]
 }
 
-// The passes of a sheet over the first n nodes of a table, whose place is worked in, and the answer.
-fn rewrite_from(
-    work: &mut [u8; TABLE_BYTES],
-    n: usize,
-    sheet: &[u8],
-    own: bool,
-    result: &mut [u8],
-) -> Rewriting
-    requires { ⌜ (n ≤ tableNodes) × (0 < n) × Bytes (now work) × (length (now work) ≡ tableBytes) × (length (now result) ≡ tableBytes) ⌝ }
-    requires { ⌜ (nodesFit 0 (nodes (now work) n) ≡ true) × (sheetLegal (editsOf (now sheet)) ≡ true) ⌝ }
-    ensures { λ r. ⌜ Rewrote (passOf own) (editsOf (now (sheet .entry))) (nodes (now (work .entry)) n) (now (result .entry)) (now (result .exit)) (verdictOf r) (nodesOf r) ⌝ }
+// The passes of a sheet over a table, and the answer.
+fn rewrite_from(table: &[u8], sheet: &[u8], own: bool, result: &mut [u8]) -> Rewriting
+    requires { ⌜ (6 ≤ length (now table)) × (length (now table) ≤ tableBytes) × (length (now result) ≡ tableBytes) ⌝ }
+    requires { ⌜ (nodesFit 0 (tableOf (now table)) ≡ true) × (sheetLegal (editsOf (now sheet)) ≡ true) ⌝ }
+    ensures { λ r. ⌜ Rewrote (passOf own) (editsOf (now (sheet .entry))) (tableOf (now (table .entry))) (now (result .entry)) (now (result .exit)) (verdictOf r) (nodesOf r) ⌝ }
 {
+    let mut work = no_table();
     let mut spare = no_table();
     let mut images = no_images();
     let mut rows = no_rows();
-    let made = passes(sheet, n, own, work, &mut spare, &mut images, &mut rows);
-    finish(result, work, made)
+    copy(&mut work, table, table.len());
+    let n = table.len() / NODE_BYTES;
+    let made = passes(sheet, n, own, &mut work, &mut spare, &mut images, &mut rows);
+    finish(result, &work, made)
 }
 
 // A table rewritten for a sheet: its bytes and then zeros in result, and zeros alone where item 14 is met.
@@ -151,19 +148,23 @@ pub fn rewrite_sheet(table: &[u8], sheet: &[u8], result: &mut [u8]) -> Rewriting
     requires { ⌜ (nodesFit 0 (tableOf (now table)) ≡ true) × (sheetLegal (editsOf (now sheet)) ≡ true) ⌝ }
     ensures { λ r. ⌜ Rewrote rewriteTable (editsOf (now (sheet .entry))) (tableOf (now (table .entry))) (now (result .entry)) (now (result .exit)) (verdictOf r) (nodesOf r) ⌝ }
 {
-    let mut work = no_table();
-    copy(&mut work, table, table.len());
-    rewrite_from(&mut work, table.len() / NODE_BYTES, sheet, false, result)
+    rewrite_from(table, sheet, false, result)
 }
 
-// The condition for going through: its bytes and then zeros in result, and zeros alone where item 14 is met. The one node true, which it starts
-// as, is six zeros.
+// The one node true.
+fn one_true() -> [u8; NODE_BYTES]
+    ensures { λ r. ⌜ r ≡ replicate nodeSize 0 ⌝ }
+{
+    [0; NODE_BYTES]
+}
+
+// The condition for going through: its bytes and then zeros in result, and zeros alone where item 14 is met.
 pub fn through_sheet(sheet: &[u8], result: &mut [u8]) -> Rewriting
     requires { ⌜ (length (now result) ≡ tableBytes) × (sheetLegal (editsOf (now sheet)) ≡ true) ⌝ }
     ensures { λ r. ⌜ Rewrote throughEdit (editsOf (now (sheet .entry))) oneTrue (now (result .entry)) (now (result .exit)) (verdictOf r) (nodesOf r) ⌝ }
 {
-    let mut work = no_table();
-    rewrite_from(&mut work, 1, sheet, true, result)
+    let start = one_true();
+    rewrite_from(&start, sheet, true, result)
 }
 
 pub fn verdict(r: Rewriting) -> Verdict

@@ -8,7 +8,6 @@ use native.Mathlib.Nat.{not-suc-le-zero}
 use lib.ListN.{length, getD, take, drop, replicate, length-append, List·getD-append, drop-of-length-le}
 use lib.Seq.{length-take-le, take-at, getD-take, getD-append-add, ext-getD}
 use Rattle.finite.specs.Tests.{below, all}
-use Rattle.finite.specs.Laws.Zeros.{zeros-at}
 use Rattle.finite.specs.Laws.Bools.{either, look, clash, and-l, and-r, or-none}
 use Rattle.finite.specs.Laws.Below.{below-in, below-out, below-not, not-below}
 use Rattle.verdict.specs.declared.Verdict.{Verdict}
@@ -19,11 +18,11 @@ use Rattle.semantics.specs.Block.{emit, rewriteTable, Pass, passed}
 use Rattle.semantics.specs.Laws.Rewrite.{table-some, table-fits}
 use Rattle.through.specs.Through.{own, closing, behind, throughEdit, oneTrue}
 use Rattle.through.specs.Laws.Through.{none-tells, edit-fits}
-use Rattle.condition.specs.Bytes.{nodeAt, nodes, bytesOf}
+use Rattle.condition.specs.Bytes.{nodeAt, nodes, tableOf, bytesOf}
 use Rattle.condition.specs.Laws.Bytes.{length-nodes, length-bytes}
 use Rattle.sheet.specs.Bytes.{editAt, editsOf}
 use Rattle.sheet.specs.Laws.Read.{edits-length, edits-at, edits-drop}
-use Rattle.limits.specs.Limits.{tableNodes, tableBytes}
+use Rattle.limits.specs.Limits.{tableNodes, nodeSize, tableBytes}
 use Rattle.blocks.specs.Write.{puts, TableWritten}
 use Rattle.blocks.specs.Laws.Write.{length-puts}
 use Rattle.emitting.specs.Laws.Puts.{puts-low, puts-in, bytes-append}
@@ -252,9 +251,9 @@ pub rewrote-as : {pass : Pass} {es : List Edit} {xs ys : List Node} {result resu
 rewrote-as {pass} {es} {result = result} {result′} {v} {n} e R = subst (λ (zs : List Node). Rewrote pass es zs result result′ v n) e R
 
 -- six zeros are the one node true
-pub true-node : {s : List ℕ} (n : ℕ) → s ≡ replicate n 0 → nodes s 1 ≡ oneTrue
-unfolding nodes nodeAt emit kindNo
-true-node n e = simp (e, zeros-at n)
+pub true-table : {s : List ℕ} → s ≡ replicate nodeSize 0 → tableOf s ≡ oneTrue
+unfolding tableOf nodes nodeAt emit kindNo
+true-table e = rw e refl
 
 pub true-fits : nodesFit 0 oneTrue ≡ true
 true-fits = none-tells .fits
