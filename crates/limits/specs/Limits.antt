@@ -11,7 +11,7 @@ abbrev pub labels : ℕ
 labels = 16
 
 abbrev pub names : ℕ
-names = 16
+names = 48
 
 abbrev pub links : ℕ
 links = 8

@@ -3,7 +3,7 @@
 // How many labels, names, links and variables there are.
 pub const LABELS: u8 = 16;
 
-pub const NAMES: u8 = 16;
+pub const NAMES: u8 = 48;
 
 pub const LINKS: u8 = 8;
 
