@@ -8,3 +8,4 @@ pub mod Judged
 pub mod Refused
 pub mod Said
 pub mod Doubled
+pub mod Names

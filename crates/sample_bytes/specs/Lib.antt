@@ -6,5 +6,7 @@ pub mod Refused
 pub mod Said
 -- R through edits that double it
 pub mod Doubled
+-- names 0 to 47
+pub mod Names
 -- what is proved of them
 pub mod Laws

@@ -5,7 +5,7 @@ use Prim.Native.Nat.{ℕ}
 use Rattle.finite.specs.Tests.{same}
 use Rattle.semantics.specs.Table.{Node, node}
 use Rattle.semantics.specs.Edit.{Edit, CN1, CN2, AT, DT2, AS, DS}
-use Rattle.samples.specs.Site.{some, Small, siteA, ring}
+use Rattle.samples.specs.Site.{some, Small, siteA, ring, crowded}
 
 -- a set of slots: these only, or all but these
 pub data Slots : Type 0 where
@@ -73,4 +73,13 @@ rows =
     -- variable 0, not, mu 0: refused, 9, W 2. With two nots: empty
     ∷ row siteA [] (node 4 0 0 0 ∷ node 5 0 0 0 ∷ node 10 0 1 0 ∷ []) (oddAt 2)
     ∷ row siteA [] (node 4 0 0 0 ∷ node 5 0 0 0 ∷ node 5 0 1 0 ∷ node 10 0 2 0 ∷ []) (lists (only []) 0 4)
+    -- with names 8 to 47 at slot 2: J by name 47
+    ∷ row crowded (DT2 4 47 ∷ []) tableR (lists (only (1 ∷ [])) 1 8)
+    -- CN1 47 2 moves name 47 alone
+    ∷ row crowded (CN1 47 2 ∷ []) (tableName 47) (lists (only (3 ∷ [])) 1 1)
+    ∷ row crowded (CN1 47 2 ∷ []) (tableName 46) (lists (only (2 ∷ [])) 1 1)
+    -- AT 5 2 47: diamond 5 name 47 lists {3}
+    ∷ row crowded (AT 5 2 47 ∷ []) (node 3 47 0 0 ∷ node 8 5 0 0 ∷ []) (lists (only (3 ∷ [])) 1 8)
+    -- DS 47: name 8 goes to 0 as well
+    ∷ row crowded (DS 47 ∷ []) (tableName 8) (lists (only (0 ∷ [])) 1 11)
     ∷ []

@@ -1,7 +1,7 @@
 -- Small sites, written out.
 use mathlib.Core.List.{List, [], _∷_}
 use mathlib.Core.Bool.{Bool, true, false, _&&_, _||_, cond}
-use Prim.Native.Nat.{ℕ}
+use Prim.Native.Nat.{ℕ, zero, suc}
 use Rattle.finite.specs.Tests.{same}
 use Rattle.semantics.specs.Holds.{Model}
 
@@ -52,4 +52,18 @@ ring = record {
   labels-on = siteA .labels-on;
   names-at = siteA .names-at;
   links-of = (4, 1, 3) ∷ siteA .links-of;
+}
+
+-- k names from n on, all at slot s
+unfoldable pub namesTogether : (n k s : ℕ) → List (ℕ × ℕ)
+namesTogether n zero s = []
+namesTogether n (suc k) s = (n, s) ∷ namesTogether (suc n) k s
+
+-- site A with names 8 to 47 at slot 2 too, where name 1 is
+unfoldable pub crowded : Small
+crowded = record {
+  slots-here = siteA .slots-here;
+  labels-on = siteA .labels-on;
+  names-at = (1, 2) ∷ (2, 3) ∷ namesTogether 8 40 2;
+  links-of = siteA .links-of;
 }

@@ -40,8 +40,8 @@ use Rattle.classes_entry.specs.Refusal.{classesBytes, classesVerdict}
 use Rattle.classes_entry.specs.Laws.Refusal as classes
 use Rattle.job_run.specs.Buffers.{Buffers}
 use Rattle.job_run.specs.Laws.Refusal.{pieces-in}
-use Rattle.job_entry.specs.Refusal.{buffersVerdict, jobVerdict}
-use Rattle.job_entry.specs.Laws.Refusal.{JobAccepted}
+use Rattle.job_entry.specs.Refusal.{jobVerdict}
+use Rattle.job_entry.specs.Laws.Refusal.{sized-in, JobAccepted}
 use Rattle.desk.specs.Returned.{Returned}
 
 -- ---- a rewritten table fits exactly if it was too long after no edit: it never gets shorter
@@ -90,18 +90,8 @@ unfolding classesVerdict
 classes-accepted classesLen site a = rw (buffer-in (a .classes-size)) (a .site-accepted)
 
 pub job-accepted : (b : Buffers) (file : List ℕ) → JobAccepted b file → jobVerdict b file ≡ Accepted
-unfolding jobVerdict buffersVerdict
-job-accepted b file a =
-    rw (
-      buffer-in (a .sized .changed-size),
-      buffer-in (a .sized .table-size),
-      buffer-in (a .sized .after-size),
-      buffer-in (a .sized .today-size),
-      buffer-in (a .sized .classes-size),
-      buffer-in (a .sized .work-size),
-      a .trailer-accepted,
-    )
-    (pieces-in _ _ _ (a .pieces))
+unfolding jobVerdict
+job-accepted b file a = rw (sized-in b (a .sized), a .trailer-accepted) (pieces-in _ _ _ (a .pieces))
 
 -- ---- the numbers of the items; of rewriting, the condition for going through and the job `rewrite-numbered`, `through-numbered` and `job-numbered` say it
 

@@ -18,7 +18,7 @@ use Rattle.trailer.specs.Pieces.{siteIn, conditionIn, sheetIn}
 use Rattle.listing.specs.Listed.{workBytes}
 use Rattle.refusals.specs.Refusal.{bufferVerdict}
 use Rattle.classes_entry.specs.Refusal.{classesBytes}
-use Rattle.refusals.specs.Laws.Items.{buffer-out, then-out, Numbered, numbered-accepted, numbered-item, numbered-then, numbered-buffer}
+use Rattle.refusals.specs.Laws.Items.{buffer-in, buffer-out, then-out, Numbered, numbered-accepted, numbered-item, numbered-then, numbered-buffer}
 use Rattle.job_run.specs.Buffers.{Buffers, Sized}
 use Rattle.job_run.specs.Refusal.{piecesVerdict}
 use Rattle.job_run.specs.Laws.Refusal.{PiecesAccepted, pieces-out, pieces-numbered}
@@ -63,6 +63,18 @@ sized-out b e =
       classes-size = buffer-out (length (b .classes)) classesBytes (c .0);
       work-size = buffer-out (length (b .work)) workBytes (c .1);
     }
+
+pub sized-in : (b : Buffers) → Sized b → buffersVerdict b ≡ Accepted
+unfolding buffersVerdict
+sized-in b s =
+    rw (
+      buffer-in (s .changed-size),
+      buffer-in (s .table-size),
+      buffer-in (s .after-size),
+      buffer-in (s .today-size),
+      buffer-in (s .classes-size),
+      buffer-in (s .work-size),
+    )
 
 module _ (b : Buffers) (file : List ℕ) where
   -- ---- the chain: items 1 and 2, then 3 to 14
