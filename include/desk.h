@@ -43,7 +43,7 @@ extern "C" {
 
 #define DESK_SLOT_COUNT 256
 #define DESK_LABEL_COUNT 16
-#define DESK_NAME_COUNT 16
+#define DESK_NAME_COUNT 48
 #define DESK_LINK_COUNT 8
 #define DESK_VARIABLE_COUNT 16
 

@@ -13,9 +13,9 @@ import sys
 import lists
 import pieces
 from layout import *
-from pieces import named, sheet
+from pieces import CROWD, HIGH, named, names_joined, place, sheet, turned
 
-SEED = 34352
+SEED = 34384
 
 
 # ---- applying
@@ -291,8 +291,8 @@ def random_edit(rng, site, operations):
     op = rng.choice(operations)
     new = rng.choice([s for s in range(1, SLOTS) if s not in site.present] or [255])
     operands = {
-        pieces.name: lambda: rng.choice((rng.randrange(NAMES), rng.randrange(1, 4))),
-        pieces.moved: lambda: rng.choice((rng.randrange(1, NAMES), rng.randrange(1, 4))),
+        pieces.name: lambda: pieces.some_name(rng, 0),
+        pieces.moved: lambda: pieces.some_name(rng, 1),
         pieces.label: lambda: rng.choice((rng.randrange(LABELS), rng.randrange(1, 4))),
         pieces.link: lambda: rng.choice((rng.randrange(LINKS), rng.choice((0, GENERAL)))),
         pieces.functional: lambda: rng.choice((rng.randrange(GENERAL, LINKS), GENERAL)),
@@ -321,9 +321,12 @@ def random_sheet(rng, d, length, operations=range(OPERATIONS), stray=0.01):
 def every_kind():
     """A condition with every kind of node, each way under a diamond and under a box, names and labels of every number."""
     nodes = [(0, 0, 0, 0), (1, 0, 0, 0), (4, 0, 0, 0), (12, 7, 0, 0), (4, 1, 0, 0), (11, 1, 4, 0)]
+    labels = len(nodes)
+    names = labels + LABELS
     nodes += [(2, p, 0, 0) for p in range(LABELS)] + [(3, n, 0, 0) for n in range(NAMES)]
+    below = [0, 1, 2, 3, *(labels + p for p in (0, 1)), *(names + n for n in (0, 1, 2, 3, NAMES - 1))]
     for way in range(WAYS):
-        nodes += [(8, way, (0, 1, 2, 3, 6, 7, 22, 23, 24, 25)[way % 10], 0), (9, way, len(nodes) - 3, 0)]
+        nodes += [(8, way, below[way % len(below)], 0), (9, way, len(nodes) - 3, 0)]
     nodes += [(5, 0, 1, 0), (7, 0, len(nodes), len(nodes) - 1), (6, 0, 2, len(nodes) + 1), (10, 0, len(nodes) + 2, 0)]
     return pieces.table(*nodes)
 
@@ -370,7 +373,7 @@ def dense_site():
             if (s + p) % 3:
                 pieces.put(site, label_at(p), s)
     pieces.put(site, LABELS_AT, 0)
-    site[NAMES_AT + 3] = 2
+    site[NAMES_AT + 3], site[NAMES_AT + NAMES - 1] = 2, 3
     return site
 
 
@@ -409,6 +412,7 @@ def order():
     yield A, full + pieces.table((6, 0, NODES - 1, NODES - 1)), sheet()
     yield A[:-1], R, sheet(DT2)
     yield labelled, R, sheet(DT2)
+    yield pieces.old_site(A), R, sheet(DT2)
 
 
 def going():
@@ -460,10 +464,91 @@ def long_going():
     yield full + [(8, 3)]
 
 
+# ---- cases with many names
+
+LABELS_JOINED = pieces.joined(6, ((2, p, 0, 0) for p in range(LABELS)))
+
+
+def ways_joined():
+    """By some way a slot has neighbours, and all of them have label 3."""
+    nodes = [(2, 3, 0, 0)]
+    for way in range(EVERYWHERE):
+        nodes += [(8, way, 0, 0), (9, way, 0, 0), (7, 0, len(nodes), len(nodes) + 1)]
+    last = 3
+    for way in range(1, EVERYWHERE):
+        nodes.append((6, 0, last, 3 * way + 3))
+        last = len(nodes) - 1
+    return pieces.table(*nodes)
+
+
+def high_sheets():
+    """Each high name in each operand that is a name, but for DS: on the spread site, with a condition that the edits rewrite. A sheet has as many of
+    the names as the tables have room for."""
+    names, halves = names_joined(6, HIGH), (HIGH[:len(HIGH) // 2], HIGH[len(HIGH) // 2:])
+    yield names, [(0, n, turned(n, 1)) for n in HIGH]
+    yield names, [(1, n, turned(n, 1), GENERAL + turned(n, 1) % FUNCTIONAL) for n in HIGH]
+    yield LABELS_JOINED, [(op, n, (n + more) % LABELS) for op, more in ((2, 1), (3, 0)) for n in HIGH]
+    for more in (1, 1 + GENERAL):
+        yield ways_joined(), [(4, (n + more) % LINKS, n, turned(n, 5)) for n in HIGH]
+    for half in halves:
+        yield ways_joined(), [(5, n % LINKS, n, turned(n, 2)) for n in half]
+    yield ways_joined(), [(6, GENERAL + n % FUNCTIONAL, n) for n in HIGH]
+    for half in halves:
+        yield names, [(7, n, place(n) + 1) for n in half]
+
+
+def deleted(n):
+    """What DS of a high name on the spread site rewrites: here, a label, names, and a way back to the name's place."""
+    back = LINKS + GENERAL + n % FUNCTIONAL
+    leaves = (1, 0, 0, 0), (2, n % LABELS, 0, 0), (3, n, 0, 0), (3, turned(n, 1), 0, 0)
+    return pieces.table(*leaves, (8, back, 2, 0), (9, back, 3, 0), (7, 0, 1, 5), (6, 0, 4, 6), (7, 0, 0, 7), (6, 0, 2, 8))
+
+
+def at_nil(n):
+    """Every operation with a name that is at nil on site A; some do not go through."""
+    yield from ((0, 1, n), (0, n, 1), (1, 1, n, 4), (1, n, 1, 4), (2, n, 0), (3, n, 0), (4, 0, n, 1), (4, 4, 1, n), (5, 4, n, 1), (5, 0, 1, n))
+    yield from ((6, 4, n), (7, n, 4), (8, n))
+
+
+def crowded():
+    """The slot of forty names goes, by each of the names, and each of them is asked for; some leave before; links between names at one place."""
+    low, high = CROWD[0], CROWD[-1]
+    for n in CROWD:
+        yield named(n), [(8, low + high - n)]
+    for kind in (6, 7):
+        yield names_joined(kind, CROWD), [(8, high)]
+    yield names_joined(6, CROWD), [(0, high, 2), (7, low, 4), (1, 20, 1, 4), (8, 30)]
+    yield ways_joined(), [(4, 0, low, high), (4, 5, high, 20), (5, 4, 1, high), (6, 5, low), (2, high, 3)]
+
+
+def many_names():
+    spread, crowd, twins = pieces.spread_site(), pieces.crowded_site(), pieces.twin_site(NAMES - 1)
+    for condition, edits in high_sheets():
+        yield spread, condition, sheet(*edits)
+    for n in HIGH:
+        yield spread, deleted(n), sheet((8, n))
+    yield spread, pieces.table((12, place(NAMES - 1), 0, 0)), sheet(*((8, n) for n in HIGH))
+    for n in (HIGH[0], NAMES - 1):
+        for edit in at_nil(n):
+            yield A, pieces.joined(6, ((2, 0, 0, 0), (3, n, 0, 0), (3, 1, 0, 0), (8, 4, 0, 0))), sheet(edit)
+    for condition, edits in crowded():
+        yield crowd, condition, sheet(*edits)
+    for edits in ([], [(0, NAMES - 1, 1)], [(0, 3, NAMES - 1), (8, 3)], [(6, 4, NAMES - 1)]):
+        yield twins, named(NAMES - 1), sheet(*edits)
+    # a name at an absent slot, a parameter and an operand one too high
+    absent = bytearray(A)
+    absent[NAMES_AT + NAMES - 1] = 4
+    yield absent, R, sheet(DT2)
+    yield A, named(NAMES), sheet(DT2)
+    for op, at in pieces.NAME_OPERANDS:
+        yield A, R, sheet(DT2, pieces.with_operand(op, at, NAMES))
+
+
 def cases(rng):
     yield from by_hand()
     for edits in (*going(), *long_going()):
         yield A, named(1), sheet(*edits)
+    yield from many_names()
     site, condition = dense_site(), every_kind()
     for edit in every_edit():
         yield site, condition, sheet(edit)

@@ -15,7 +15,7 @@ import changes
 import lists
 import pieces
 from layout import *
-from pieces import named, sheet
+from pieces import CROWD, HIGH, named, names_joined, sheet, turned
 
 SEED = 65536
 
@@ -152,6 +152,10 @@ def files():
     yield with_trailer(J, 35, 34, end)
     yield with_trailer(J, 4, end, 34)
     yield with_trailer(J, 4, end + 1, end)
+    # the distances of J, and those that it has where a site has 16 names; there the site is too short
+    yield with_trailer(J, 4, 34, 34418)
+    yield with_trailer(J, 4, 34, 34386)
+    yield with_trailer(job(pieces.old_site(A), R, DT2), 4, 34, 34386)
     yield with_trailer(J, 4, 34, end - 1)
     yield with_trailer(J, 4, 34, end + 1)
     yield with_trailer(J, 4, 34, 0)
@@ -185,7 +189,8 @@ def refusals():
     yield A + b"\0", R, DT2
     yield with_bytes(A, (0, 14)), R, DT2
     yield with_bytes(A, (NAMES_AT, 1)), R, DT2
-    yield with_bytes(A, (NAMES_AT + 5, 9)), R, DT2
+    for n in (5, *HIGH):
+        yield with_bytes(A, (NAMES_AT + n, 9)), R, DT2
     yield with_bytes(A, (LABELS_AT + 1, 1)), R, DT2
     yield with_bytes(A, (target_at(4, 1), 9)), R, DT2
     yield with_bytes(A, (row_at(0, 1), 1)), R, DT2
@@ -194,6 +199,8 @@ def refusals():
     yield A, R[:-4] + pieces.table((13, 0, 0, 0))[:4], DT2
     yield A, R + pieces.table((13, 0, 0, 0), (14, 0, 0, 0)), DT2
     yield A, R + pieces.table((5, 0, 5, 0)), DT2
+    for kind in (2, 3, 4, 10, 11):
+        yield A, R + pieces.table((kind, pieces.PARAMS[kind], 4 if kind in pieces.UNARY else 0, 0)), DT2
     yield A, pieces.table((0, 0, 0, 0)) * 300 + pieces.table((6, 0, 299, 300)), DT2
     yield A, ODD, DT2
     yield A, R + pieces.table((0, 0, 0, 0)) * 300 + pieces.table((4, 1, 0, 0), (5, 0, 305, 0), (11, 1, 306, 0), (10, 1, 306, 0)), DT2
@@ -207,6 +214,10 @@ def refusals():
     yield A, R, DT2 * (EDITS - 1) + sheet((6, 3, 1))
     yield A, R, DT2 + sheet((7, 0, 9), (7, 0, 9))
     yield A, R, sheet((0, 1, 2, 1))
+    for op, at in pieces.NAME_OPERANDS:
+        yield A, R, DT2 + sheet(pieces.with_operand(op, at, NAMES))
+    for op in (2, 3):
+        yield A, R, sheet((op, HIGH[0], LABELS))
     yield A, R, sheet((8, 0))
     yield A, R, sheet((8, 1), (8, 1))
     yield A, R, sheet((7, 1, 9), (7, 1, 9), (8, 0))
@@ -268,10 +279,50 @@ def classing():
     yield rings, R, sheet((7, 3, 255), (8, 2), (5, 6, 1, 1))
 
 
+def equals(*named):
+    """Slots 1 to 60 are alike but for names: each of these is at the slot of its number."""
+    site = bytearray(SITE_BYTES)
+    for s in range(61):
+        pieces.put(site, 0, s)
+    for n in named:
+        site[NAMES_AT + n] = n
+    return site
+
+
+def many_names():
+    """Every high name in every operand; classes that one name makes, or several; and the slot of forty names goes."""
+    spread, crowd, last = pieces.spread_site(), pieces.crowded_site(), NAMES - 1
+    for condition, edits in changes.high_sheets():
+        yield spread, condition, sheet(*edits)
+    yield spread, named(last), sheet(*((8, n) for n in HIGH[:4]))
+    for kind in (6, 7):
+        yield crowd, names_joined(kind, CROWD), sheet((8, last))
+    for names in (), (last,):
+        yield pieces.twin_site(*names), named(last), sheet()
+    # only the name of their target tells slots 6 and 7 apart; then the name goes to nil, or to the twin
+    twins = with_bytes(pieces.twin_site(last), (0, 255), (target_at(5, 6), 4), (target_at(5, 7), 5))
+    for edits in (), [(0, last, 0)], [(1, last, last, 4)], [(0, 3, last), (8, 3)]:
+        yield twins, named(last), sheet(*edits)
+    yield equals(), named(last), sheet()
+    yield equals(*HIGH), named(last), sheet()
+    yield equals(*HIGH), named(last), sheet((0, 20, last), (0, 30, 0), (7, last, 200), (8, 40))
+
+
+def largest():
+    """The longest job that is not refused: as many nodes as a table has, before and after, and as many edits as a sheet has."""
+    nodes = [(3, n, 0, 0) for n in HIGH]
+    nodes += [(6, 0, i, (7 * i) % len(HIGH)) for i in range(len(HIGH) - 1, NODES - 1)]
+    edits = [(0, n, turned(n, 1)) for n in HIGH] + [(4, n % GENERAL, n, turned(n, 3)) for n in HIGH[:16]] + [(2, n, n % 7) for n in HIGH[16:]]
+    file = job(pieces.spread_site(), pieces.table(*nodes), sheet(*edits))
+    assert len(file) == 46940, len(file)
+    return file
+
+
 def cases(rng):
     yield J
+    yield largest()
     yield from files()
-    for make in (by_hand, refusals, collisions, classing):
+    for make in (by_hand, refusals, collisions, classing, many_names):
         for three in make():
             yield job(*three)
     for _ in range(60):

@@ -1,7 +1,7 @@
 """The numbers of docs/SPEC.md: how many of each thing there are, and where the parts of a site stand."""
 SLOTS = 256
 LABELS = 16
-NAMES = 16
+NAMES = 48
 VARIABLES = 16
 GENERAL = 4  # links 0 to 3, with a set of targets for each slot
 FUNCTIONAL = 4  # links 4 to 7, with one target for each slot

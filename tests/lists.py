@@ -10,7 +10,7 @@ import sys
 
 import pieces
 from layout import *
-from pieces import nodes_of
+from pieces import named, names_joined, nodes_of
 
 ALL = frozenset(range(SLOTS))
 SEED = 256
@@ -122,8 +122,7 @@ def random_site(rng, links):
     slots = sorted(rng.sample(range(1, SLOTS), rng.randrange(2, 40)))
     for s in [0] + slots:
         pieces.put(d, 0, s)
-    for n in range(1, NAMES):
-        d[NAMES_AT + n] = rng.choice([0] + slots)
+    pieces.put_names(rng, d, slots)
     for _ in range(rng.randrange(30)):
         pieces.put(d, label_at(rng.randrange(LABELS)), rng.choice([0] + slots))
     for _ in range(links):
@@ -135,8 +134,7 @@ def random_site(rng, links):
 def random_condition(rng):
     """A closed table with loops, mostly under the even rule: loops close their variables at the end."""
     while True:
-        kind = rng.choice((2, 3))
-        nodes = [(4, 0, 0, 0), (4, 1, 0, 0), (4, 2, 0, 0), (kind, rng.randrange(pieces.PARAMS[kind]), 0, 0)]
+        nodes = [(4, 0, 0, 0), (4, 1, 0, 0), (4, 2, 0, 0), (2, rng.randrange(LABELS), 0, 0), (3, pieces.some_name(rng, 0), 0, 0)]
         nodes += [(12, rng.randrange(SLOTS), 0, 0), (1, 0, 0, 0)]
         for i in range(len(nodes), len(nodes) + rng.randrange(3, 25)):
             kind = rng.choice((5, 6, 6, 7, 8, 8, 8, 9, 9, 10, 11, 10, 11))
@@ -182,9 +180,36 @@ def by_hand():
     yield a, t((4, 0, 0, 0))
 
 
+def by_name():
+    """Names at places of their own, at nil, forty at one place, and one that alone tells two slots apart."""
+    a, spread, crowd, twins = pieces.site_a(), pieces.spread_site(), pieces.crowded_site(), pieces.twin_site(NAMES - 1)
+    for n in pieces.HIGH:
+        yield spread, named(n)
+        yield a, named(n)
+    yield spread, names_joined(6, range(NAMES))
+    yield spread, names_joined(7, (NAMES - 2, NAMES - 1))
+    yield crowd, names_joined(7, pieces.CROWD)
+    yield crowd, names_joined(7, range(7, NAMES))
+    yield crowd, names_joined(6, range(NAMES))
+    # the slots with a link to slot 1, where forty names are; slot 4 without its twin
+    yield crowd, pieces.table((3, NAMES - 1, 0, 0), (8, 4, 0, 0))
+    yield twins, named(NAMES - 1)
+    yield twins, pieces.table((2, 0, 0, 0), (8, 4, 0, 0), (3, NAMES - 1, 0, 0), (5, 0, 2, 0), (7, 0, 1, 3))
+    # refusals
+    yield pieces.old_site(a), pieces.R
+    for n in (pieces.HIGH[0], NAMES - 1):
+        absent = pieces.site_a()
+        absent[NAMES_AT + n] = 4
+        yield absent, named(n)
+    yield a, pieces.table(*((3, n, 0, 0) for n in (NAMES - 1, NAMES, NAMES + 1)))
+    for kind in (2, 4):
+        yield a, pieces.table((kind, pieces.HIGH[0], 0, 0))
+
+
 def cases(rng):
     t = pieces.table
     yield from by_hand()
+    yield from by_name()
     # every way, both modalities
     site = random_site(rng, 60)
     for way in range(WAYS):

@@ -10,7 +10,7 @@
 enum {
     SLOTS = DESK_CLASSES_BYTES,
     LABELS = 16,
-    NAMES = 16,
+    NAMES = 48,
     VARIABLES = 16,
     GENERAL = 4,    /* links 0 to 3, with a set of targets for each slot */
     FUNCTIONAL = 4, /* links 4 to 7, with one target for each slot */

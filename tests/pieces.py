@@ -119,6 +119,8 @@ OPERANDS = [
     (moved, name, unused), (moved, name, functional), (name, label, unused), (name, label, unused),
     (link, name, name), (link, name, name), (functional, name, unused), (moved, slot, unused), (name, unused, unused),
 ]
+# each operand that is a name, as an operation and the operand's place
+NAME_OPERANDS = [(op, at) for op, three in enumerate(OPERANDS) for at, ok in enumerate(three) if ok in (name, moved)]
 
 
 def judge_sheet(d):
@@ -145,6 +147,17 @@ def put_target(rng, site, slots):
     site[TARGETS_AT + SLOTS * rng.randrange(FUNCTIONAL) + rng.choice(slots)] = target
 
 
+def put_names(rng, site, slots):
+    """Few names, some or all of them; at places of their own, several at one, or at nil."""
+    for n in rng.sample(range(1, NAMES), rng.choice((4, 16, NAMES - 1))):
+        site[NAMES_AT + n] = rng.choice([0] + slots)
+
+
+def some_name(rng, least):
+    """Any name from the least on; more often one of the first or of the last, so that the names of a job meet."""
+    return rng.choice((rng.randrange(least, NAMES), rng.randrange(1, 4), rng.randrange(NAMES - 3, NAMES)))
+
+
 def site_a():
     d = bytearray(SITE_BYTES)
     for s in range(4):
@@ -153,6 +166,57 @@ def site_a():
     d[NAMES_AT + 1], d[NAMES_AT + 2] = 2, 3
     d[target_at(4, 2)], d[target_at(4, 3)] = 1, 2
     return d
+
+
+HIGH = range(LABELS, NAMES)  # the names whose numbers no label and no variable has
+CROWD = range(8, NAMES)
+
+
+def turned(n, by):
+    """The high name that is so many behind this one, the first behind the last."""
+    return HIGH[(n - HIGH[0] + by) % len(HIGH)]
+
+
+def place(n):
+    """The slot of a name on the spread site. The slots behind it, up to the next name's, are absent."""
+    return 5 * n
+
+
+def spread_site():
+    """Every name at a place of its own. That of a high name has a label, and a general and a functional link to the place two names behind."""
+    d = bytearray(SITE_BYTES)
+    for n in range(NAMES):
+        put(d, 0, place(n))
+        d[NAMES_AT + n] = place(n)
+    for n in HIGH:
+        put(d, label_at(n % LABELS), place(n))
+        put(d, row_at(n % GENERAL, place(n)), place(turned(n, 2)))
+        d[target_at(GENERAL + n % FUNCTIONAL, place(n))] = place(turned(n, 2))
+    return d
+
+
+def crowded_site():
+    """Site A with forty names at slot 1, which has label 0 and a link to it."""
+    d = site_a()
+    for n in CROWD:
+        d[NAMES_AT + n] = 1
+    return d
+
+
+def twin_site(*names):
+    """Site A with slots 4 and 5, which are alike but for these names at slot 5."""
+    d = site_a()
+    for s in (4, 5):
+        put(d, 0, s)
+        d[target_at(4, s)] = 1
+    for n in names:
+        d[NAMES_AT + n] = 5
+    return d
+
+
+def old_site(d):
+    """The site as it is with 16 names, 32 bytes shorter. It is valid there."""
+    return d[:NAMES_AT + 16] + d[TARGETS_AT:]
 
 
 def table(*nodes):
@@ -165,6 +229,19 @@ def table(*nodes):
 def named(n):
     """The condition "name n"."""
     return table((3, n, 0, 0))
+
+
+def joined(kind, leaves):
+    """The nodes, and then the or (6) or the and (7) of all of them."""
+    nodes, last = list(leaves), 0
+    for i in range(1, len(nodes)):
+        nodes.append((kind, 0, last, i))
+        last = len(nodes) - 1
+    return table(*nodes)
+
+
+def names_joined(kind, names):
+    return joined(kind, ((3, n, 0, 0) for n in names))
 
 
 def sheet(*edits):
@@ -183,7 +260,12 @@ def sites(rng):
     yield site_a()
     for n in (0, SITE_BYTES - 1, SITE_BYTES + 1):
         yield (site_a() + b"\0")[:n]
+    for d in (spread_site(), crowded_site(), twin_site(NAMES - 1)):
+        yield d
+        yield old_site(d)
+    yield old_site(site_a())
     for at, value in (
+        *((NAMES_AT + n, 4) for n in HIGH), (TARGETS_AT - 1, 3),
         (0, 14), (0, 0), (NAMES_AT, 1), (NAMES_AT + 1, 4), (NAMES_AT + NAMES - 1, 255),
         (NAMES_AT - 1, 128), (LABELS_AT, 3), (label_at(LABELS - 1), 1), (label_at(LABELS - 1), 16), (label_at(1) - 1, 128),
         (TARGETS_AT, 1), (target_at(4, 1), 4), (target_at(4, 4), 1), (target_at(7, 255), 1), (target_at(6, 255), 255),
@@ -205,8 +287,7 @@ def sites(rng):
         slots = sorted(rng.sample(range(1, SLOTS), rng.randrange(1, 60)))
         for s in [0] + slots:
             put(d, 0, s)
-        for n in range(1, NAMES):
-            d[NAMES_AT + n] = rng.choice([0] + slots)
+        put_names(rng, d, slots)
         for _ in range(rng.randrange(60)):
             put(d, label_at(rng.randrange(LABELS)), rng.choice([0] + slots))
             put(d, row_at(rng.randrange(GENERAL), rng.choice(slots)), rng.choice(slots))
@@ -245,6 +326,7 @@ def conditions(rng):
         for node in (
             (kind, 0, child, right), (kind, top - 1, child, right), (kind, min(top, 255), child, right), (kind, 1, child, right),
             (kind, 0, 2, right), (kind, 0, child, 2), (kind, 0, 256, right), (kind, 0, child, 256), (kind, 0, 0, 0), (kind, 255, child, right),
+            *((kind, limit, child, right) for limit in (LABELS - 1, LABELS, NAMES - 1, NAMES)),
         ):
             yield table((0, 0, 0, 0), (4, 0, 0, 0), node, (0, 0, 0, 0))
     yield table((4, 0, 0, 0), (5, 0, 0, 0), (10, 0, 1, 0))
@@ -256,12 +338,14 @@ def conditions(rng):
     yield table((4, VARIABLES - 1, 0, 0), (10, VARIABLES - 2, 0, 0))
     yield table((4, VARIABLES - 1, 0, 0), (10, VARIABLES - 1, 0, 0))
     yield table((4, 3, 0, 0), (0, 0, 0, 0))
+    yield names_joined(6, range(NAMES))
+    yield names_joined(6, range(1, NAMES + 2))
     for _ in range(300):
         nodes = random_table(rng)
         if rng.random() < 0.5:
             i = rng.randrange(len(nodes))
             node = list(nodes[i])
-            node[rng.randrange(4)] = rng.choice((0, 1, i, i + 1, 13, VARIABLES, WAYS, 255))
+            node[rng.randrange(4)] = rng.choice((0, 1, i, i + 1, 13, VARIABLES, WAYS, NAMES - 1, NAMES, 255))
             nodes[i] = tuple(node)
             nodes[i] = (nodes[i][0] % 256, nodes[i][1] % 256, nodes[i][2], nodes[i][3])
         elif rng.random() < 0.7:
@@ -277,6 +361,13 @@ def first_operands(op):
     return tuple(GENERAL if ok in (link, functional) else 0 if ok is unused else 1 for ok in OPERANDS[op])
 
 
+def with_operand(op, at, value):
+    """An edit whose other operands fit."""
+    edit = [op, *first_operands(op)]
+    edit[1 + at] = value
+    return edit
+
+
 def sheets(rng):
     yield bytearray((6, 4, 1, 0))
     yield bytearray()
@@ -289,16 +380,18 @@ def sheets(rng):
     for op in range(OPERATIONS + 1):
         for at in range(3):
             for value in bounds:
-                edit = [op, *first_operands(op)]
-                edit[1 + at] = value
-                yield bytearray((6, 4, 1, 0)) + bytearray(edit)
+                yield bytearray((6, 4, 1, 0)) + bytearray(with_operand(op, at, value))
+    # every name, and then a number more
+    for op, at in NAME_OPERANDS:
+        for end in (NAMES, NAMES + 1):
+            yield sheet(*(with_operand(op, at, n) for n in range(1, end)))
     for _ in range(100):
         d = bytearray()
         for _ in range(rng.randrange(1, 12)):
             op = rng.randrange(OPERATIONS)
             d += bytes([op, *(0 if ok is unused else rng.choice([x for x in range(SLOTS) if ok(x)]) for ok in OPERANDS[op])])
         if rng.random() < 0.5:
-            d[rng.randrange(len(d))] = rng.choice((0, 1, OPERATIONS, NAMES, 255))
+            d[rng.randrange(len(d))] = rng.choice((0, 1, OPERATIONS, LABELS, NAMES, 255))
         yield d
 
 
