@@ -109,10 +109,15 @@ static void check_numbers(const char *function, const void *one, const void *oth
 
 enum { LIST, APPLY, REWRITE, CLASSES, JOB, THROUGH, ENTRIES };
 enum { BUFFERS = 12 };
+enum { AT_NIL, ALONE, SHARED, PLACES }; /* where a name is: at nil, at a slot of its own, with other names */
+enum { HIGH = 16 };                     /* the first name whose number no label and no variable has */
 
 static struct {
     unsigned long reasons[ENTRIES][REASONS];
     unsigned long kinds[KINDS], diamonds[WAYS], boxes[WAYS]; /* nodes that an accepted condition's last node reaches */
+    unsigned long names[NAMES];                              /* and those that are names, by their number */
+    unsigned long operands[NAMES];                           /* operands that are names, of sheets that went through */
+    unsigned long places[PLACES];                            /* accepted sites with a name from 16 on there */
     unsigned long rewritten[OPERATIONS];                     /* edits that an accepted condition was rewritten through */
     unsigned long through[OPERATIONS], stuck[OPERATIONS];    /* edits that went through, and that did not */
     unsigned long shorter[BUFFERS], longer[BUFFERS];         /* calls with this buffer a byte short, a byte long */
@@ -131,6 +136,8 @@ static void meet_nodes(void)
         if (!reached[i])
             continue;
         met.kinds[node[0]]++;
+        if (node[0] == NAME)
+            met.names[node[1]]++;
         if (node[0] == DIAMOND)
             met.diamonds[node[1]]++;
         if (node[0] == BOX)
@@ -146,6 +153,32 @@ static void meet_edits(unsigned long *operations, size_t count)
 {
     for (size_t k = 0; k < count; k++)
         operations[sheet.at[DESK_EDIT_BYTES * k]]++;
+}
+
+static bool is_name(int operation, int operand)
+{
+    return operands[operation][operand] == 'n' || operands[operation][operand] == 'N';
+}
+
+static void meet_operands(void)
+{
+    for (size_t k = 0; k < sheet.length; k += DESK_EDIT_BYTES)
+        for (int operand = 0; operand < 3; operand++)
+            if (is_name(sheet.at[k], operand))
+                met.operands[sheet.at[k + 1 + (size_t)operand]]++;
+}
+
+static void meet_places(void)
+{
+    const uint8_t *names = site.at + NAMES_AT;
+    int counts[SLOTS] = {0};
+    bool there[PLACES] = {false};
+    for (int n = 0; n < NAMES; n++)
+        counts[names[n]]++;
+    for (int n = HIGH; n < NAMES; n++)
+        there[names[n] == DESK_NIL ? AT_NIL : counts[names[n]] == 1 ? ALONE : SHARED] = true;
+    for (int k = 0; k < PLACES; k++)
+        met.places[k] += there[k];
 }
 
 /* ---- the calls: each gives its reason */
@@ -181,8 +214,10 @@ static uint32_t try_apply(const size_t *lengths)
     check_buffers("desk_apply", 1, other.reason, -1);
     check_input("desk_apply", a);
     check_input("desk_apply", b);
-    if (other.reason == DESK_OK)
+    if (other.reason == DESK_OK) {
         meet_edits(met.through, sheet.length / DESK_EDIT_BYTES);
+        meet_operands();
+    }
     if (other.reason == DESK_NOT_THROUGH)
         met.stuck[sheet.at[DESK_EDIT_BYTES * other.where]]++;
     return other.reason;
@@ -224,6 +259,8 @@ static uint32_t try_classes(const size_t *lengths)
     check_numbers("desk_classes", &one, &other, sizeof one);
     check_buffers("desk_classes", 1, other.reason, -1);
     check_input("desk_classes", a);
+    if (other.reason == DESK_OK)
+        meet_places();
     return other.reason;
 }
 
@@ -725,6 +762,220 @@ static void try_large_sites(void)
     try_entry(CLASSES, entries[CLASSES].lengths);
 }
 
+/* ---- cases with many names */
+
+static int place(int name)
+{
+    return 5 * name;
+}
+
+/* Every name at a place of its own; each place but nil has a label, and two links to the place two names behind. */
+static void build_spread(void)
+{
+    site.length = DESK_SITE_BYTES;
+    memset(site.at, 0, site.length);
+    put_slot(site.at, DESK_NIL);
+    for (int n = 1; n < NAMES; n++) {
+        const int s = place(n), t = place(1 + (n + 1) % (NAMES - 1));
+        put_slot(site.at, s);
+        site.at[NAMES_AT + n] = (uint8_t)s;
+        put_slot(site.at + label_at(n % LABELS), s);
+        put_slot(site.at + row_at(n % GENERAL, s), t);
+        site.at[target_at(GENERAL + n % FUNCTIONAL, s)] = (uint8_t)t;
+    }
+}
+
+/* The names from this one on, and the or, or the and, of all of them. */
+static void build_names(int kind, int first)
+{
+    const int count = NAMES - first;
+    cond.length = 0;
+    for (int n = first; n < NAMES; n++)
+        add_node(NAME, n, 0, 0);
+    for (int i = 1; i < count; i++)
+        add_node(kind, 0, i == 1 ? 0 : count + i - 2, i);
+}
+
+/* A condition that each operation rewrites: a name, label 1, here, and link 4 both ways. */
+static void build_probe(int name)
+{
+    cond.length = 0;
+    add_node(NAME, name, 0, 0);
+    add_node(LABEL, 1, 0, 0);
+    add_node(HERE, 0, 0, 0);
+    add_node(DIAMOND, GENERAL, 0, 0);
+    add_node(BOX, GENERAL + LINKS, 1, 0);
+    add_node(AND, 0, 2, 4);
+    add_node(OR, 0, 3, 5);
+    add_node(OR, 0, 0, 6);
+}
+
+/* An operand that fits: 1 is a name, a label and, on the spread site, an absent slot. */
+static int fitting(char kind)
+{
+    return kind == '-' ? 0 : kind == 'm' || kind == 'f' ? GENERAL : 1;
+}
+
+/* A sheet whose second edit has this operand, its others fit. */
+static void try_operand(int operation, int operand, int value)
+{
+    const char *kinds = operands[operation];
+    const bool fits = value < NAMES && (value > 0 || kinds[operand] == 'n');
+    build_probe(value < NAMES ? value : 0);
+    build_sheet(DT2, 4, 1, 0);
+    add_edits(1, operation, fitting(kinds[0]), fitting(kinds[1]), fitting(kinds[2]));
+    sheet.at[DESK_EDIT_BYTES + 1 + operand] = (uint8_t)value;
+    build_file();
+    try_all();
+    if (!fits)
+        expect_through(DESK_EDIT, 1, "an operand that is no name");
+    expect((try_entry(APPLY, entries[APPLY].lengths) == DESK_EDIT) == !fits, "an operand that is a name, or is none");
+}
+
+/* Every name, and numbers behind the last, in each operand that is a name. */
+static void try_operands(void)
+{
+    build_spread();
+    for (int operation = 0; operation < OPERATIONS; operation++)
+        for (int operand = 0; operand < 3; operand++)
+            for (int value = 0; is_name(operation, operand) && value <= NAMES + 1; value++)
+                try_operand(operation, operand, value);
+}
+
+/* Every parameter of the kinds that take a label, a name or a variable. */
+static void try_parameters(int kind, int limit)
+{
+    build_a();
+    for (int value = 0; value < 256; value++) {
+        cond.length = 0;
+        add_node(TRUE, 0, 0, 0);
+        add_node(kind, value % limit, 0, 0);
+        add_node(TRUE, 0, 0, 0);
+        cond.at[DESK_NODE_BYTES + 1] = (uint8_t)value;
+        expect_list(value < limit ? DESK_OK : DESK_NODE, value < limit ? SLOTS : 1, "a parameter at its limit");
+        try_entry(LIST, entries[LIST].lengths);
+        try_entry(REWRITE, entries[REWRITE].lengths);
+    }
+}
+
+/* The list of each name alone: at its place, and at nil. */
+static void try_single_names(void)
+{
+    static uint8_t set[DESK_SET_BYTES], work[DESK_WORK_BYTES];
+    for (int k = 0; k < 2 * NAMES; k++) {
+        const int n = k % NAMES, s = k < NAMES ? place(n) : DESK_NIL;
+        build_spread();
+        site.at[NAMES_AT + n] = (uint8_t)s;
+        build_names(OR, n);
+        cond.length = DESK_NODE_BYTES;
+        struct desk_listed r = desk_list(site.at, site.length, cond.at, cond.length, set, sizeof set, work, sizeof work);
+        expect(r.reason == DESK_OK && r.count == 1 && set[s / 8] == 1 << s % 8, "the list of a name");
+        try_entry(LIST, entries[LIST].lengths);
+    }
+}
+
+/* The reason of each function that has the site among its inputs. */
+static void expect_site_refused(uint32_t reason, const char *what)
+{
+    static const int with_site[] = {LIST, APPLY, CLASSES, JOB};
+    build_file();
+    for (size_t k = 0; k < sizeof with_site / sizeof *with_site; k++)
+        expect(try_entry(with_site[k], entries[with_site[k]].lengths) == reason, what);
+}
+
+/* Each name in turn at an absent slot. */
+static void try_absent_names(void)
+{
+    build_r();
+    build_sheet(DT2, 4, 1, 0);
+    for (int n = 1; n < NAMES; n++) {
+        build_a();
+        site.at[NAMES_AT + n] = 9;
+        expect_site_refused(DESK_NAMES, "a name at an absent slot");
+    }
+}
+
+/* Site A as it is with 16 names, where it is valid: 34,352 bytes. */
+static void try_old_site(void)
+{
+    build_a();
+    memmove(site.at + NAMES_AT + 16, site.at + TARGETS_AT, DESK_SITE_BYTES - TARGETS_AT);
+    site.length = 34352;
+    build_r();
+    build_sheet(DT2, 4, 1, 0);
+    expect_site_refused(DESK_SITE_LENGTH, "a site of the length that 16 names give");
+    expect(file.length == 34398, "the length of the job with it");
+    expect_rewrite(DESK_OK, 8, "the condition beside such a site");
+}
+
+/* Forty names at slot 1, which goes by each of them: all move to nil, and the two others stay. */
+static void try_crowd(void)
+{
+    static uint8_t result[DESK_SITE_BYTES];
+    build_a();
+    memset(site.at + NAMES_AT + 8, 1, 40);
+    for (int n = 8; n < NAMES; n++) {
+        build_sheet(DS, n, 0, 0);
+        desk_apply(site.at, site.length, sheet.at, sheet.length, result, sizeof result);
+        expect(result[NAMES_AT + 1] == 2 && result[NAMES_AT + 2] == 3 && all_zero(result + NAMES_AT + 3, NAMES - 3), "forty names at nil");
+        build_names(n % 2 ? OR : AND, 8);
+        build_file();
+        expect_job(DESK_OK, 1, "the only slot of forty names");
+        try_all();
+    }
+}
+
+/* Slots 4 and 5 are alike but for one name. */
+static void try_twins(void)
+{
+    static uint8_t classes[DESK_CLASSES_BYTES];
+    for (int n = HIGH; n < NAMES; n++) {
+        build_a();
+        site.at[0] = 0x3f;
+        site.at[target_at(4, 4)] = site.at[target_at(4, 5)] = 1;
+        site.at[NAMES_AT + n] = 5;
+        struct desk_classed r = desk_classes(site.at, site.length, classes, sizeof classes);
+        expect(r.reason == DESK_OK && r.count == 7 && classes[4] == 4 && classes[5] == 5 && classes[6] == 6, "two slots apart by a name");
+        build_probe(n);
+        build_sheet(CN1, n, 0, 0);
+        build_file();
+        try_all();
+    }
+}
+
+/* The longest job that is not refused: 2,048 nodes, before and after, and 64 edits. Each name from 16 on moves to the next one's place, twice. */
+static void try_largest_job(void)
+{
+    build_spread();
+    build_names(OR, HIGH);
+    for (int last = (int)cond.length / DESK_NODE_BYTES - 1; last < DESK_NODES_MAX - 1; last++)
+        add_node(OR, 0, last, last % (NAMES - HIGH));
+    sheet.length = 0;
+    for (int k = 0; k < DESK_EDITS_MAX; k++)
+        add_edits(1, CN1, HIGH + k % 32, HIGH + (k + 1) % 32, 0);
+    build_file();
+    expect(file.length == 46940, "the length of the longest job");
+    expect_rewrite(DESK_OK, DESK_NODES_MAX, "the table of the longest job");
+    expect_job(DESK_OK, 31, "the longest job");
+    try_all();
+}
+
+static void try_many_names(void)
+{
+    try_operands();
+    try_parameters(LABEL, LABELS);
+    try_parameters(NAME, NAMES);
+    try_parameters(VARIABLE, VARIABLES);
+    try_parameters(MU, VARIABLES);
+    try_parameters(NU, VARIABLES);
+    try_single_names();
+    try_absent_names();
+    try_old_site();
+    try_crowd();
+    try_twins();
+    try_largest_job();
+}
+
 static void *try_known_answers(void *unused)
 {
     try_chains();
@@ -741,6 +992,7 @@ static void *try_known_answers(void *unused)
     try_refused_through();
     try_short_files();
     try_large_sites();
+    try_many_names();
     return unused;
 }
 
@@ -779,6 +1031,13 @@ static const struct row {
     {"kind", met.kinds, KINDS, ALL(KINDS)},
     {"way, diamond", met.diamonds, WAYS, ALL(WAYS)},
     {"way, box", met.boxes, WAYS, ALL(WAYS)},
+    {"name, node", met.names, 16, ALL(16)},
+    {"name 16 on, node", met.names + 16, 16, ALL(16)},
+    {"name 32 on, node", met.names + 32, 16, ALL(16)},
+    {"name, edit", met.operands, 16, ALL(16)},
+    {"name 16 on, edit", met.operands + 16, 16, ALL(16)},
+    {"name 32 on, edit", met.operands + 32, 16, ALL(16)},
+    {"name 16 on, place", met.places, PLACES, ALL(PLACES)},
     {"edit, rewritten", met.rewritten, OPERATIONS, ALL(OPERATIONS)},
     {"edit, through", met.through, OPERATIONS, ALL(OPERATIONS)},
     {"edit, not through", met.stuck, OPERATIONS, 1u << AT | 1u << AS | 1u << DS},

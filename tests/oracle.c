@@ -296,8 +296,7 @@ static uint32_t list(const struct model *model, const struct node *table, int co
 
 /* ---- the sheet */
 
-/* What each operation's operands are: n name, N name but 0, m link, f link 4 to 7, p label, k slot, - unused. */
-static const char *const operands[OPERATIONS] = {"Nn-", "Nnf", "np-", "np-", "mnn", "mnn", "fn-", "Nk-", "n--"};
+const char *const operands[OPERATIONS] = {"Nn-", "Nnf", "np-", "np-", "mnn", "mnn", "fn-", "Nk-", "n--"};
 
 static bool operand_fault(char kind, int value)
 {

@@ -24,6 +24,9 @@ enum {
 enum { TRUE, HERE, LABEL, NAME, VARIABLE, NOT, OR, AND, DIAMOND, BOX, MU, NU, SLOT, KINDS };
 enum { CN1, CN2, AP, DP, AT, DT1, DT2, AS, DS, OPERATIONS };
 
+/* What each operation's operands are: n name, N name but 0, m link, f link 4 to 7, p label, k slot, - unused. */
+extern const char *const operands[OPERATIONS];
+
 /* Where the parts of a site stand. */
 enum {
     LINK_BYTES = SLOTS * DESK_SET_BYTES,

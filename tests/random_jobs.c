@@ -47,6 +47,18 @@ static int node_count(void)
     return (int)(cond.length / DESK_NODE_BYTES);
 }
 
+/* One of the first names or of the last for the most part, so that the names of a job meet. */
+static int some_name(void)
+{
+    return one_in(3) ? below(NAMES) : one_in(2) ? below(5) : NAMES - 1 - below(4);
+}
+
+static int some_moved_name(void)
+{
+    const int name = some_name();
+    return name == 0 ? between(1, NAMES - 1) : name;
+}
+
 /* ---- random sites */
 
 struct shape {
@@ -91,6 +103,15 @@ static void random_arcs(const struct shape *shape)
     }
 }
 
+/* Few names, some or all of them. Some share a place, and some are at nil. */
+static void random_names(const struct shape *shape)
+{
+    const int often = one_in(3) ? 8 : 1, rare = one_in(4) ? 1 : one_in(3) ? 4 : 40, shared = random_slot(shape);
+    for (int n = 1; n < NAMES; n++)
+        if (one_in(n < 5 || n >= NAMES - 4 ? often : rare))
+            site.at[NAMES_AT + n] = (uint8_t)(one_in(8) ? 0 : one_in(4) ? shared : random_slot(shape));
+}
+
 static void random_site(void)
 {
     struct shape shape = random_shape();
@@ -104,9 +125,7 @@ static void random_site(void)
         for (int k = between(0, shape.count); k > 0; k--)
             put_slot(label, one_in(12) ? 0 : random_slot(&shape));
     }
-    for (int n = 1; n < NAMES; n++)
-        if (n < 5 || one_in(4))
-            site.at[NAMES_AT + n] = (uint8_t)(one_in(8) ? 0 : random_slot(&shape));
+    random_names(&shape);
     for (int l = 0; l < shape.links && shape.count > 0; l++)
         random_arcs(&shape);
 }
@@ -168,7 +187,7 @@ static void add_leaf(void)
         break;
     case 3:
     case 4:
-        add_node(NAME, one_in(4) ? below(NAMES) : below(4), 0, 0);
+        add_node(NAME, some_name(), 0, 0);
         break;
     case 5:
         add_node(SLOT, one_in(2) ? below(SLOTS) : below(6), 0, 0);
@@ -260,16 +279,6 @@ static void random_condition(void)
 }
 
 /* ---- random sheets */
-
-static int some_name(void)
-{
-    return one_in(5) ? below(NAMES) : below(5);
-}
-
-static int some_moved_name(void)
-{
-    return one_in(5) ? between(1, NAMES - 1) : between(1, 4);
-}
 
 static void random_edit(uint8_t *edit, int operation)
 {
@@ -392,7 +401,7 @@ static void damage_condition(void)
         node[0] = (uint8_t)(one_in(4) ? below(256) : below(KINDS + 1));
         break;
     case 1:
-        node[1] = (uint8_t)(one_in(2) ? below(WAYS + 1) : below(256));
+        node[1] = (uint8_t)(one_in(3) ? between(NAMES - 1, NAMES) : one_in(2) ? below(WAYS + 1) : below(256));
         break;
     case 2:
         node[2 + 2 * below(2)] = (uint8_t)(one_in(2) ? below(count + 1) : number);
