@@ -769,6 +769,11 @@ static int place(int name)
     return 5 * name;
 }
 
+static int two_behind(int name)
+{
+    return 1 + (name + 1) % (NAMES - 1);
+}
+
 /* Every name at a place of its own; each place but nil has a label, and two links to the place two names behind. */
 static void build_spread(void)
 {
@@ -776,7 +781,7 @@ static void build_spread(void)
     memset(site.at, 0, site.length);
     put_slot(site.at, DESK_NIL);
     for (int n = 1; n < NAMES; n++) {
-        const int s = place(n), t = place(1 + (n + 1) % (NAMES - 1));
+        const int s = place(n), t = place(two_behind(n));
         put_slot(site.at, s);
         site.at[NAMES_AT + n] = (uint8_t)s;
         put_slot(site.at + label_at(n % LABELS), s);
@@ -796,7 +801,7 @@ static void build_names(int kind, int first)
         add_node(kind, 0, i == 1 ? 0 : count + i - 2, i);
 }
 
-/* A condition that each operation rewrites: a name, label 1, here, and link 4 both ways. */
+/* A condition that each operation rewrites: a name and name 1, label 1, here, and link 4 both ways. */
 static void build_probe(int name)
 {
     cond.length = 0;
@@ -808,6 +813,8 @@ static void build_probe(int name)
     add_node(AND, 0, 2, 4);
     add_node(OR, 0, 3, 5);
     add_node(OR, 0, 0, 6);
+    add_node(NAME, 1, 0, 0);
+    add_node(OR, 0, 7, 8);
 }
 
 /* An operand that fits: 1 is a name, a label and, on the spread site, an absent slot. */
@@ -840,6 +847,31 @@ static void try_operands(void)
         for (int operand = 0; operand < 3; operand++)
             for (int value = 0; is_name(operation, operand) && value <= NAMES + 1; value++)
                 try_operand(operation, operand, value);
+}
+
+/* Each name as the start and as the end of a link that is there and goes. */
+static void try_link_ends(void)
+{
+    static uint8_t result[DESK_SITE_BYTES];
+    build_spread();
+    for (int n = 1; n < NAMES; n++) {
+        const int f = GENERAL + n % FUNCTIONAL, at = target_at(f, place(n));
+        build_probe(n);
+        build_sheet(DT1, f, n, two_behind(n));
+        build_file();
+        desk_apply(site.at, site.length, sheet.at, sheet.length, result, sizeof result);
+        expect(site.at[at] == place(two_behind(n)) && result[at] == 0, "a link between names goes");
+        try_all();
+    }
+}
+
+/* Labels do not go as far as names. */
+static void try_label_operands(int operation)
+{
+    for (int p = 0; p < 256; p++) {
+        build_sheet(operation, NAMES - 1, p, 0);
+        expect_through(p < LABELS ? DESK_OK : DESK_EDIT, p < LABELS ? 1 : 0, "an operand that is a label, or is none");
+    }
 }
 
 /* Every parameter of the kinds that take a label, a name or a variable. */
@@ -963,6 +995,9 @@ static void try_largest_job(void)
 static void try_many_names(void)
 {
     try_operands();
+    try_link_ends();
+    try_label_operands(AP);
+    try_label_operands(DP);
     try_parameters(LABEL, LABELS);
     try_parameters(NAME, NAMES);
     try_parameters(VARIABLE, VARIABLES);
