@@ -1,7 +1,7 @@
 // The site's bytes: accessors by offset, and the tests of a valid site (items 3 to 6).
 ghost use mathlib.Core.Path.{_≡_};
 ghost use mathlib.Core.Bool.{not};
-ghost use Prim.Native.Nat.{_+_, _≤_, _<_};
+ghost use Prim.Native.Nat.{_+_, _*_, _≤_, _<_};
 ghost use lib.ListN.{length, getD};
 ghost use Rattle.finite.specs.Tests.{all};
 ghost use Rattle.bitset.specs.Set.{setBytes, setSlots, Is};
@@ -172,14 +172,33 @@ fn target_fits(s: usize, t: usize, ends: &[u8]) -> bool
     bitset::member(ends, t)
 }
 
+// Do the targets of the 32 slots from 32 * k on fit, by the functional link f? If all of them are none, one look tells.
+fn some_targets_fit(site: &[u8], f: usize, k: usize, ends: &[u8]) -> bool
+    requires { ⌜ (length (now site) ≡ siteBytes) × ((generalLinks ≤ f) × ((f < links) × ((k < 8) × (length (now ends) ≡ setBytes)))) ⌝ }
+    ensures { λ r. ⌜ r ≡ all setBytes (λ j. targetInside (now (ends .entry)) (setBytes * k + j) (getD (now (site .entry)) (targetAt f (setBytes * k + j)) 0)) ⌝ }
+{
+    let b = TARGETS_AT + SET_SLOTS * (f - GENERAL_LINKS) + SET_BYTES * k;
+    let none = [0u8; SET_BYTES];
+    if part_inside(site, b, &none) {
+        return true;
+    }
+    for j in 0..SET_BYTES {
+        let s = SET_BYTES * k + j;
+        let t = target(site, f, s);
+        if !target_fits(s, t, ends) {
+            return false;
+        }
+    }
+    true
+}
+
 // Does every target of the functional link f fit? It is none, or both ends of the link are in `ends`.
 fn targets_fit(site: &[u8], f: usize, ends: &[u8]) -> bool
     requires { ⌜ (length (now site) ≡ siteBytes) × ((generalLinks ≤ f) × ((f < links) × (length (now ends) ≡ setBytes))) ⌝ }
     ensures { λ r. ⌜ r ≡ all setSlots (λ s. targetInside (now (ends .entry)) s (getD (now (site .entry)) (targetAt f s) 0)) ⌝ }
 {
-    for s in 0..SET_SLOTS {
-        let t = target(site, f, s);
-        if !target_fits(s, t, ends) {
+    for k in 0..SET_SLOTS / SET_BYTES {
+        if !some_targets_fit(site, f, k, ends) {
             return false;
         }
     }
