@@ -8,7 +8,7 @@ use std::ops::{BitAnd, BitOr, Not};
 // How many slots, labels, names, links and variables there are, and nodes at most. Links below GENERAL are general.
 pub const SLOTS: usize = 256;
 pub const LABELS: usize = 16;
-pub const NAMES: usize = 16;
+pub const NAMES: usize = 48;
 pub const LINKS: usize = 8;
 pub const GENERAL: usize = 4;
 pub const VARIABLES: usize = 16;
@@ -918,6 +918,9 @@ fn members(classes: &Classes) -> (Vec<(usize, Set)>, Set) {
     }
     (lowest.slots().map(|class| (class, sets[class])).filter(|(_, set)| set.count() > 1).collect(), lowest)
 }
+
+// A slot's labels are one word in `refine`, and so are its names.
+const _: () = assert!(LABELS <= 64 && NAMES <= 64);
 
 /// Rounds of refinement, until one changes nothing.
 fn refine(site: Site) -> Classes {

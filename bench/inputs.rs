@@ -1,6 +1,7 @@
-//! Sites, conditions, sheets and job files to measure on.
+//! Sites, conditions, sheets and job files to measure on. All but `named` use only names that an earlier build has too.
 
 use crate::desk::{E, GENERAL, LABELS_AT, NAMES, NAMES_AT, NODE, ROWS, ROWS_AT, SET, SITE, SLOTS, TARGETS_AT, VARIABLES};
+use crate::earlier::names;
 
 /// The same numbers in every run.
 struct Random(u64);
@@ -21,13 +22,19 @@ fn put(set: &mut [u8], slot: usize) {
 }
 
 /// Slots 0 to n - 1 present, label 0 on slot 1, name k at slot k where that is present.
-fn bare(n: usize) -> Vec<u8> {
+pub fn bare(n: usize) -> Vec<u8> {
     let mut site = vec![0; SITE];
     (0..n).for_each(|s| put(&mut site, s));
     put(&mut site[LABELS_AT..], 1);
-    for k in 1..NAMES.min(n) {
+    for k in 1..names().min(n) {
         site[NAMES_AT + k] = k as u8;
     }
+    site
+}
+
+/// The site with each name k but 0 at slot `slot(k)`.
+pub fn named(mut site: Vec<u8>, slot: fn(usize) -> usize) -> Vec<u8> {
+    (1..NAMES).for_each(|k| site[NAMES_AT + k] = slot(k) as u8);
     site
 }
 
@@ -214,7 +221,7 @@ pub fn loops(n: usize) -> Vec<u8> {
 
 /// A name but 0, in turn.
 fn other_name(k: usize) -> u8 {
-    1 + (k % (NAMES - 1)) as u8
+    1 + (k % (names() - 1)) as u8
 }
 
 /// AP: name 1 gains label 0, again and again.
@@ -229,7 +236,7 @@ pub fn cuts(n: usize) -> Vec<u8> {
 
 /// DS and AS of the same slot, in turn.
 pub fn slots_gone(n: usize) -> Vec<u8> {
-    let slot = |k: usize| 2 + (k / 2 % (NAMES - 2)) as u8;
+    let slot = |k: usize| 2 + (k / 2 % (names() - 2)) as u8;
     (0..n).flat_map(|k| if k % 2 == 0 { [8, slot(k), 0, 0] } else { [7, slot(k), slot(k), 0] }).collect()
 }
 

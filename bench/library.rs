@@ -68,3 +68,7 @@ library!(NOW: desk_list desk_apply desk_rewrite desk_classes desk_job, through!(
 library!(BEFORE: before_list before_apply before_rewrite before_classes before_job, through!(before_through));
 #[cfg(all(before, not(before_through)))]
 library!(BEFORE: before_list before_apply before_rewrite before_classes before_job, |_, _| unreachable!("not timed"));
+
+// Without an earlier build the present one stands here, and is not timed twice.
+#[cfg(not(before))]
+pub const BEFORE: Desk = NOW;

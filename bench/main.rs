@@ -5,14 +5,16 @@
 //!
 //! With `--cfg before` an earlier build of the library is timed too (bench/beside). A line then gives the times of the earlier build, of the
 //! present one and of the Rust, the ratio of present to earlier, in how many samples the present was slower, and the ratio to the Rust. With
-//! `--cfg before_through` the earlier build has `through` too; without it those lines are of the present library and the Rust.
+//! `--cfg before_through` the earlier build has `through` too; without it those lines are of the present library and the Rust. So are lines
+//! with names that the earlier build does not have.
 
 mod desk;
+mod earlier;
 mod inputs;
 mod library;
 mod stack;
 
-use desk::{Applied, Classed, Done, Listed, Results, Rewritten, E, GENERAL, NODES, SET, SITE, SLOTS, TABLE, WORK};
+use desk::{Applied, Classed, Done, Listed, Results, Rewritten, E, GENERAL, NAMES, NODES, SET, SITE, SLOTS, TABLE, WORK};
 use std::time::Duration;
 
 /// The six functions of a desk.
@@ -34,31 +36,13 @@ const RUST: Desk = Desk {
     job: desk::job,
 };
 
-type Side = fn(&Call, &mut Buffers) -> Vec<u32>;
-
-/// What is timed: the library or the two builds of it, then the Rust.
-static SIDES: &[Side] = &[
-    Call::library,
-    #[cfg(before)]
-    Call::before,
-    Call::rust,
-];
-
-/// The same for `through`, which an earlier build may lack.
-static THROUGH_SIDES: &[Side] = &[
-    Call::library,
-    #[cfg(before_through)]
-    Call::before,
-    Call::rust,
-];
-
 // How many samples of a side there are, and about how long one takes. Two builds differ by little, so they get more samples; short ones,
 // since the machine seldom changes its speed within a short pair.
 const SAMPLES: usize = if cfg!(before) { 41 } else { 15 };
 const SAMPLE: Duration = Duration::from_micros(if cfg!(before) { 400 } else { 800 });
 
 /// Results and work buffers, for one side.
-#[derive(PartialEq)]
+#[derive(Clone, PartialEq)]
 struct Buffers {
     site: Vec<u8>,
     table: Vec<u8>,
@@ -81,6 +65,7 @@ impl Buffers {
 }
 
 /// What is called.
+#[derive(Clone)]
 enum Call {
     List(Vec<u8>, Vec<u8>),
     Apply(Vec<u8>, Vec<u8>),
@@ -96,18 +81,10 @@ impl Call {
         Call::Job(file, site, cond, sheet)
     }
 
-    fn sides(&self) -> &'static [Side] {
-        match self {
-            Call::Through(_) => THROUGH_SIDES,
-            _ => SIDES,
-        }
-    }
-
     fn library(&self, out: &mut Buffers) -> Vec<u32> {
         self.answer(&library::NOW, out)
     }
 
-    #[cfg(before)]
     fn before(&self, out: &mut Buffers) -> Vec<u32> {
         self.answer(&library::BEFORE, out)
     }
@@ -175,6 +152,38 @@ impl Call {
     }
 }
 
+/// A side of a measurement: whom it asks, what, and where the results go.
+struct Side {
+    ask: fn(&Call, &mut Buffers) -> Vec<u32>,
+    call: Call,
+    out: Buffers,
+}
+
+impl Side {
+    /// The library, or the two builds of it, and the Rust.
+    fn all(call: &Call, two_builds: bool) -> Vec<Side> {
+        let side = |ask| Side { ask, call: call.clone(), out: Buffers::new() };
+        let mut sides = vec![side(Call::library), side(Call::rust)];
+        if two_builds {
+            sides.insert(1, Side { ask: Call::before, call: earlier::call(call), out: earlier::buffers(&Buffers::new()) });
+        }
+        sides
+    }
+
+    fn answer(&mut self) -> Vec<u32> {
+        (self.ask)(&self.call, &mut self.out)
+    }
+}
+
+/// The sides' results are the same.
+fn same(sides: &[Side]) -> bool {
+    match sides {
+        [now, rust] => now.out == rust.out,
+        [now, before, rust] => now.out == rust.out && before.out == earlier::buffers(&now.out),
+        _ => unreachable!("two sides or three"),
+    }
+}
+
 #[repr(C)]
 struct Clock {
     seconds: i64,
@@ -207,14 +216,14 @@ fn median(values: &[f64]) -> f64 {
 }
 
 fn title(text: &str) {
-    title_for(text, SIDES);
+    title_of(text, cfg!(before));
 }
 
-fn title_for(text: &str, sides: &[Side]) {
+fn title_of(text: &str, two_builds: bool) {
     println!("\n{text}");
     let (what, outcome) = ("input", "outcome");
     let two = " before µs      now µs     Rust µs now/before slower now/Rust";
-    let times = if sides.len() > 2 { two } else { "library µs     Rust µs ratio" };
+    let times = if two_builds { two } else { "library µs     Rust µs ratio" };
     println!("{what:44} slots   arcs nodes edits  {outcome:24} {times}");
 }
 
@@ -243,23 +252,30 @@ fn turn(n: usize, sides: usize) -> usize {
 }
 
 fn measure(what: &str, call: Call) {
-    let sides = call.sides();
-    let mut out: Vec<Buffers> = sides.iter().map(|_| Buffers::new()).collect();
-    let answers: Vec<Vec<u32>> = sides.iter().zip(&mut out).map(|(side, out)| side(&call, out)).collect();
-    let same = answers.iter().all(|answer| *answer == answers[0]) && out.iter().all(|buffers| *buffers == out[0]);
-    assert!(same, "{what}: the sides differ, {answers:?}");
+    measure_of(what, call, cfg!(before));
+}
+
+fn measure_of(what: &str, call: Call, two_builds: bool) {
+    let mut sides = Side::all(&call, two_builds);
+    let answers: Vec<Vec<u32>> = sides.iter_mut().map(Side::answer).collect();
+    assert!(answers.iter().all(|answer| *answer == answers[0]) && same(&sides), "{what}: the sides differ, {answers:?}");
     assert_eq!(answers[0][0], 0, "{what}: refused");
-    let mut sample = |side: usize, turns| time(turns, || drop(std::hint::black_box(sides[side](&call, &mut out[side]))));
+    let mut times = vec![Vec::new(); sides.len()];
+    let mut sample = |side: usize, turns| time(turns, || drop(std::hint::black_box(sides[side].answer())));
     let once = sample(0, 1);
     let turns = (SAMPLE.as_nanos() / once.as_nanos().max(1)).clamp(1, 1000) as u32;
     let samples = if once > Duration::from_millis(30) { 5 } else { SAMPLES };
-    let mut times = vec![Vec::new(); sides.len()];
-    for side in (0..samples * sides.len()).map(|n| turn(n, sides.len())) {
+    for side in (0..samples * answers.len()).map(|n| turn(n, answers.len())) {
         times[side].push(sample(side, turns).as_secs_f64() * 1e6);
     }
     let [slots, arcs, nodes, edits] = call.size().map(|n| n.map_or("-".to_string(), |n| n.to_string()));
     let (outcome, columns) = (call.outcome(&answers[0]), columns(&times));
     println!("{what:44} {slots:>5} {arcs:>6} {nodes:>5} {edits:>5}  {outcome:24} {columns}");
+}
+
+/// Whether there is an earlier build, with all the names.
+fn all_names() -> bool {
+    cfg!(before) && earlier::names() == NAMES
 }
 
 fn listing() {
@@ -297,6 +313,9 @@ fn applying() {
         measure("DS and AS; sparse", Call::Apply(sparse.clone(), inputs::slots_gone(n)));
         measure("DS and AS; dense", Call::Apply(dense.clone(), inputs::slots_gone(n)));
     }
+    title_of("Applying: many names", all_names());
+    let site = inputs::named(sparse, |k| (k <= 40) as usize);
+    measure_of("DS of a slot with 40 names; sparse", Call::Apply(site, vec![8, 1, 0, 0]), all_names());
 }
 
 fn rewriting() {
@@ -323,7 +342,8 @@ fn rewriting() {
 
 /// Each edit passes over the table that the edits behind it have made, so the time grows with edits times nodes.
 fn going_through() {
-    title_for("Through: edits of one kind", THROUGH_SIDES);
+    let measure = |what, call| measure_of(what, call, cfg!(before_through));
+    title_of("Through: edits of one kind", cfg!(before_through));
     for k in [1, 8, 64] {
         measure("CN1, which adds no node", Call::Through(inputs::moves(k)));
     }
@@ -339,7 +359,7 @@ fn going_through() {
     for k in [1, 2, 3, 4, 5] {
         measure("DS", Call::Through(inputs::slots_removed(k)));
     }
-    title_for("Through: all of these, mixed", THROUGH_SIDES);
+    title_of("Through: all of these, mixed", cfg!(before_through));
     for k in [1, 2, 4, 8, 16, 32, 64] {
         measure("DS, AS, CN1, AP, AT of links 0 to 7", Call::Through(inputs::plan(k)));
     }
@@ -357,6 +377,9 @@ fn classing() {
     measure("all arcs by links 0 to 3", Call::Classes(inputs::uniform()));
     measure("link 4 a chain, 128 rounds", Call::Classes(inputs::rounds(false)));
     measure("both, 128 rounds", Call::Classes(inputs::rounds(true)));
+    title_of("Classes: many names", all_names());
+    let site = inputs::named(inputs::bare(SLOTS), |k| 5 * k);
+    measure_of("47 names, each at its own slot; no arc", Call::Classes(site), all_names());
 }
 
 fn jobs() {

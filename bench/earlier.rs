@@ -1,0 +1,38 @@
+//! The earlier build that bench/beside times may have sites of 16 names. It then gets and gives sites without the bytes of the other names.
+
+use crate::desk::{NAMES, NAMES_AT, SITE, SLOTS, TARGETS_AT};
+use crate::{library, Buffers, Call};
+
+const OLD_NAMES: usize = 16;
+
+/// How many names it has. The old build refuses a site of the present length for its length, reason 3; the present one for its bytes.
+pub fn names() -> usize {
+    let refused = (library::BEFORE.classes)(&[0; SITE], &mut [0; SLOTS]);
+    if refused.reason == 3 { OLD_NAMES } else { NAMES }
+}
+
+fn shortened(site: &[u8]) -> Vec<u8> {
+    [&site[..NAMES_AT + names()], &site[TARGETS_AT..]].concat()
+}
+
+/// A site to call it with. The names that it does not have must be at nil, so that all sides do the same work.
+fn site(site: Vec<u8>) -> Vec<u8> {
+    assert!(site[NAMES_AT + names()..TARGETS_AT].iter().all(|&slot| slot == 0), "a name that the earlier build does not have");
+    shortened(&site)
+}
+
+/// The call as it is made to it.
+pub fn call(call: &Call) -> Call {
+    match call.clone() {
+        Call::List(today, cond) => Call::List(site(today), cond),
+        Call::Apply(today, sheet) => Call::Apply(site(today), sheet),
+        Call::Classes(today) => Call::Classes(site(today)),
+        Call::Job(_, today, cond, sheet) => Call::job(site(today), cond, sheet),
+        siteless => siteless,
+    }
+}
+
+/// The buffers as it has them.
+pub fn buffers(out: &Buffers) -> Buffers {
+    Buffers { site: shortened(&out.site), ..out.clone() }
+}
