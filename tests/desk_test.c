@@ -377,6 +377,14 @@ static void build_a(void)
     site.at[target_at(4, 3)] = 2;
 }
 
+/* The same with slots 4 and 5, which are alike. */
+static void build_twins(void)
+{
+    build_a();
+    site.at[0] = 0x3f;
+    site.at[target_at(4, 4)] = site.at[target_at(4, 5)] = 1;
+}
+
 /* The condition R of the specification. */
 static void build_r(void)
 {
@@ -498,9 +506,7 @@ static void try_class_numbers(void)
 {
     static const uint8_t first[] = {0, 1, 2, 3, 4, 4};
     static uint8_t classes[DESK_CLASSES_BYTES], numbers[DESK_CLASSES_BYTES];
-    build_a();
-    site.at[0] = 0x3f;
-    site.at[target_at(4, 4)] = site.at[target_at(4, 5)] = 1;
+    build_twins();
     memset(numbers, 6, sizeof numbers);
     memcpy(numbers, first, sizeof first);
     struct desk_classed r = desk_classes(site.at, site.length, classes, sizeof classes);
@@ -790,6 +796,12 @@ static void build_spread(void)
     }
 }
 
+static void build_name(int name)
+{
+    cond.length = 0;
+    add_node(NAME, name, 0, 0);
+}
+
 /* The names from this one on, and the or, or the and, of all of them. */
 static void build_names(int kind, int first)
 {
@@ -804,8 +816,7 @@ static void build_names(int kind, int first)
 /* A condition that each operation rewrites: a name and name 1, label 1, here, and link 4 both ways. */
 static void build_probe(int name)
 {
-    cond.length = 0;
-    add_node(NAME, name, 0, 0);
+    build_name(name);
     add_node(LABEL, 1, 0, 0);
     add_node(HERE, 0, 0, 0);
     add_node(DIAMOND, GENERAL, 0, 0);
@@ -823,7 +834,7 @@ static int fitting(char kind)
     return kind == '-' ? 0 : kind == 'm' || kind == 'f' ? GENERAL : 1;
 }
 
-/* A sheet whose second edit has this operand, its others fit. */
+/* A sheet whose second edit has this operand; its others fit. */
 static void try_operand(int operation, int operand, int value)
 {
     const char *kinds = operands[operation];
@@ -843,10 +854,9 @@ static void try_operand(int operation, int operand, int value)
 static void try_operands(void)
 {
     build_spread();
-    for (int operation = 0; operation < OPERATIONS; operation++)
-        for (int operand = 0; operand < 3; operand++)
-            for (int value = 0; is_name(operation, operand) && value <= NAMES + 1; value++)
-                try_operand(operation, operand, value);
+    for (int k = 0; k < 3 * OPERATIONS; k++)
+        for (int value = 0; is_name(k / 3, k % 3) && value <= NAMES + 1; value++)
+            try_operand(k / 3, k % 3, value);
 }
 
 /* Each name as the start and as the end of a link that is there and goes. */
@@ -898,8 +908,7 @@ static void try_single_names(void)
         const int n = k % NAMES, s = k < NAMES ? place(n) : DESK_NIL;
         build_spread();
         site.at[NAMES_AT + n] = (uint8_t)s;
-        build_names(OR, n);
-        cond.length = DESK_NODE_BYTES;
+        build_name(n);
         struct desk_listed r = desk_list(site.at, site.length, cond.at, cond.length, set, sizeof set, work, sizeof work);
         expect(r.reason == DESK_OK && r.count == 1 && set[s / 8] == 1 << s % 8, "the list of a name");
         try_entry(LIST, entries[LIST].lengths);
@@ -962,12 +971,12 @@ static void try_twins(void)
 {
     static uint8_t classes[DESK_CLASSES_BYTES];
     for (int n = HIGH; n < NAMES; n++) {
-        build_a();
-        site.at[0] = 0x3f;
-        site.at[target_at(4, 4)] = site.at[target_at(4, 5)] = 1;
+        build_twins();
         site.at[NAMES_AT + n] = 5;
         struct desk_classed r = desk_classes(site.at, site.length, classes, sizeof classes);
         expect(r.reason == DESK_OK && r.count == 7 && classes[4] == 4 && classes[5] == 5 && classes[6] == 6, "two slots apart by a name");
+        build_name(n);
+        expect_list(DESK_OK, 1, "the one of two slots that has the name");
         build_probe(n);
         build_sheet(CN1, n, 0, 0);
         build_file();
@@ -978,13 +987,14 @@ static void try_twins(void)
 /* The longest job that is not refused: 2,048 nodes, before and after, and 64 edits. Each name from 16 on moves to the next one's place, twice. */
 static void try_largest_job(void)
 {
+    const int high = NAMES - HIGH;
     build_spread();
     build_names(OR, HIGH);
     for (int last = (int)cond.length / DESK_NODE_BYTES - 1; last < DESK_NODES_MAX - 1; last++)
-        add_node(OR, 0, last, last % (NAMES - HIGH));
+        add_node(OR, 0, last, last % high);
     sheet.length = 0;
     for (int k = 0; k < DESK_EDITS_MAX; k++)
-        add_edits(1, CN1, HIGH + k % 32, HIGH + (k + 1) % 32, 0);
+        add_edits(1, CN1, HIGH + k % high, HIGH + (k + 1) % high, 0);
     build_file();
     expect(file.length == 46940, "the length of the longest job");
     expect_rewrite(DESK_OK, DESK_NODES_MAX, "the table of the longest job");

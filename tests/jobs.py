@@ -152,7 +152,7 @@ def files():
     yield with_trailer(J, 35, 34, end)
     yield with_trailer(J, 4, end, 34)
     yield with_trailer(J, 4, end + 1, end)
-    # the distances of J, and those that it has where a site has 16 names; there the site is too short
+    # the distances of J; and those that a site for 16 names gives, with J's site and with such a site
     yield with_trailer(J, 4, 34, 34418)
     yield with_trailer(J, 4, 34, 34386)
     yield with_trailer(job(pieces.old_site(A), R, DT2), 4, 34, 34386)
@@ -279,12 +279,12 @@ def classing():
     yield rings, R, sheet((7, 3, 255), (8, 2), (5, 6, 1, 1))
 
 
-def equals(*named):
-    """Slots 1 to 60 are alike but for names: each of these is at the slot of its number."""
+def equals(*names):
+    """Slots 1 to 60 are alike but for these names, each of which is at the slot of its number."""
     site = bytearray(SITE_BYTES)
     for s in range(61):
         pieces.put(site, 0, s)
-    for n in named:
+    for n in names:
         site[NAMES_AT + n] = n
     return site
 

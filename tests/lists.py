@@ -191,7 +191,7 @@ def by_name():
     yield crowd, names_joined(7, pieces.CROWD)
     yield crowd, names_joined(7, range(7, NAMES))
     yield crowd, names_joined(6, range(NAMES))
-    # the slots with a link to slot 1, where forty names are; slot 4 without its twin
+    # a way to the place of forty names; of two slots that are alike otherwise, the one without the name
     yield crowd, pieces.table((3, NAMES - 1, 0, 0), (8, 4, 0, 0))
     yield twins, named(NAMES - 1)
     yield twins, pieces.table((2, 0, 0, 0), (8, 4, 0, 0), (3, NAMES - 1, 0, 0), (5, 0, 2, 0), (7, 0, 1, 3))

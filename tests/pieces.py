@@ -169,7 +169,7 @@ def site_a():
 
 
 HIGH = range(LABELS, NAMES)  # the names whose numbers no label and no variable has
-CROWD = range(8, NAMES)
+CROWD = range(8, NAMES)  # forty of them
 
 
 def turned(n, by):
