@@ -1,8 +1,9 @@
 // The nine edits on a site's bytes, in place: those of names, labels and slots, and the choice among all nine.
 ghost use mathlib.Core.Path.{_≡_};
-ghost use mathlib.Core.Bool.{true};
+ghost use mathlib.Core.Bool.{true, cond};
 ghost use Prim.Native.Nat.{_<_};
 ghost use lib.ListN.{length};
+ghost use Rattle.finite.specs.Tests.{same};
 ghost use Rattle.bitset.specs.Set.{setSlots};
 ghost use Rattle.limits.specs.Limits.{labels, names};
 ghost use Rattle.semantics.specs.Edit.{CN1, CN2, AP, DP, AS, DS, edit, legal, goes};
@@ -51,14 +52,23 @@ fn take_labels(site: &mut [u8], s: usize)
     }
 }
 
-// Name n is at nil where it was at slot s.
+// Slot p, or nil where that is slot s.
+fn unless(p: u8, s: u8) -> u8
+    ensures { λ r. ⌜ r ≡ cond (same p s) 0 p ⌝ }
+{
+    if p == s {
+        return 0;
+    }
+    p
+}
+
+// Name n is at nil where it was at slot s. Its byte is written in any case: without a branch the compiler takes many names at a time.
 fn take_name(site: &mut [u8], n: usize, s: usize)
     requires { ⌜ (length (now site) ≡ siteBytes) × ((n < names) × (s < setSlots)) ⌝ }
     ensures { λ _. ⌜ siteOf (now (site .exit)) ≡ withoutName (siteOf (now (site .entry))) n s ⌝ }
 {
-    if site::place(site, n) == s {
-        put_name(site, n, 0);
-    }
+    let p = unless(site[NAMES_AT + n], s as u8);
+    put_name(site, n, p as usize);
 }
 
 // Names at slot s are at nil.

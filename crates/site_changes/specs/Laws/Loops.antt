@@ -86,17 +86,13 @@ module _ (M : Model) (x : ℕ) where
       more-and (M .link l s t) (below l i) (same s x || same t x) (same l i)
       ∙ ap (λ (b : Bool). M .link l s t && not (b && (same s x || same t x))) (sym (below-more l i)))
 
--- one name: moved to nil where it is at slot x
-pub name-taken : (M : Model) (n x : ℕ) {M′ : Model} → M .place n ≡ x → M′ ≡ withName M n 0 → M′ ≡ withoutName M n x
+-- one name: at nil where it was at slot x
+pub name-left : (M : Model) (n x : ℕ) {p q : ℕ} {M′ : Model} → M .place n ≡ p → q ≡ cond (same p x) 0 p → M′ ≡ withName M n q → M′ ≡ withoutName M n x
 unfolding withName withoutName
-name-taken M n x e h = h ∙ place-only refl refl refl (λ y. either (equal? y n) (λ q. cond-yes 0 (M .place y) (eq-same q) ∙ sym (cond-yes 0 (M .place y) (here y q))) (λ q. cond-no 0 (M .place y) (ne-same q) ∙ sym (cond-no 0 (M .place y) (ap (λ (b : Bool). b && same (M .place y) x) (ne-same q)))))
+name-left M n x {p} {q} d e h = h ∙ place-only refl refl refl (λ y. either (equal? y n) (λ g. here y g) (λ g. rw (ne-same g)))
   where
-    here : (y : ℕ) → y ≡ n → (same y n && same (M .place y) x) ≡ true
-    here y q = ap₂ _&&_ (eq-same q) (eq-same (ap (M .place) q ∙ e))
-
-pub name-other : (M : Model) (n x : ℕ) → (M .place n ≡ x → ⊥) → M ≡ withoutName M n x
-unfolding withoutName
-name-other M n x d = place-only refl refl refl (λ y. sym (cond-no 0 (M .place y) (no-true (λ p. d (ap (M .place) (sym (same-eq (and-l (same y n) _ p))) ∙ same-eq (and-r (same y n) _ p))))))
+    here : (y : ℕ) → y ≡ n → cond (same y n) q (M .place y) ≡ cond (same y n && same (M .place y) x) 0 (M .place y)
+    here y g = let at : M .place y ≡ p = ap (M .place) g ∙ d in rw (eq-same g, at) e
 
 -- at the end: nothing is labelled, named or linked past the last label, name, slot and link
 module _ (S : List ℕ) (x : ℕ) where
