@@ -54,16 +54,16 @@ ring = record {
   links-of = (4, 1, 3) ∷ siteA .links-of;
 }
 
--- k names from n on, all at slot s
-unfoldable pub namesTogether : (n k s : ℕ) → List (ℕ × ℕ)
-namesTogether n zero s = []
-namesTogether n (suc k) s = (n, s) ∷ namesTogether (suc n) k s
+-- k names from n on, all at slot s, and then the rest
+unfoldable pub namesTogether : (n k s : ℕ) → List (ℕ × ℕ) → List (ℕ × ℕ)
+namesTogether n zero s rest = rest
+namesTogether n (suc k) s rest = (n, s) ∷ namesTogether (suc n) k s rest
 
 -- site A with names 8 to 47 at slot 2 too, where name 1 is
 unfoldable pub crowded : Small
 crowded = record {
   slots-here = siteA .slots-here;
   labels-on = siteA .labels-on;
-  names-at = (1, 2) ∷ (2, 3) ∷ namesTogether 8 40 2;
+  names-at = namesTogether 8 40 2 (siteA .names-at);
   links-of = siteA .links-of;
 }

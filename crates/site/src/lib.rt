@@ -173,8 +173,8 @@ fn target_fits(s: usize, t: usize, ends: &[u8]) -> bool
 }
 
 // Do the targets of the 32 slots from 32 * k on fit, by the functional link f? If all of them are none, one look tells.
-fn some_targets_fit(site: &[u8], f: usize, k: usize, ends: &[u8]) -> bool
-    requires { ⌜ (length (now site) ≡ siteBytes) × ((generalLinks ≤ f) × ((f < links) × ((k < 8) × (length (now ends) ≡ setBytes)))) ⌝ }
+fn targets_fit_from(site: &[u8], f: usize, k: usize, ends: &[u8]) -> bool
+    requires { ⌜ (length (now site) ≡ siteBytes) × ((generalLinks ≤ f) × ((f < links) × ((setBytes * k < setSlots) × (length (now ends) ≡ setBytes)))) ⌝ }
     ensures { λ r. ⌜ r ≡ all setBytes (λ j. targetInside (now (ends .entry)) (setBytes * k + j) (getD (now (site .entry)) (targetAt f (setBytes * k + j)) 0)) ⌝ }
 {
     let b = TARGETS_AT + SET_SLOTS * (f - GENERAL_LINKS) + SET_BYTES * k;
@@ -198,7 +198,7 @@ fn targets_fit(site: &[u8], f: usize, ends: &[u8]) -> bool
     ensures { λ r. ⌜ r ≡ all setSlots (λ s. targetInside (now (ends .entry)) s (getD (now (site .entry)) (targetAt f s) 0)) ⌝ }
 {
     for k in 0..SET_SLOTS / SET_BYTES {
-        if !some_targets_fit(site, f, k, ends) {
+        if !targets_fit_from(site, f, k, ends) {
             return false;
         }
     }

@@ -1,5 +1,4 @@
 -- A name's byte, or 0 where it is the slot.
-use mathlib.Core.Path.{sym, _∙_}
 use native.Mathlib.Omega.{arith}
 use borrow.Author.Needs.{needs}
 use Rattle.site.specs.Site.{siteOf}

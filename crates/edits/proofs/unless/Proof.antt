@@ -1,5 +1,4 @@
 -- By cases: the slots are the same, or not.
-use mathlib.Core.Path.{sym}
 use Rattle.finite.specs.Laws.Below.{eq-same, ne-same}
 use Rattle.edits.proofs.unless.Statement.{statement}
 use Rattle.edits.proofs.unless.Tie as tie

@@ -1,13 +1,13 @@
 -- Tests below a bound that is a sum, and loops that test 0, 1, .. and leave at the first that fails.
 use mathlib.Core.Path.{_≡_, refl, sym}
 use mathlib.Core.Bool.{Bool, true, false, _&&_, and-true}
-use Prim.Native.Nat.{ℕ, zero, suc, _+_, _≤_, _<_}
-use native.Mathlib.Nat.{add-zero, add-suc}
+use Prim.Native.Nat.{ℕ, zero, suc, _+_, _*_, _≤_, _<_}
+use native.Mathlib.Nat.{add-zero, add-suc, mul-suc}
 use native.Mathlib.Numerals.{add-one}
 use native.Mathlib.Omega.{arith}
 use Rattle.finite.specs.Tests.{all}
 use Rattle.finite.specs.Laws.Bools.{no-true, clash}
-use Rattle.finite.specs.Laws.Below.{all-out}
+use Rattle.finite.specs.Laws.Below.{all-in, all-out}
 
 and-swap : (a b c : Bool) → (a && (b && c)) ≡ (b && (a && c))
 and-swap true b c = refl
@@ -34,3 +34,11 @@ all-more f i h e = rw (add-one i, h, e)
 
 pub all-done : (n : ℕ) (f : ℕ → Bool) (i : ℕ) → all i f ≡ true → i ≤ n → n ≤ i → all n f ≡ true
 all-done n f i h a b = rw (let e : n ≡ i = omega arith in e) h
+
+-- the same with n tests at a time: after n more, and where not all of them pass
+module _ (n : ℕ) (f : ℕ → Bool) (k : ℕ) where
+  pub all-more-by : all (n * k) f ≡ true → all n (λ j. f (n * k + j)) ≡ true → all (n * (k + 1)) f ≡ true
+  all-more-by p q = rw (add-one k, mul-suc, all-add (n * k) n f, p, q)
+
+  pub all-not-by : (m : ℕ) → n * k + n ≤ m → all n (λ j. f (n * k + j)) ≡ false → all m f ≡ false
+  all-not-by m h q = no-true (λ p. clash (all-in n _ (λ j l. all-out m f p (n * k + j) (omega arith))) q)

@@ -1,9 +1,9 @@
 -- Names 0 to 47: what holds of every name below the limit, with the limit's number written out.
-use mathlib.Core.Path.{_≡_, refl, sym, _∙_, ap}
+use mathlib.Core.Path.{_≡_, refl, _∙_, ap}
 use mathlib.Core.Logic.{_≢_}
 use mathlib.Core.Bool.{true, false, not}
 use mathlib.Core.List.{List, [], _∷_}
-use Prim.Native.Nat.{ℕ, _/_, _≤_, _<_}
+use Prim.Native.Nat.{ℕ, _≤_, _<_}
 use native.Mathlib.Omega.{arith}
 use lib.ListN.{length, getD}
 use Rattle.finite.specs.Tests.{same, below, first, all}
@@ -12,30 +12,29 @@ use Rattle.finite.specs.Laws.Below.{same-eq, eq-same, ne-same, below-in, below-
 use Rattle.finite.specs.Laws.First.{first-is, none-start}
 use Rattle.bitset.specs.Set.{Is}
 use Rattle.limits.specs.Limits.{slots, names}
-use Rattle.verdict.specs.Verdict.{reasonOf, faultOf}
-use Rattle.verdict.specs.declared.Verdict.{Verdict}
 use Rattle.verdict.specs.declared.Verdict.the-variants.{Accepted, Refused}
 use Rattle.semantics.specs.Form.{closed, free, even, occ}
-use Rattle.semantics.specs.Holds.{Model, Holds}
+use Rattle.semantics.specs.Holds.{Env, Model, Holds, Distinguishes}
 use Rattle.semantics.specs.Bisimulation.{Bisimilar}
-use Rattle.semantics.specs.Table.{kindOf, atom, build, tree, trees, treeAt, formOf, leafFits, kindFits, nodeFits, nodesFit, evenTable}
-use Rattle.semantics.specs.Edit.{Edit, CN1, CN2, AP, DP, AT, DT1, DT2, AS, DS, legal}
+use Rattle.semantics.specs.Table.{kindOf, kindNo, atom, build, tree, trees, treeAt, formOf, leafFits, kindFits, nodeFits, nodesFit, evenTable, slotFree, ClosedTable}
+use Rattle.semantics.specs.Edit.{Edit, CN1, CN2, AP, DP, AT, DT1, DT2, AS, DS, functional, legal, sheetLegal}
+use Rattle.semantics.specs.Block.{rewriteSheet}
 use Rattle.semantics.specs.Laws.FixedPoint.{none}
 use Rattle.samples.specs.Site.{each}
 use Rattle.samples.specs.Rows.{tableName}
 use Rattle.site.specs.Layout.{siteBytes}
 use Rattle.site.specs.Site.{siteOf}
 use Rattle.site.specs.Refusal.{siteVerdict}
-use Rattle.site.specs.Laws.Valid.{site-valid}
+use Rattle.site.specs.Laws.Read.{place-is}
+use Rattle.site.specs.Laws.Valid.{wrong-length, site-valid}
 use Rattle.condition.specs.Bytes as condition
 use Rattle.condition.specs.Refusal.{firstUnfit, conditionVerdict}
 use Rattle.condition.specs.Laws.Bytes.{length-bytes, table-back}
 use Rattle.condition.specs.Laws.Verdict.{size-in, item-8}
 use Rattle.sheet.specs.Bytes as sheet
-use Rattle.sheet.specs.Refusal.{fitsAt, faulty, sheetVerdict}
-use Rattle.sheet.specs.Laws.Read.{edits-at, edits-back, bytes-length}
-use Rattle.sheet.specs.Laws.Fits.{fits-legal}
-use Rattle.sheet.specs.Laws.Accepted.{sized-in}
+use Rattle.sheet.specs.Bytes.{editsOf}
+use Rattle.sheet.specs.Refusal.{sheetVerdict}
+use Rattle.sheet.specs.Laws.Accepted.{sheet-accepted, one-refused}
 use Rattle.going.specs.Laws.Ranges.{legal-CN1, legal-CN2, legal-AP, legal-DP, legal-AT, legal-DT1, legal-DT2, legal-AS, legal-DS}
 use Rattle.classes.specs.Classes.{Classes}
 use Rattle.refusals.specs.Laws.Items.{buffer-in}
@@ -45,39 +44,40 @@ use Rattle.classes_entry.specs.Refusal.{classesVerdict}
 use Rattle.classes_entry.specs.Classing.{ClassesAfter}
 use Rattle.job_run.specs.Refusal.{piecesVerdict}
 use Rattle.job_entry.specs.Refusal.{jobVerdict}
-use Rattle.job_entry.specs.Laws.Refusal as job_entry
-use Rattle.desk.specs.Returned.{Returned}
-use Rattle.demands.specs.Demands.{ApplyCall, RewriteCall, ListCall, ClassCall, rewrittenTable, Runnable, Demand2}
+use Rattle.job_entry.specs.Laws.Refusal.{sized-in}
+use Rattle.demands.specs.Demands.{ApplyCall, RewriteCall, ListCall, ClassCall, rewrittenTable, Going, Runnable, Demand2, Demand3}
 use Rattle.demands.specs.Laws.Accepted.{classes-accepted}
-use Rattle.demands.specs.Laws.Demands.{demand-2}
-use Rattle.sample_bytes.specs.Names.{WrongLength, namesOf, nameBytes, Names}
+use Rattle.demands.specs.Laws.Demands.{demand-2, demand-3}
+use Rattle.sample_bytes.specs.Names.{SiteRefused, namesOf, everyOperand, nameBytes, Names}
+use Rattle.sample_bytes.specs.Laws.Refused.{not-listed, not-applied, not-classed, not-run}
 use Rattle.sample_bytes.specs.Laws.Judged.{table-accepted}
 
 -- ---- a site of another length
 
-refused-with : {due : Verdict} {After : Verdict → Type 0} {reason fault item w : ℕ} → due ≡ Refused item w → Returned due After reason fault
-    → (reason ≡ item) × (fault ≡ w)
-refused-with v r = (r .reason-is ∙ ap reasonOf v, r .fault-is ∙ ap faultOf v)
-
 module _ (site : List ℕ) (other : length site ≢ siteBytes) where
   item-3 : siteVerdict site ≡ Refused 3 0
-  unfolding siteVerdict
-  item-3 = rw (ne-same other)
+  item-3 = wrong-length site other
 
-  wrong-length : WrongLength site
+  site-refused : SiteRefused site 3
   unfolding listVerdict applyVerdict classesVerdict jobVerdict piecesVerdict
-  wrong-length = record {
-    listing = λ table c. refused-with (rw (buffer-in (c .set-size), buffer-in (c .work-size), item-3)) (c .returned);
-    applying = λ sheet c. refused-with (rw (buffer-in (c .result-size), item-3)) (c .returned);
-    classes = λ c. refused-with (rw (buffer-in (c .classes-size), item-3)) (c .returned);
-    job = λ file t e c. refused-with (rw (job_entry.sized-in (c .lent) (c .sized), t, e, item-3)) (c .returned);
+  site-refused = record {
+    listing = λ table c. not-listed c 3 0 (rw (buffer-in (c .set-size), buffer-in (c .work-size), item-3));
+    applying = λ sheet c. not-applied c 3 0 (rw (buffer-in (c .result-size), item-3));
+    classes = λ c. not-classed c 3 0 (rw (buffer-in (c .classes-size), item-3));
+    job = λ file t e c. not-run c 3 0 (omega arith) (rw (sized-in (c .lent) (c .sized), t, e, item-3));
   }
 
--- ---- the limit in conditions and edits
+-- ---- the limit in conditions
+
+closed-name : (n : ℕ) → n < names → ClosedTable (tableName n)
+unfolding tableName nodesFit nodeFits kindFits leafFits kindOf kindNo evenTable even occ treeAt trees tree build atom formOf closed free slotFree all same below
+closed-name n h = record { some = omega arith; fits = rw (below-in n names h); even-rule = refl; is-closed = refl; slot-free = refl }
 
 name-accepted : (n : ℕ) → n < names → conditionVerdict (nameBytes n) ≡ Accepted
-unfolding tableName nodesFit nodeFits kindFits leafFits kindOf evenTable even occ treeAt trees tree build atom formOf closed free all same below
-name-accepted n h = table-accepted (tableName n) (omega arith) (omega arith) (rw (below-in n names h)) refl refl
+unfolding tableName
+name-accepted n h =
+    let t = closed-name n h in
+    table-accepted (tableName n) (t .some) (omega arith) (t .fits) (t .even-rule) (t .is-closed)
 
 name-refused : (n : ℕ) → names ≤ n → conditionVerdict (nameBytes n) ≡ Refused 8 0
 unfolding firstUnfit tableName condition.nodeAt condition.bytesOf condition.nodeBytes nodeFits kindFits leafFits kindOf same below
@@ -88,6 +88,14 @@ name-refused n h =
     let w : firstUnfit S ≡ 0 = first-is _ _ 0 (omega arith) (none-start _) (ap not unfit) in
     let size = length-bytes (tableName n) in
     item-8 S (size-in (length S) (omega arith) (omega arith) (omega arith)) (rw (w, one)) ∙ ap (Refused 8) w
+
+-- ---- and in edits
+
+edits-accepted : (n : ℕ) → 0 < n → n < names → sheetVerdict (sheet.bytesOf (everyOperand n)) ≡ Accepted
+unfolding everyOperand sheetLegal legal functional slots below
+edits-accepted n p h =
+    let moved : n ≢ 0 = λ e. absurd (omega arith) in
+    sheet-accepted _ (everyOperand n) (record { bytes = refl; are-legal = rw (below-in n names h, ne-same moved); few = omega arith })
 
 both-below : {n1 n2 : ℕ} → (n1 < names) × (n2 < names) → each (λ n. below n names) (n1 ∷ n2 ∷ []) ≡ true
 unfolding each
@@ -109,23 +117,12 @@ legal-names (DT2 f n) l = one-below (legal-DT2 f n l .1)
 legal-names (AS n k) l = one-below (legal-AS n k l .0)
 legal-names (DS n) l = one-below (legal-DS n l)
 
--- a sheet of one edit that is not legal
-one-refused : (e : Edit) → legal e ≡ false → sheetVerdict (sheet.bytesOf (e ∷ [])) ≡ Refused 12 0
-unfolding sheetVerdict faulty
-one-refused e l =
-    let s = sheet.bytesOf (e ∷ []) in
-    let n : length s ≡ 4 = bytes-length (e ∷ []) in
-    let is-e : sheet.editAt s 0 ≡ e = sym (edits-at s 0 e (omega arith)) ∙ ap (λ es. getD es 0 e) (edits-back (e ∷ [])) in
-    let unfit : fitsAt s 0 ≡ false = no-true (λ f. clash (sym (ap legal is-e) ∙ fits-legal _ _ _ _ f) l) in
-    let w : first (length s / 4) (faulty s) ≡ 0 = first-is (length s / 4) (faulty s) 0 (omega arith) (none-start (faulty s)) (ap not unfit) in
-    rw (sized-in s (omega arith) (omega arith), w, below-in 0 (length s / 4) (omega arith))
-
 -- ---- the slot of a name is alone in its class
 
 module _ {M : Model} {p : List ℕ} (k : Classes M p) (n : ℕ) (h : n < names) (l : M .place n < slots) where
-  own-number : getD p (M .place n) 0 ≡ M .place n
+  named-number : getD p (M .place n) 0 ≡ M .place n
   unfolding Bisimilar
-  own-number =
+  named-number =
       let c = k .each (M .place n) l in
       c .bisimilar .1 .on-names n (M .place n) _ h l (c .is-slot) (c .bisimilar .2) .0 refl
 
@@ -133,7 +130,7 @@ module _ {M : Model} {p : List ℕ} (k : Classes M p) (n : ℕ) (h : n < names) 
   unfolding Bisimilar
   same-number s j e =
       let c = k .each s j in
-      c .bisimilar .1 .on-names n s _ h j (c .is-slot) (c .bisimilar .2) .1 (e ∙ own-number)
+      c .bisimilar .1 .on-names n s _ h j (c .is-slot) (c .bisimilar .2) .1 (e ∙ named-number)
 
 alone : (site : List ℕ) → siteVerdict site ≡ Accepted → (call : ClassCall site) (n s : ℕ) → n < names → s < slots
     → getD (call .classes′) s 0 ≡ getD (call .classes′) (siteOf site .place n) 0 → s ≡ siteOf site .place n
@@ -143,30 +140,42 @@ alone site a call n s h j =
     let v = classes-accepted (length (call .classes)) site (record { classes-size = call .classes-size; site-accepted = a }) in
     same-number (rw v at (call .returned .left) .0) n h (valid .small _ (valid .named n)) s j
 
--- ---- the condition that is a name
+-- ---- the condition that is a name, today and after
 
 found : (site sheet : List ℕ) (n : ℕ) → Runnable site (nameBytes n) sheet
     → (applied : ApplyCall site sheet) (rewrote : RewriteCall (nameBytes n) sheet)
     → (today : ListCall site (rewrittenTable rewrote)) (after : ListCall (applied .result′) (nameBytes n))
-    → Is (today .set′) (λ s. same s (siteOf (applied .result′) .place n))
+    → (today .set′ ≡ after .set′) × Is (today .set′) (λ s. same s (siteOf (applied .result′) .place n))
 unfolding Demand2 slots formOf treeAt trees tree build atom kindOf tableName Holds
 found site sheet n j a w t u =
     let d = demand-2 site (nameBytes n) sheet j a w t u .agree in
-    let after = rw (table-back (tableName n)) at (d .after-listed) in
-    λ s h. rw (d .same-set) (both
-    (λ p. eq-same (after .listed (λ v. none) s h .0 p))
-    (λ p. after .listed (λ v. none) s h .1 (same-eq p)))
+    let after = rw (table-back (tableName n)) at (d .after-listed) in (
+      d .same-set,
+      λ s h. rw (d .same-set) (both
+          (λ p. eq-same (after .listed (λ v. none) s h .0 p))
+          (λ p. after .listed (λ v. none) s h .1 (same-eq p))),
+    )
+
+alike : (site sheet : List ℕ) (n : ℕ) → n < names → Going site sheet
+    → (applied : ApplyCall site sheet) (numbered : ClassCall (applied .result′)) (ρ : Env) (s t : ℕ) → s < slots → t < slots
+    → getD (numbered .classes′) s 0 ≡ getD (numbered .classes′) t 0
+    → ¬ Distinguishes (siteOf site) ρ (formOf (rewriteSheet (editsOf sheet) (tableName n))) s t
+unfolding Demand3
+alike site sheet n l g a c ρ s t h k e d =
+    demand-3 site sheet g a c .same-numbers ρ s t h k .0 e (record { table = tableName n; is-closed = closed-name n l; tells = d })
 
 pub forty-eight : Names
 forty-eight = record {
-  names-at = refl;
+  names-at = λ S n. place-is S n;
   targets-at = refl;
   rows-at = refl;
   site-length = refl;
-  old-site = λ site e. wrong-length site (λ q. absurd (omega arith));
-  named = name-accepted;
-  no-such-name = name-refused;
-  no-such-operand = λ e p. one-refused e (no-true (λ l. clash (legal-names e l) p));
+  old-site = λ site e. site-refused site (λ q. absurd (omega arith));
+  node-accepted = name-accepted;
+  node-refused = name-refused;
+  edits-accepted = edits-accepted;
+  edit-refused = λ e p. one-refused e (no-true (λ l. clash (legal-names e l) p));
   alone = alone;
-  found = found;
+  found = λ site sheet n h. found site sheet n;
+  alike = alike;
 }

@@ -1,9 +1,11 @@
 -- A call whose inputs meet an item is refused with it.
 use mathlib.Core.Path.{_≡_, _∙_, ap}
 use mathlib.Core.List.{List}
-use Prim.Native.Nat.{ℕ}
+use Prim.Native.Nat.{ℕ, _<_}
+use native.Mathlib.Omega.{arith}
 use lib.ListN.{length, replicate}
 use Rattle.verdict.specs.Verdict.{reasonOf, faultOf}
+use Rattle.verdict.specs.declared.Verdict.{Verdict}
 use Rattle.verdict.specs.declared.Verdict.the-variants.{Refused}
 use Rattle.list_entry.specs.Refusal.{listVerdict}
 use Rattle.list_entry.specs.Listing.{SetAfter}
@@ -11,16 +13,26 @@ use Rattle.apply_entry.specs.Refusal.{applyVerdict}
 use Rattle.apply_entry.specs.Applying.{SiteAfter}
 use Rattle.rewrite_entry.specs.Refusal.{rewriteVerdict}
 use Rattle.rewriting.specs.Rewriting.{TableAfter}
-use Rattle.demands.specs.Demands.{ApplyCall, RewriteCall, ListCall}
-use Rattle.sample_bytes.specs.Refused.{NotApplied, NotRewritten, NotListed}
+use Rattle.classes_entry.specs.Refusal.{classesVerdict}
+use Rattle.classes_entry.specs.Classing.{ClassesAfter}
+use Rattle.job_entry.specs.Refusal.{jobVerdict}
+use Rattle.desk.specs.Returned.{Returned}
+use Rattle.demands.specs.Demand1.{Demand1Job}
+use Rattle.demands.specs.Demands.{ApplyCall, RewriteCall, ListCall, ClassCall}
+use Rattle.demands.specs.Job.{JobCall}
+use Rattle.demands.specs.Laws.Demand1.{demand-1}
+use Rattle.sample_bytes.specs.Refused.{RefusedWith, NotApplied, NotRewritten, NotListed, NotClassed, NotRun}
+
+refused-with : {due : Verdict} {After : Verdict → Type 0} {reason fault item w : ℕ} → due ≡ Refused item w → Returned due After reason fault
+    → RefusedWith reason fault item w
+refused-with v r = record { reason-is = r .reason-is ∙ ap reasonOf v; fault-is = r .fault-is ∙ ap faultOf v }
 
 pub not-applied : {site sheet : List ℕ} (call : ApplyCall site sheet) (item w : ℕ) → applyVerdict (length (call .result)) site sheet ≡ Refused item w
     → NotApplied call item w
 unfolding SiteAfter
 not-applied call item w v =
     record {
-      reason-is = call .returned .reason-is ∙ ap reasonOf v;
-      fault-is = call .returned .fault-is ∙ ap faultOf v;
+      refused = refused-with v (call .returned);
       zeros = (rw v at (call .returned .left)) ∙ ap (λ (n : ℕ). replicate n 0) (call .result-size);
     }
 
@@ -30,8 +42,7 @@ unfolding TableAfter
 not-rewritten call item w v =
     let z = rw v at (call .returned .left) in
     record {
-      reason-is = call .returned .reason-is ∙ ap reasonOf v;
-      fault-is = call .returned .fault-is ∙ ap faultOf v;
+      refused = refused-with v (call .returned);
       nodes-none = z .0;
       zeros = z .1 ∙ ap (λ (n : ℕ). replicate n 0) (call .result-size);
     }
@@ -42,8 +53,29 @@ unfolding SetAfter
 not-listed call item w v =
     let z = (rw v at (call .returned .left)) .set-after in
     record {
-      reason-is = call .returned .reason-is ∙ ap reasonOf v;
-      fault-is = call .returned .fault-is ∙ ap faultOf v;
+      refused = refused-with v (call .returned);
       count-none = z .1;
       zeros = z .0 ∙ ap (λ (n : ℕ). replicate n 0) (call .set-size);
+    }
+
+pub not-classed : {site : List ℕ} (call : ClassCall site) (item w : ℕ) → classesVerdict (length (call .classes)) site ≡ Refused item w
+    → NotClassed call item w
+unfolding ClassesAfter
+not-classed call item w v =
+    let z = rw v at (call .returned .left) in
+    record {
+      refused = refused-with v (call .returned);
+      count-none = z .1;
+      zeros = z .0 ∙ ap (λ (n : ℕ). replicate n 0) (call .classes-size);
+    }
+
+-- the zeros of a job are those of demand 1
+pub not-run : {file : List ℕ} (call : JobCall file) (item w : ℕ) → 0 < item → jobVerdict (call .lent) file ≡ Refused item w → NotRun call item w
+unfolding Demand1Job
+not-run {file} call item w h v =
+    let r : RefusedWith (call .reason) (call .fault) item w = refused-with v (call .returned) in
+    record {
+      refused = r;
+      zeros = demand-1 .job file (call .lent) (call .lent′) (call .reason) (call .fault) (call .after) (call .today) (call .nodes) (call .classes)
+          (call .returned) .sent-back (λ e. absurd (omega (arith, r .reason-is)));
     }

@@ -4,19 +4,19 @@ use mathlib.Core.List.{List, [], _∷_}
 use mathlib.Core.Bool.{true, false, not}
 use Prim.Native.Nat.{ℕ, zero, suc, _*_, _/_, _%_, _≤_, _<_}
 use native.Mathlib.Omega.{arith}
-use lib.ListN.{length}
+use lib.ListN.{length, getD}
 use borrow.Author.Tests.{not-false}
 use lib.Seq.{drop-at}
 use Rattle.finite.specs.Tests.{same, below, any, first}
-use Rattle.finite.specs.Laws.Bools.{either, look, no-true, and-in, and-l, and-r, not-in, not-out}
-use Rattle.finite.specs.Laws.Below.{same-eq, eq-same, below-out, below-not, not-below, any-none, none-any}
-use Rattle.finite.specs.Laws.First.{first-none, first-past}
+use Rattle.finite.specs.Laws.Bools.{either, look, clash, no-true, and-in, and-l, and-r, not-in, not-out}
+use Rattle.finite.specs.Laws.Below.{same-eq, eq-same, below-in, below-out, below-not, not-below, any-none, none-any}
+use Rattle.finite.specs.Laws.First.{first-is, first-none, first-past, none-start}
 use Rattle.semantics.specs.Edit.{Edit, legal, sheetLegal}
 use Rattle.verdict.specs.Verdict.{reasonOf}
-use Rattle.verdict.specs.declared.Verdict.the-variants.{Accepted}
+use Rattle.verdict.specs.declared.Verdict.the-variants.{Accepted, Refused}
 use Rattle.sheet.specs.Bytes.{editAt, editsOf, editBytes, bytesOf}
 use Rattle.sheet.specs.Refusal.{editFits, fitsAt, faulty, sized, sheetVerdict}
-use Rattle.sheet.specs.Laws.Read.{four-next, edits-length, four-bytes, bytes-length}
+use Rattle.sheet.specs.Laws.Read.{four-next, edits-length, edits-at, edits-back, four-bytes, bytes-length}
 use Rattle.sheet.specs.Laws.Fits.{fits-legal, fits-bytes, bytes-fit}
 
 -- the bytes of at most 64 legal edits
@@ -98,6 +98,17 @@ sheet-accepted s es h =
     ap not g
     in
     verdict-in s (sized-in s (omega arith) (omega (arith, h .few))) (none-any (length s / 4) (faulty s) f)
+
+-- a sheet of one edit that is not legal
+pub one-refused : (e : Edit) → legal e ≡ false → sheetVerdict (bytesOf (e ∷ [])) ≡ Refused 12 0
+unfolding sheetVerdict faulty
+one-refused e l =
+    let s = bytesOf (e ∷ []) in
+    let n : length s ≡ 4 = bytes-length (e ∷ []) in
+    let is-e : editAt s 0 ≡ e = sym (edits-at s 0 e (omega arith)) ∙ ap (λ es. getD es 0 e) (edits-back (e ∷ [])) in
+    let unfit : fitsAt s 0 ≡ false = no-true (λ f. clash (sym (ap legal is-e) ∙ fits-legal _ _ _ _ f) l) in
+    let w : first (length s / 4) (faulty s) ≡ 0 = first-is (length s / 4) (faulty s) 0 (omega arith) (none-start (faulty s)) (ap not unfit) in
+    rw (sized-in s (omega arith) (omega arith), w, below-in 0 (length s / 4) (omega arith))
 
 pub accepted-at : (s : List ℕ) → sheetVerdict s ≡ Accepted → (k : ℕ) → k < length s / 4 → legal (editAt s k) ≡ true
 accepted-at s p k h = fits-legal _ _ _ _ (fits-each s (verdict-out s p .1) k h)

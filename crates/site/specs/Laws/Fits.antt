@@ -9,9 +9,9 @@ use native.Mathlib.Omega.{arith}
 use lib.ListN.{length, getD, take, drop, replicate}
 use borrow.Author.Tests.{not-true}
 use Rattle.finite.specs.Tests.{same, all, bit}
-use Rattle.finite.specs.Laws.Bools.{either, look, clash, no-true, or-out, or-l, or-r, imp-and}
+use Rattle.finite.specs.Laws.Bools.{either, look, clash, or-out, or-l, or-r, imp-and}
 use Rattle.finite.specs.Laws.Below.{equal?, same-refl, eq-same, ne-same, all-cong, all-in, all-out}
-use Rattle.finite.specs.Laws.Loops.{all-add, all-not}
+use Rattle.finite.specs.Laws.Loops.{all-not}
 use Rattle.finite.specs.Laws.Weights.{no-bits}
 use Rattle.finite.specs.Laws.Dual.{none-all}
 use Rattle.bitset.specs.Set.{setBytes, setSlots, has, Is, removed}
@@ -79,34 +79,22 @@ part-inside S A b k e = all-cong setSlots _ _ (λ t h. rw (e, has-part S b setBy
 pub row-none : (S E : List ℕ) (b s : ℕ) → has E s ≡ false → inside S b (replicate setBytes 0) ≡ rowInside S b E s
 row-none S E b s h = all-cong setSlots _ _ (λ t ht. rw (h, has-empty t ht))
 
--- 32 targets that are all none fit; and what holds of 32 at a time holds of all
-module _ (S E : List ℕ) (f k : ℕ) where
-  abbrev fits : ℕ → Bool
-  fits s = targetInside E s (getD S (targetAt f s) 0)
+-- 32 bytes that are an empty set are 0; targets that are all none fit
+no-bytes : (S : List ℕ) (b j : ℕ) → j < setBytes → getD S (b + j) 0 < 256 → inside S b (replicate setBytes 0) ≡ true → getD S (b + j) 0 ≡ 0
+no-bytes S b j h small p = no-bits 8 _ small clear
+  where
+    clear : (i : ℕ) → i < 8 → bit (getD S (b + j) 0) i ≡ false
+    clear i l =
+        let t : (b + j) * 8 + i ≡ b * 8 + (j * 8 + i) = omega arith in
+        let q = or-out (not (has S (b * 8 + (j * 8 + i)))) _ (all-out setSlots _ p (j * 8 + i) (omega arith)) in
+        sym (has-byte S (b + j) i l) ∙ ap (has S) t ∙ either q (λ n. not-true _ n) (λ o. clash o (has-empty (j * 8 + i) (omega arith)))
 
-  pub none-fit : (b : ℕ) → b ≡ targetAt f (setBytes * k) → ((i : ℕ) → getD S i 0 < 256) → inside S b (replicate setBytes 0) ≡ true
-      → all setBytes (λ j. fits (setBytes * k + j)) ≡ true
-  none-fit b e small p = all-in setBytes _ (λ j h. or-l _ _ (eq-same (zero j h)))
-    where
-      clear : (j i : ℕ) → j < setBytes → i < 8 → bit (getD S (b + j) 0) i ≡ false
-      clear j i h l =
-          let t : (b + j) * 8 + i ≡ b * 8 + (j * 8 + i) = omega arith in
-          let q = or-out (not (has S (b * 8 + (j * 8 + i)))) _ (all-out setSlots _ p (j * 8 + i) (omega arith)) in
-          sym (has-byte S (b + j) i l) ∙ ap (has S) t ∙ either q (λ n. not-true _ n) (λ o. clash o (has-empty (j * 8 + i) (omega arith)))
-
-      zero : (j : ℕ) → j < setBytes → getD S (targetAt f (setBytes * k + j)) 0 ≡ 0
-      zero j h =
-          let at : targetAt f (setBytes * k + j) ≡ b + j = omega (arith, e) in
-          ap (λ i. getD S i 0) at ∙ no-bits 8 _ (small (b + j)) (λ i l. clear j i h l)
-
-  pub fit-more : all (setBytes * k) fits ≡ true → all setBytes (λ j. fits (setBytes * k + j)) ≡ true → all (setBytes * (k + 1)) fits ≡ true
-  fit-more p q =
-      let n : setBytes * (k + 1) ≡ setBytes * k + setBytes = omega arith in
-      rw (n, all-add (setBytes * k) setBytes fits, p, q)
-
-  pub fit-not : k < 8 → all setBytes (λ j. fits (setBytes * k + j)) ≡ false → all setSlots fits ≡ false
-  fit-not h q =
-      no-true (λ p. clash (all-in setBytes _ (λ j l. all-out setSlots fits p (setBytes * k + j) (omega arith))) q)
+pub none-fit : (S E : List ℕ) (f k b : ℕ) → b ≡ targetAt f (setBytes * k) → ((i : ℕ) → getD S i 0 < 256) → inside S b (replicate setBytes 0) ≡ true
+    → all setBytes (λ j. targetInside E (setBytes * k + j) (getD S (targetAt f (setBytes * k + j)) 0)) ≡ true
+none-fit S E f k b e small p =
+    all-in setBytes _ (λ j h.
+    let at : targetAt f (setBytes * k + j) ≡ b + j = omega (arith, e) in
+    or-l _ _ (eq-same (ap (λ i. getD S i 0) at ∙ no-bytes S b j h (small (b + j)) p)))
 
 touches-all : (M : Model) (m : ℕ)
     → not (touches M m) ≡ all slots (λ s. all slots (λ t. not (M .link m s t) || (not (barred M s) && not (barred M t))))

@@ -44,6 +44,10 @@ accepted-out S e =
     chain true false false true p = refused p
     chain true false false false p = (refl, (refl, (refl, refl)))
 
+pub wrong-length : (S : List ℕ) → length S ≢ siteBytes → siteVerdict S ≡ Refused 3 0
+unfolding siteVerdict
+wrong-length S h = rw (ne-same h)
+
 pub accepted-in : (S : List ℕ) → length S ≡ siteBytes → Passes (siteOf S) → siteVerdict S ≡ Accepted
 unfolding siteVerdict
 accepted-in S l h = rw (eq-same l, h .names-pass, h .labels-pass, h .links-pass)

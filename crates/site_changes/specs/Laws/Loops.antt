@@ -1,19 +1,19 @@
 -- The loops that take a slot's labels, names and links away: at the start, after one more turn, and at the end.
-use mathlib.Core.Path.{_≡_, refl, sym, _∙_, ap, ap₂}
+use mathlib.Core.Path.{_≡_, refl, sym, _∙_, ap}
 use mathlib.Core.Bool.{Bool, true, false, not, _&&_, _||_, cond, and-true}
 use mathlib.Core.List.{List}
 use Prim.Native.Nat.{ℕ, _+_, _≤_, _<_}
 use native.Mathlib.Omega.{arith}
 use native.Mathlib.Decide.{decLt}
 use Rattle.finite.specs.Tests.{same, below}
-use Rattle.finite.specs.Laws.Below.{equal?, same-eq, eq-same, ne-same, below-in, below-not}
-use Rattle.finite.specs.Laws.Bools.{either, look, no-true, and-l, and-r}
+use Rattle.finite.specs.Laws.Below.{equal?, eq-same, ne-same, below-in, below-not}
+use Rattle.finite.specs.Laws.Bools.{either, look}
 use Rattle.limits.specs.Limits.{slots, labels, names, links}
 use Rattle.semantics.specs.Holds.{Model}
 use Rattle.site.specs.Site.{siteOf}
 use Rattle.site.specs.Laws.Read.{marked-in, place-out, link-in}
 use Rattle.site_changes.specs.Change.{withName, withoutLabel, withoutName, withoutLink, withoutTarget, withoutLinksOf, withoutLabels, withoutNames, withoutLinks, labelsTo, namesTo, columnTo, linksTo}
-use Rattle.site_changes.specs.Laws.Cases.{cond-yes, cond-no, cond-same, guard, below-more, more-cond, more-and, more-place, more-pairs, all-pairs}
+use Rattle.site_changes.specs.Laws.Cases.{cond-no, cond-same, guard, below-more, more-cond, more-and, more-place, more-pairs, all-pairs}
 use Rattle.site_changes.specs.Laws.Areas.{same-fields}
 
 none-below : (q : ℕ) → below q 0 ≡ false

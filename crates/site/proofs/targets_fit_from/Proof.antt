@@ -12,8 +12,8 @@ use Rattle.bitset.specs.Set.{setBytes}
 use Rattle.site.specs.Layout.{targetAt}
 use Rattle.site.specs.Inside.{targetInside}
 use Rattle.site.specs.Laws.Fits.{none-fit}
-use Rattle.site.proofs.some_targets_fit.Statement.{statement}
-use Rattle.site.proofs.some_targets_fit.Tie as tie
+use Rattle.site.proofs.targets_fit_from.Statement.{statement}
+use Rattle.site.proofs.targets_fit_from.Tie as tie
 
 abbrev Inv-loop : tie.InvT-loop
 Inv-loop site f k ends b j₀ j =
@@ -90,8 +90,8 @@ loop-again c =
 returns-3 : tie.Need-returns-3 Inv-loop μ-loop
 returns-3 c = sym (all-done setBytes _ _ (c .before .loop .inv .1) (omega arith) (omega arith))
 
-pub some-targets-fit-spec : {M : Type 1} → statement M
-some-targets-fit-spec =
+pub targets-fit-from-spec : {M : Type 1} → statement M
+targets-fit-from-spec =
     tie.close
     (tie.spec
     Inv-loop
