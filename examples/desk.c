@@ -171,6 +171,24 @@ static void check_classes(void)
     check("absent slots 6", classes[6] == 6 && classes[255] == 6 && r.count == 6);
 }
 
+/* A with names 8 to 47 at slot 2 too. The last of them moves alone; when the slot goes, all of them go to nil. */
+static void check_names(void)
+{
+    enum { LAST = DESK_NAME_COUNT - 1, BYTES_FOR_16 = DESK_SITE_BYTES - (DESK_NAME_COUNT - 16) };
+    static const uint8_t last[] = {3, LAST, 0, 0, 0, 0}, cn1[] = {0, LAST, 2, 0}, ds[] = {8, LAST, 0, 0};
+    uint8_t site[DESK_SITE_BYTES];
+    memcpy(site, site_a, sizeof site);
+    memset(site + DESK_NAME_AT(8), 2, DESK_NAME_COUNT - 8);
+    struct desk_applied r = desk_apply(site, sizeof site, cn1, sizeof cn1, result, sizeof result);
+    check("A with names 8 to 47 at 2, CN1 47 2: name 47 at 3, name 46 at 2",
+          r.reason == DESK_OK && result[DESK_NAME_AT(LAST)] == 3 && result[DESK_NAME_AT(LAST - 1)] == 2);
+    check("condition \"name 47\" lists {3}", lists(result, last, sizeof last, S3));
+    r = desk_apply(site, sizeof site, ds, sizeof ds, result, sizeof result);
+    check("DS 47: names 8 and 47 at 0", r.reason == DESK_OK && result[DESK_NAME_AT(8)] == 0 && result[DESK_NAME_AT(LAST)] == 0);
+    r = desk_apply(site, BYTES_FOR_16, ds, sizeof ds, result, sizeof result);
+    check("34,352 bytes, a site for 16 names: refused, 3", r.reason == DESK_SITE_LENGTH && r.where == 0);
+}
+
 /* ---- the job */
 
 static void put_number(uint8_t *at, uint32_t number)
@@ -207,6 +225,7 @@ int main(void)
     check_sheets();
     check_through();
     check_classes();
+    check_names();
     check_job();
     return differences != 0;
 }

@@ -110,7 +110,7 @@ static void check_numbers(const char *function, const void *one, const void *oth
 enum { LIST, APPLY, REWRITE, CLASSES, JOB, THROUGH, ENTRIES };
 enum { BUFFERS = 12 };
 enum { AT_NIL, ALONE, SHARED, PLACES }; /* where a name is: at nil, at a slot of its own, with other names */
-enum { HIGH = 16 };                     /* the first name whose number no label and no variable has */
+enum { HIGH = LABELS };                 /* the first name whose number no label has, nor a variable: there are as many */
 
 static struct {
     unsigned long reasons[ENTRIES][REASONS];
@@ -155,6 +155,7 @@ static void meet_edits(unsigned long *operations, size_t count)
         operations[sheet.at[DESK_EDIT_BYTES * k]]++;
 }
 
+/* As the oracle's own table of operands has it. */
 static bool is_name(int operation, int operand)
 {
     return operands[operation][operand] == 'n' || operands[operation][operand] == 'N';
@@ -813,14 +814,14 @@ static void build_names(int kind, int first)
         add_node(kind, 0, i == 1 ? 0 : count + i - 2, i);
 }
 
-/* A condition that each operation rewrites: a name and name 1, label 1, here, and link 4 both ways. */
-static void build_probe(int name)
+/* A condition that each operation rewrites: a name and name 1, label 1, here, and a link both ways. */
+static void build_probe(int name, int link)
 {
     build_name(name);
     add_node(LABEL, 1, 0, 0);
     add_node(HERE, 0, 0, 0);
-    add_node(DIAMOND, GENERAL, 0, 0);
-    add_node(BOX, GENERAL + LINKS, 1, 0);
+    add_node(DIAMOND, link, 0, 0);
+    add_node(BOX, link + LINKS, 1, 0);
     add_node(AND, 0, 2, 4);
     add_node(OR, 0, 3, 5);
     add_node(OR, 0, 0, 6);
@@ -834,12 +835,13 @@ static int fitting(char kind)
     return kind == '-' ? 0 : kind == 'm' || kind == 'f' ? GENERAL : 1;
 }
 
-/* A sheet whose second edit has this operand; its others fit. */
+/* A sheet whose second edit has this operand; its others fit. What is expected here is what the oracle believes, by its table of operands; the
+ * scripts in Python have a table of their own. */
 static void try_operand(int operation, int operand, int value)
 {
     const char *kinds = operands[operation];
     const bool fits = value < NAMES && (value > 0 || kinds[operand] == 'n');
-    build_probe(value < NAMES ? value : 0);
+    build_probe(value < NAMES ? value : 0, GENERAL);
     build_sheet(DT2, 4, 1, 0);
     add_edits(1, operation, fitting(kinds[0]), fitting(kinds[1]), fitting(kinds[2]));
     sheet.at[DESK_EDIT_BYTES + 1 + operand] = (uint8_t)value;
@@ -859,19 +861,29 @@ static void try_operands(void)
             try_operand(k / 3, k % 3, value);
 }
 
-/* Each name as the start and as the end of a link that is there and goes. */
-static void try_link_ends(void)
+/* A link between names that is there goes, and comes back. In the byte `at` it stands alone. */
+static void try_link(int link, int from, int to, int at)
 {
     static uint8_t result[DESK_SITE_BYTES];
-    build_spread();
-    for (int n = 1; n < NAMES; n++) {
-        const int f = GENERAL + n % FUNCTIONAL, at = target_at(f, place(n));
-        build_probe(n);
-        build_sheet(DT1, f, n, two_behind(n));
+    build_probe(from, link);
+    build_sheet(DT1, link, from, to);
+    for (int back = 0; back <= 1; back++) {
+        add_edits(back, AT, link, from, to);
         build_file();
         desk_apply(site.at, site.length, sheet.at, sheet.length, result, sizeof result);
-        expect(site.at[at] == place(two_behind(n)) && result[at] == 0, "a link between names goes");
+        expect(site.at[at] != 0 && (back ? memcmp(result, site.at, sizeof result) == 0 : result[at] == 0), "a link that goes, and comes back");
         try_all();
+    }
+}
+
+/* Each name as the start and as the end of a general and of a functional link. */
+static void try_link_ends(void)
+{
+    build_spread();
+    for (int n = 1; n < NAMES; n++) {
+        const int general = n % GENERAL, functional = GENERAL + n % FUNCTIONAL, to = two_behind(n);
+        try_link(general, n, to, row_at(general, place(n)) + place(to) / 8);
+        try_link(functional, n, to, target_at(functional, place(n)));
     }
 }
 
@@ -977,7 +989,7 @@ static void try_twins(void)
         expect(r.reason == DESK_OK && r.count == 7 && classes[4] == 4 && classes[5] == 5 && classes[6] == 6, "two slots apart by a name");
         build_name(n);
         expect_list(DESK_OK, 1, "the one of two slots that has the name");
-        build_probe(n);
+        build_probe(n, GENERAL);
         build_sheet(CN1, n, 0, 0);
         build_file();
         try_all();
@@ -1059,6 +1071,8 @@ static void run_known_answers(void)
 enum { ENOUGH = 20000 };
 
 #define ALL(n) ((1u << (n)) - 1)
+
+_Static_assert(NAMES == 3 * 16, "three rows of 16 names each have every name");
 
 static const struct row {
     const char *name;

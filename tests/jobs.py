@@ -189,8 +189,6 @@ def refusals():
     yield A + b"\0", R, DT2
     yield with_bytes(A, (0, 14)), R, DT2
     yield with_bytes(A, (NAMES_AT, 1)), R, DT2
-    for n in (5, *HIGH):
-        yield with_bytes(A, (NAMES_AT + n, 9)), R, DT2
     yield with_bytes(A, (LABELS_AT + 1, 1)), R, DT2
     yield with_bytes(A, (target_at(4, 1), 9)), R, DT2
     yield with_bytes(A, (row_at(0, 1), 1)), R, DT2
@@ -199,8 +197,6 @@ def refusals():
     yield A, R[:-4] + pieces.table((13, 0, 0, 0))[:4], DT2
     yield A, R + pieces.table((13, 0, 0, 0), (14, 0, 0, 0)), DT2
     yield A, R + pieces.table((5, 0, 5, 0)), DT2
-    for kind in (2, 3, 4, 10, 11):
-        yield A, R + pieces.table((kind, pieces.PARAMS[kind], 4 if kind in pieces.UNARY else 0, 0)), DT2
     yield A, pieces.table((0, 0, 0, 0)) * 300 + pieces.table((6, 0, 299, 300)), DT2
     yield A, ODD, DT2
     yield A, R + pieces.table((0, 0, 0, 0)) * 300 + pieces.table((4, 1, 0, 0), (5, 0, 305, 0), (11, 1, 306, 0), (10, 1, 306, 0)), DT2
@@ -214,10 +210,6 @@ def refusals():
     yield A, R, DT2 * (EDITS - 1) + sheet((6, 3, 1))
     yield A, R, DT2 + sheet((7, 0, 9), (7, 0, 9))
     yield A, R, sheet((0, 1, 2, 1))
-    for op, at in pieces.NAME_OPERANDS:
-        yield A, R, DT2 + sheet(pieces.with_operand(op, at, NAMES))
-    for op in (2, 3):
-        yield A, R, sheet((op, HIGH[0], LABELS))
     yield A, R, sheet((8, 0))
     yield A, R, sheet((8, 1), (8, 1))
     yield A, R, sheet((7, 1, 9), (7, 1, 9), (8, 0))
@@ -226,6 +218,18 @@ def refusals():
     yield A, R, sheet(*DOUBLE * 9)
     yield A, FULL, sheet((2, 1, 0))
     yield A, FULL, sheet((3, 1, 0), (0, 1, 2))
+
+
+def limits():
+    """Item 4 for each high name, and one more; items 8 and 12 for the number behind the last name, label or variable."""
+    for n in (5, *HIGH):
+        yield with_bytes(A, (NAMES_AT + n, 9)), R, DT2
+    for kind in (2, 3, 4, 10, 11):
+        yield A, R + pieces.table((kind, pieces.PARAMS[kind], 4 if kind in pieces.UNARY else 0, 0)), DT2
+    for op, at in pieces.NAME_OPERANDS:
+        yield A, R, DT2 + sheet(pieces.with_operand(op, at, NAMES))
+    for op in (2, 3):
+        yield A, R, sheet((op, HIGH[0], LABELS))
 
 
 def collisions():
@@ -322,7 +326,7 @@ def cases(rng):
     yield J
     yield largest()
     yield from files()
-    for make in (by_hand, refusals, collisions, classing, many_names):
+    for make in (by_hand, refusals, limits, collisions, classing, many_names):
         for three in make():
             yield job(*three)
     for _ in range(60):

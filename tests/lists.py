@@ -139,7 +139,8 @@ def random_condition(rng):
         for i in range(len(nodes), len(nodes) + rng.randrange(3, 25)):
             kind = rng.choice((5, 6, 6, 7, 8, 8, 8, 9, 9, 10, 11, 10, 11))
             child = lambda: rng.choice((i - 1, rng.randrange(i)))
-            nodes.append((kind, rng.randrange(3) if kind in (10, 11) else rng.randrange(WAYS) if kind in (8, 9) else 0, child(), child() if kind in (6, 7) else 0))
+            param = rng.randrange(3) if kind in (10, 11) else rng.randrange(WAYS) if kind in (8, 9) else 0
+            nodes.append((kind, param, child(), child() if kind in (6, 7) else 0))
         for v in range(3):
             nodes.append((rng.choice((10, 11)), v, len(nodes) - 1, 0))
         d = pieces.table(*nodes)
@@ -159,7 +160,9 @@ def by_hand():
     # the same with a second loop around a label: on a ring, {} against {2, 3} without a restart
     ring = pieces.site_a()
     ring[target_at(4, 1)] = 3
-    yield ring, t((4, 0, 0, 0), (2, 0, 0, 0), (7, 0, 0, 1), (4, 1, 0, 0), (8, 4, 3, 0), (6, 0, 2, 4), (10, 1, 5, 0), (5, 0, 1, 0), (7, 0, 6, 7), (11, 0, 8, 0))
+    yield ring, t(
+        (4, 0, 0, 0), (2, 0, 0, 0), (7, 0, 0, 1), (4, 1, 0, 0), (8, 4, 3, 0), (6, 0, 2, 4), (10, 1, 5, 0), (5, 0, 1, 0), (7, 0, 6, 7), (11, 0, 8, 0),
+    )
     # a box where no link leaves
     yield a, t((0, 0, 0, 0), (5, 0, 0, 0), (9, 4, 1, 0))
     # as many paths as 2 to the power 1,999; and pairs of `and` and diamond over shared children

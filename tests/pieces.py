@@ -256,25 +256,37 @@ def full_table(kind):
 R = table((2, 0, 0, 0), (4, 0, 0, 0), (8, 4, 1, 0), (6, 0, 0, 2), (10, 0, 3, 0))
 
 
-def sites(rng):
-    yield site_a()
-    for n in (0, SITE_BYTES - 1, SITE_BYTES + 1):
-        yield (site_a() + b"\0")[:n]
+def site_with(at, value):
+    """Site A with this byte."""
+    d = site_a()
+    d[at] = value
+    return d
+
+
+def sites_of_names():
+    """Sites with many names, each also as it is with 16 names; item 4 for each high name; and the last name at a slot that is there."""
     for d in (spread_site(), crowded_site(), twin_site(NAMES - 1)):
         yield d
         yield old_site(d)
     yield old_site(site_a())
+    for n in HIGH:
+        yield site_with(NAMES_AT + n, 4)
+    yield site_with(TARGETS_AT - 1, 3)
+
+
+def sites(rng):
+    yield site_a()
+    for n in (0, SITE_BYTES - 1, SITE_BYTES + 1):
+        yield (site_a() + b"\0")[:n]
+    yield from sites_of_names()
     for at, value in (
-        *((NAMES_AT + n, 4) for n in HIGH), (TARGETS_AT - 1, 3),
         (0, 14), (0, 0), (NAMES_AT, 1), (NAMES_AT + 1, 4), (NAMES_AT + NAMES - 1, 255),
         (NAMES_AT - 1, 128), (LABELS_AT, 3), (label_at(LABELS - 1), 1), (label_at(LABELS - 1), 16), (label_at(1) - 1, 128),
         (TARGETS_AT, 1), (target_at(4, 1), 4), (target_at(4, 4), 1), (target_at(7, 255), 1), (target_at(6, 255), 255),
         (ROWS_AT, 2), (row_at(0, 1), 1), (row_at(0, 1), 2), (row_at(0, 1), 16), (row_at(0, 4), 2),
         (SITE_BYTES - 1, 128), (row_at(3, 255), 1), (row_at(3, 1), 4), (row_at(1, 1), 4), (row_at(1, 1), 1),
     ):
-        d = site_a()
-        d[at] = value
-        yield d
+        yield site_with(at, value)
     d = site_a()
     d[0], d[LABELS_AT], d[TARGETS_AT] = 14, 255, 1
     yield d
@@ -312,13 +324,8 @@ def random_table(rng):
     return nodes
 
 
-def conditions(rng):
-    yield R
-    yield bytearray()
-    for n in (5, 7, 12, 29, 31):
-        yield (R + b"\0\0")[:n]
-    yield full_table(0)
-    yield full_table(0) + table((6, 0, NODES - 1, NODES - 1))
+def nodes_at_limits():
+    """Item 8: every kind, and one more, with parameters and children at their limits and behind them."""
     for kind in range(14):
         child = 1 if kind in UNARY | BINARY else 0
         right = 1 if kind in BINARY else 0
@@ -329,6 +336,16 @@ def conditions(rng):
             *((kind, limit, child, right) for limit in (LABELS - 1, LABELS, NAMES - 1, NAMES)),
         ):
             yield table((0, 0, 0, 0), (4, 0, 0, 0), node, (0, 0, 0, 0))
+
+
+def conditions(rng):
+    yield R
+    yield bytearray()
+    for n in (5, 7, 12, 29, 31):
+        yield (R + b"\0\0")[:n]
+    yield full_table(0)
+    yield full_table(0) + table((6, 0, NODES - 1, NODES - 1))
+    yield from nodes_at_limits()
     yield table((4, 0, 0, 0), (5, 0, 0, 0), (10, 0, 1, 0))
     yield table((4, 0, 0, 0), (5, 0, 0, 0), (5, 0, 1, 0), (10, 0, 2, 0))
     yield table((4, 0, 0, 0), (5, 0, 0, 0), (11, 1, 1, 0), (10, 0, 2, 0))
