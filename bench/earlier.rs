@@ -2,13 +2,18 @@
 
 use crate::desk::{NAMES, NAMES_AT, SITE, SLOTS, TARGETS_AT};
 use crate::{library, Buffers, Call};
+use std::sync::OnceLock;
 
 const OLD_NAMES: usize = 16;
 
-/// How many names it has. The old build refuses a site of the present length for its length, reason 3; the present one for its bytes.
+/// How many names it has; it is asked once. The old build refuses a site of the present length for its length, reason 3; the present one for its
+/// bytes.
 pub fn names() -> usize {
-    let refused = (library::BEFORE.classes)(&[0; SITE], &mut [0; SLOTS]);
-    if refused.reason == 3 { OLD_NAMES } else { NAMES }
+    static ASKED: OnceLock<usize> = OnceLock::new();
+    *ASKED.get_or_init(|| {
+        let refused = (library::BEFORE.classes)(&[0; SITE], &mut [0; SLOTS]);
+        if refused.reason == 3 { OLD_NAMES } else { NAMES }
+    })
 }
 
 fn shortened(site: &[u8]) -> Vec<u8> {

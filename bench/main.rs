@@ -152,7 +152,8 @@ impl Call {
     }
 }
 
-/// A side of a measurement: whom it asks, what, and where the results go.
+/// A side of a measurement: whom it asks, what, and where the results go. Each has memory of its own, which may start
+/// elsewhere on a line of the cache than another side's, and does so in all samples of a row.
 struct Side {
     ask: fn(&Call, &mut Buffers) -> Vec<u32>,
     call: Call,
