@@ -171,11 +171,11 @@ forty-eight = record {
   rows-at = refl;
   site-length = refl;
   old-site = λ site e. site-refused site (λ q. absurd (omega arith));
-  node-accepted = name-accepted;
-  node-refused = name-refused;
-  edits-accepted = edits-accepted;
+  node-accepted = λ n h. name-accepted n (omega arith);
+  node-refused = λ n h. name-refused n (omega arith);
+  edits-accepted = λ n p h. edits-accepted n p (omega arith);
   edit-refused = λ e p. one-refused e (no-true (λ l. clash (legal-names e l) p));
-  alone = alone;
+  alone = λ site a call n s h. alone site a call n s (omega arith);
   found = λ site sheet n h. found site sheet n;
-  alike = alike;
+  alike = λ site sheet n h. alike site sheet n (omega arith);
 }
