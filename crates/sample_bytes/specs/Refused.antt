@@ -15,24 +15,24 @@ pub record RefusedWith (reason fault item w : ℕ) : Type 0 where
   pub reason-is : reason ≡ item
   pub fault-is : fault ≡ w
 
-pub record NotApplied {site sheet : List ℕ} (call : ApplyCall site sheet) (item w : ℕ) : Type 0 where
-  pub refused : RefusedWith (call .reason) (call .fault) item w
-  pub zeros : call .result′ ≡ replicate siteBytes 0
+-- with one result buffer, of this size, and a count
+pub record NoAnswer (reason fault count size : ℕ) (buffer′ : List ℕ) (item w : ℕ) : Type 0 where
+  pub refused : RefusedWith reason fault item w
+  pub count-none : count ≡ 0
+  pub zeros : buffer′ ≡ replicate size 0
 
-pub record NotRewritten {table sheet : List ℕ} (call : RewriteCall table sheet) (item w : ℕ) : Type 0 where
-  pub refused : RefusedWith (call .reason) (call .fault) item w
-  pub nodes-none : call .nodes ≡ 0
-  pub zeros : call .result′ ≡ replicate tableBytes 0
+-- applying has no count
+abbrev pub NotApplied : {site sheet : List ℕ} → ApplyCall site sheet → (item w : ℕ) → Type 0
+NotApplied call = NoAnswer (call .reason) (call .fault) 0 siteBytes (call .result′)
 
-pub record NotListed {site table : List ℕ} (call : ListCall site table) (item w : ℕ) : Type 0 where
-  pub refused : RefusedWith (call .reason) (call .fault) item w
-  pub count-none : call .count ≡ 0
-  pub zeros : call .set′ ≡ replicate setBytes 0
+abbrev pub NotRewritten : {table sheet : List ℕ} → RewriteCall table sheet → (item w : ℕ) → Type 0
+NotRewritten call = NoAnswer (call .reason) (call .fault) (call .nodes) tableBytes (call .result′)
 
-pub record NotClassed {site : List ℕ} (call : ClassCall site) (item w : ℕ) : Type 0 where
-  pub refused : RefusedWith (call .reason) (call .fault) item w
-  pub count-none : call .count ≡ 0
-  pub zeros : call .classes′ ≡ replicate classesBytes 0
+abbrev pub NotListed : {site table : List ℕ} → ListCall site table → (item w : ℕ) → Type 0
+NotListed call = NoAnswer (call .reason) (call .fault) (call .count) setBytes (call .set′)
+
+abbrev pub NotClassed : {site : List ℕ} → ClassCall site → (item w : ℕ) → Type 0
+NotClassed call = NoAnswer (call .reason) (call .fault) (call .count) classesBytes (call .classes′)
 
 pub record NotRun {file : List ℕ} (call : JobCall file) (item w : ℕ) : Type 0 where
   pub refused : RefusedWith (call .reason) (call .fault) item w

@@ -1,5 +1,5 @@
 -- A call whose inputs meet an item is refused with it.
-use mathlib.Core.Path.{_≡_, _∙_, ap}
+use mathlib.Core.Path.{_≡_, refl, _∙_, ap}
 use mathlib.Core.List.{List}
 use Prim.Native.Nat.{ℕ, _<_}
 use native.Mathlib.Omega.{arith}
@@ -21,53 +21,35 @@ use Rattle.demands.specs.Demand1.{Demand1Job}
 use Rattle.demands.specs.Demands.{ApplyCall, RewriteCall, ListCall, ClassCall}
 use Rattle.demands.specs.Job.{JobCall}
 use Rattle.demands.specs.Laws.Demand1.{demand-1}
-use Rattle.sample_bytes.specs.Refused.{RefusedWith, NotApplied, NotRewritten, NotListed, NotClassed, NotRun}
+use Rattle.sample_bytes.specs.Refused.{RefusedWith, NoAnswer, NotApplied, NotRewritten, NotListed, NotClassed, NotRun}
 
 refused-with : {due : Verdict} {After : Verdict → Type 0} {reason fault item w : ℕ} → due ≡ Refused item w → Returned due After reason fault
     → RefusedWith reason fault item w
 refused-with v r = record { reason-is = r .reason-is ∙ ap reasonOf v; fault-is = r .fault-is ∙ ap faultOf v }
 
+no-answer : {due : Verdict} {After : Verdict → Type 0} {reason fault count len size item w : ℕ} {buffer′ : List ℕ} → due ≡ Refused item w
+    → Returned due After reason fault → count ≡ 0 → buffer′ ≡ replicate len 0 → len ≡ size → NoAnswer reason fault count size buffer′ item w
+no-answer v r n z l = record { refused = refused-with v r; count-none = n; zeros = z ∙ ap (λ (n : ℕ). replicate n 0) l }
+
 pub not-applied : {site sheet : List ℕ} (call : ApplyCall site sheet) (item w : ℕ) → applyVerdict (length (call .result)) site sheet ≡ Refused item w
     → NotApplied call item w
 unfolding SiteAfter
-not-applied call item w v =
-    record {
-      refused = refused-with v (call .returned);
-      zeros = (rw v at (call .returned .left)) ∙ ap (λ (n : ℕ). replicate n 0) (call .result-size);
-    }
+not-applied call item w v = no-answer v (call .returned) refl (rw v at (call .returned .left)) (call .result-size)
 
 pub not-rewritten : {table sheet : List ℕ} (call : RewriteCall table sheet) (item w : ℕ)
     → rewriteVerdict (length (call .result)) table sheet ≡ Refused item w → NotRewritten call item w
 unfolding TableAfter
-not-rewritten call item w v =
-    let z = rw v at (call .returned .left) in
-    record {
-      refused = refused-with v (call .returned);
-      nodes-none = z .0;
-      zeros = z .1 ∙ ap (λ (n : ℕ). replicate n 0) (call .result-size);
-    }
+not-rewritten call item w v = let z = rw v at (call .returned .left) in no-answer v (call .returned) (z .0) (z .1) (call .result-size)
 
 pub not-listed : {site table : List ℕ} (call : ListCall site table) (item w : ℕ)
     → listVerdict (length (call .set)) (length (call .work)) site table ≡ Refused item w → NotListed call item w
 unfolding SetAfter
-not-listed call item w v =
-    let z = (rw v at (call .returned .left)) .set-after in
-    record {
-      refused = refused-with v (call .returned);
-      count-none = z .1;
-      zeros = z .0 ∙ ap (λ (n : ℕ). replicate n 0) (call .set-size);
-    }
+not-listed call item w v = let z = (rw v at (call .returned .left)) .set-after in no-answer v (call .returned) (z .1) (z .0) (call .set-size)
 
 pub not-classed : {site : List ℕ} (call : ClassCall site) (item w : ℕ) → classesVerdict (length (call .classes)) site ≡ Refused item w
     → NotClassed call item w
 unfolding ClassesAfter
-not-classed call item w v =
-    let z = rw v at (call .returned .left) in
-    record {
-      refused = refused-with v (call .returned);
-      count-none = z .1;
-      zeros = z .0 ∙ ap (λ (n : ℕ). replicate n 0) (call .classes-size);
-    }
+not-classed call item w v = let z = rw v at (call .returned .left) in no-answer v (call .returned) (z .1) (z .0) (call .classes-size)
 
 -- the zeros of a job are those of demand 1
 pub not-run : {file : List ℕ} (call : JobCall file) (item w : ℕ) → 0 < item → jobVerdict (call .lent) file ≡ Refused item w → NotRun call item w
