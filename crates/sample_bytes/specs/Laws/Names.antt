@@ -176,6 +176,6 @@ forty-eight = record {
   edits-accepted = λ n p h. edits-accepted n p (omega arith);
   edit-refused = λ e p. one-refused e (no-true (λ l. clash (legal-names e l) p));
   alone = λ site a call n s h. alone site a call n s (omega arith);
-  found = λ site sheet n h. found site sheet n;
+  found = found;
   alike = λ site sheet n h. alike site sheet n (omega arith);
 }
