@@ -1,0 +1,3 @@
+-- Laws of words and their bytes, by topic.
+pub mod Bytes
+pub mod Eight
