@@ -6,8 +6,11 @@ ghost use Prim.Native.Nat.{_/_, _<_};
 ghost use lib.ListN.{length, replicate};
 ghost use Rattle.finite.specs.Tests as tests;
 ghost use Rattle.bitset.specs.Set.{setBytes, setSlots, has, Is, inserted, removed};
+use words::WORD_BYTES;
 
 pub const SET_BYTES: usize = 32;
+
+pub const SET_WORDS: usize = SET_BYTES / WORD_BYTES;
 
 pub const SET_SLOTS: usize = 256;
 
@@ -51,8 +54,8 @@ pub fn count(set: &[u8]) -> u32
     ensures { λ r. ⌜ r ≡ tests.count setSlots (has (now (set .entry))) ⌝ }
 {
     let mut n: u32 = 0;
-    for i in 0..SET_BYTES {
-        n += u8::count_ones(set[i]);
+    for j in 0..SET_WORDS {
+        n += u64::count_ones(words::get(set, WORD_BYTES * j));
     }
     n
 }

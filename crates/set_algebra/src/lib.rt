@@ -5,14 +5,18 @@ ghost use lib.ListN.{length};
 ghost use Rattle.finite.specs.Tests.{any, all};
 ghost use Rattle.bitset.specs.Set.{setBytes, setSlots, has, Is};
 use bitset::SET_BYTES;
+use bitset::SET_WORDS;
+use words::WORD_BYTES;
 
 // The slots of either set, into `dst`.
 pub fn union_with(dst: &mut [u8], src: &[u8])
     requires { ⌜ (length (now dst) ≡ setBytes) × (length (now src) ≡ setBytes) ⌝ }
     ensures { λ _. ⌜ Is (now (dst .exit)) (λ s. has (now (dst .entry)) s || has (now (src .entry)) s) ⌝ }
 {
-    for i in 0..SET_BYTES {
-        dst[i] = dst[i] | src[i];
+    for j in 0..SET_WORDS {
+        let i = WORD_BYTES * j;
+        let w = words::get(dst, i) | words::get(src, i);
+        words::put(dst, i, w);
     }
 }
 
@@ -21,8 +25,10 @@ pub fn meet_with(dst: &mut [u8], src: &[u8])
     requires { ⌜ (length (now dst) ≡ setBytes) × (length (now src) ≡ setBytes) ⌝ }
     ensures { λ _. ⌜ Is (now (dst .exit)) (λ s. has (now (dst .entry)) s && has (now (src .entry)) s) ⌝ }
 {
-    for i in 0..SET_BYTES {
-        dst[i] = dst[i] & src[i];
+    for j in 0..SET_WORDS {
+        let i = WORD_BYTES * j;
+        let w = words::get(dst, i) & words::get(src, i);
+        words::put(dst, i, w);
     }
 }
 
@@ -31,8 +37,10 @@ pub fn complement(set: &mut [u8])
     requires { ⌜ length (now set) ≡ setBytes ⌝ }
     ensures { λ _. ⌜ Is (now (set .exit)) (λ s. not (has (now (set .entry)) s)) ⌝ }
 {
-    for i in 0..SET_BYTES {
-        set[i] = !set[i];
+    for j in 0..SET_WORDS {
+        let i = WORD_BYTES * j;
+        let w = !words::get(set, i);
+        words::put(set, i, w);
     }
 }
 
@@ -41,8 +49,9 @@ pub fn equal(a: &[u8], b: &[u8]) -> bool
     requires { ⌜ (length (now a) ≡ setBytes) × (length (now b) ≡ setBytes) ⌝ }
     ensures { λ r. ⌜ (r ≡ true → now (a .entry) ≡ now (b .entry)) × (r ≡ false → now (a .entry) ≡ now (b .entry) → ⊥) ⌝ }
 {
-    for i in 0..SET_BYTES {
-        if a[i] != b[i] {
+    for j in 0..SET_WORDS {
+        let i = WORD_BYTES * j;
+        if words::get(a, i) != words::get(b, i) {
             return false;
         }
     }
@@ -54,9 +63,10 @@ pub fn subset(a: &[u8], b: &[u8]) -> bool
     requires { ⌜ (length (now a) ≡ setBytes) × (length (now b) ≡ setBytes) ⌝ }
     ensures { λ r. ⌜ r ≡ all setSlots (λ s. not (has (now (a .entry)) s) || has (now (b .entry)) s) ⌝ }
 {
-    let mut outside = 0u8;
-    for i in 0..SET_BYTES {
-        outside = outside | (a[i] & !b[i]);
+    let mut outside = 0u64;
+    for j in 0..SET_WORDS {
+        let i = WORD_BYTES * j;
+        outside = outside | (words::get(a, i) & !words::get(b, i));
     }
     outside == 0
 }

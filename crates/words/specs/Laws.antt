@@ -1,3 +1,4 @@
 -- Laws of words and their bytes, by topic.
 pub mod Bytes
 pub mod Eight
+pub mod Bits

@@ -33,7 +33,7 @@ row-bit R s i j h = ap₂ (λ (x y : ℕ). bit (getD R x 0) y) (omega arith) (om
 -- a byte that is not 0 has a bit
 some-bit : (v : ℕ) → v < 256 → v ≢ 0 → (j : ℕ) × (j < 8) × (bit v j ≡ true)
 some-bit v h n =
-    let a = all-fails 8 (λ k. not (bit v k)) (sym (zero-bits v h) ∙ ne-eqb v 0 n) in
+    let a = all-fails 8 (λ k. not (bit v k)) (sym (zero-bits 8 v h) ∙ ne-eqb v 0 n) in
     (a .0, a .1, sym (Bool·not-not (bit v (a .0))) ∙ ap not (a .2))
 
 module _ (R p : List ℕ) (s : ℕ) where

@@ -1,36 +1,44 @@
--- The first i bytes are done; the set itself stands for the second operand, which is not read.
+-- The first j words are done; the set itself stands for the second operand, which is not read.
+use mathlib.Core.Path.{refl}
 use mathlib.Core.Bool.{not}
-use Prim.Native.Nat.{_-_}
+use Prim.Native.Nat.{_-_, _*_}
 use native.Mathlib.Omega.{arith}
-use Rattle.finite.specs.Laws.Bits.{bit-not}
-use Rattle.bitset.specs.Set.{setBytes}
-use Rattle.bitset.specs.Laws.Update.{Updated, update-none, update-more, update-done}
+use Rattle.bitset.specs.Laws.Update.{Updated, update-none, update-done}
+use Rattle.bitset.specs.Laws.Words.{complement-slots, update-word}
 use Rattle.set_algebra.proofs.complement.Statement.{statement}
 use Rattle.set_algebra.proofs.complement.Tie as tie
 
 abbrev Inv-loop : tie.InvT-loop
-Inv-loop set₀ i₀ set i = Updated (λ x y. not x) set₀ set₀ set i
+Inv-loop set₀ j₀ set j = Updated (λ x y. not x) set₀ set₀ set (8 * j)
 
 abbrev μ-loop : tie.MeasureT-loop
-μ-loop set₀ i₀ set i = setBytes - i
+μ-loop set₀ j₀ set j = 4 - j
 
 loop-holds : tie.Need-loop-holds Inv-loop μ-loop
-loop-holds c = update-none (λ x y. not x) _ _ (c .pre)
+loop-holds c = update-none (λ x y. not x) _ _ (c .before .pre)
 
-slice-read-set : tie.Need-slice-read-set Inv-loop μ-loop
-slice-read-set c = omega arith
+mul-i : tie.Need-mul-i Inv-loop μ-loop
+mul-i c = omega arith
 
-slice-write-set : tie.Need-slice-write-set Inv-loop μ-loop
-slice-write-set c = omega arith
+get-requires : tie.Need-get-requires Inv-loop μ-loop
+get-requires c κs = omega arith
 
-add-i : tie.Need-add-i Inv-loop μ-loop
-add-i c = omega arith
+put-requires : tie.Need-put-requires Inv-loop μ-loop
+put-requires c κs = omega arith
+
+add-j : tie.Need-add-j Inv-loop μ-loop
+add-j c = omega arith
 
 loop-less : tie.Need-loop-less Inv-loop μ-loop
 loop-less c = omega arith
 
 loop-again : tie.Need-loop-again Inv-loop μ-loop
-loop-again c = update-more (λ x y. not x) _ _ _ _ _ (c .before .before .loop .inv) (omega arith) (λ j h. bit-not 8 _ j (c .slice-known .given (c .before .before .loop .i) .fits) h)
+loop-again c =
+    let put = c .before .before in
+    let get = put .before .before in
+    let l = get .before .before .before in
+    update-word (λ x y. not x) _ _ complement-slots _ (8 * l .loop .j) _ (λ k. l .before .slice-known .given k .fits) (λ k. l .before .slice-known .given k .fits)
+    (l .loop .inv) (get .get .ensures) refl (put .put .ensures) (omega arith) (omega arith) (omega arith)
 
 same-length : tie.Need-same-length Inv-loop μ-loop
 same-length c = omega arith
@@ -45,9 +53,10 @@ complement-spec =
     Inv-loop
     μ-loop
     loop-holds
-    slice-read-set
-    slice-write-set
-    add-i
+    mul-i
+    get-requires
+    put-requires
+    add-j
     loop-less
     loop-again
     same-length

@@ -1,42 +1,54 @@
--- The bytes below i are equal.
-use mathlib.Core.Path.{_≡_, ap}
+-- The bytes of the words below j are equal.
+use mathlib.Core.Path.{_≡_, ap, sym, _∙_}
 use mathlib.Core.Bool.{true≢false, false≢true}
 use mathlib.Core.List.{List}
-use Prim.Native.Nat.{ℕ, _-_, _<_, _≤_}
+use Prim.Native.Nat.{ℕ, _-_, _*_, _<_, _≤_}
 use native.Mathlib.Omega.{arith}
-use lib.ListN.{getD}
+use lib.ListN.{getD, drop}
 use lib.Seq.{ext-getD}
-use borrow.Author.Count.{below-more, below-none}
-use Rattle.bitset.specs.Set.{setBytes}
+use borrow.Author.Count.{below-none}
+use Rattle.words.specs.Word.{word}
+use Rattle.bitset.specs.Laws.Words.{word-same}
 use Rattle.set_algebra.proofs.equal.Statement.{statement}
 use Rattle.set_algebra.proofs.equal.Tie as tie
 
 abbrev Inv-loop : tie.InvT-loop
-Inv-loop a b i₀ i = (i ≤ setBytes) × ((k : ℕ) → k < i → getD a k 0 ≡ getD b k 0)
+Inv-loop a b j₀ j = (j ≤ 4) × ((k : ℕ) → k < 8 * j → getD a k 0 ≡ getD b k 0)
 
 abbrev μ-loop : tie.MeasureT-loop
-μ-loop a b i₀ i = setBytes - i
+μ-loop a b j₀ j = 4 - j
 
 loop-holds : tie.Need-loop-holds Inv-loop μ-loop
 loop-holds c = (omega arith, below-none _)
 
-shared-slice-read-if1 : tie.Need-shared-slice-read-if1 Inv-loop μ-loop
-shared-slice-read-if1 c = omega arith
+mul-i : tie.Need-mul-i Inv-loop μ-loop
+mul-i c = omega arith
 
-shared-slice-read-if1-2 : tie.Need-shared-slice-read-if1-2 Inv-loop μ-loop
-shared-slice-read-if1-2 c = omega arith
+get-requires : tie.Need-get-requires Inv-loop μ-loop
+get-requires c κs = omega arith
+
+get-requires-2 : tie.Need-get-requires-2 Inv-loop μ-loop
+get-requires-2 c κs = omega arith
 
 returns : tie.Need-returns Inv-loop μ-loop
-returns c = (λ e. absurd (false≢true e), λ _ e. c .if1 .taken (ap (λ (l : List ℕ). getD l (c .before .before .before .before .loop .i) 0) e))
+returns c =
+    let second = c .before in
+    let first = second .before in
+    let at = 8 * first .before .before .loop .j in
+    (λ e. absurd (false≢true e), λ _ e. c .if1 .taken (first .get .ensures ∙ ap (λ (l : List ℕ). word 8 (drop at l)) e ∙ sym (second .get2 .ensures)))
 
-add-i : tie.Need-add-i Inv-loop μ-loop
-add-i c = omega arith
+add-j : tie.Need-add-j Inv-loop μ-loop
+add-j c = omega arith
 
 loop-less : tie.Need-loop-less Inv-loop μ-loop
 loop-less c = omega arith
 
 loop-again : tie.Need-loop-again Inv-loop μ-loop
-loop-again c = (omega arith, below-more _ _ (c .before .before .before .before .loop .inv .1) (c .if1 .left))
+loop-again c =
+    let second = c .before in
+    let first = second .before in
+    let l = first .before .before in
+    (omega arith, word-same _ _ (8 * l .loop .j) _ (λ k. l .before .before .shared-slice-known .given k .fits) (λ k. l .before .shared-slice-known2 .given k .fits) (omega arith) (omega arith) (first .get .ensures) (second .get2 .ensures) (c .if1 .left) (l .loop .inv .1) (omega arith))
 
 returns-2 : tie.Need-returns-2 Inv-loop μ-loop
 returns-2 c = (λ _. ext-getD 0 _ _ (omega arith) (λ k h. c .before .loop .inv .1 k (omega arith)), λ e. absurd (true≢false e))
@@ -48,10 +60,11 @@ equal-spec =
     Inv-loop
     μ-loop
     loop-holds
-    shared-slice-read-if1
-    shared-slice-read-if1-2
+    mul-i
+    get-requires
+    get-requires-2
     returns
-    add-i
+    add-j
     loop-less
     loop-again
     returns-2)

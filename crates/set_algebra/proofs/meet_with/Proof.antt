@@ -1,39 +1,46 @@
--- The first i bytes are done.
+-- The first j words are done.
 use mathlib.Core.Bool.{_&&_}
-use Prim.Native.Nat.{_-_}
+use Prim.Native.Nat.{_-_, _*_}
 use native.Mathlib.Omega.{arith}
-use Rattle.finite.specs.Laws.Bits.{bit-and}
-use Rattle.bitset.specs.Set.{setBytes}
-use Rattle.bitset.specs.Laws.Update.{Updated, update-none, update-more, update-done}
+use Rattle.bitset.specs.Laws.Update.{Updated, update-none, update-done}
+use Rattle.bitset.specs.Laws.Words.{meet-slots, update-word}
 use Rattle.set_algebra.proofs.meet_with.Statement.{statement}
 use Rattle.set_algebra.proofs.meet_with.Tie as tie
 
 abbrev Inv-loop : tie.InvT-loop
-Inv-loop dst₀ src i₀ dst i = Updated _&&_ dst₀ src dst i
+Inv-loop dst₀ src j₀ dst j = Updated _&&_ dst₀ src dst (8 * j)
 
 abbrev μ-loop : tie.MeasureT-loop
-μ-loop dst₀ src i₀ dst i = setBytes - i
+μ-loop dst₀ src j₀ dst j = 4 - j
 
 loop-holds : tie.Need-loop-holds Inv-loop μ-loop
-loop-holds c = update-none _&&_ _ _ (c .pre .0)
+loop-holds c = update-none _&&_ _ _ (c .before .before .pre .0)
 
-slice-read-dst : tie.Need-slice-read-dst Inv-loop μ-loop
-slice-read-dst c = omega arith
+mul-i : tie.Need-mul-i Inv-loop μ-loop
+mul-i c = omega arith
 
-shared-slice-read-dst : tie.Need-shared-slice-read-dst Inv-loop μ-loop
-shared-slice-read-dst c = omega arith
+get-requires : tie.Need-get-requires Inv-loop μ-loop
+get-requires c κs = omega arith
 
-slice-write-dst : tie.Need-slice-write-dst Inv-loop μ-loop
-slice-write-dst c = omega arith
+get-requires-2 : tie.Need-get-requires-2 Inv-loop μ-loop
+get-requires-2 c κs = omega arith
 
-add-i : tie.Need-add-i Inv-loop μ-loop
-add-i c = omega arith
+put-requires : tie.Need-put-requires Inv-loop μ-loop
+put-requires c κs = omega arith
+
+add-j : tie.Need-add-j Inv-loop μ-loop
+add-j c = omega arith
 
 loop-less : tie.Need-loop-less Inv-loop μ-loop
 loop-less c = omega arith
 
 loop-again : tie.Need-loop-again Inv-loop μ-loop
-loop-again c = update-more _&&_ _ _ _ _ _ (c .before .before .before .loop .inv) (omega arith) (λ j h. bit-and _ _ j)
+loop-again c =
+    let put = c .before .before in
+    let gets = put .before .before in
+    let l = gets .before .before .before .before in
+    update-word _&&_ _ _ meet-slots _ (8 * l .loop .j) _ (λ k. l .before .before .slice-known .given k .fits) (λ k. l .before .shared-slice-known .given k .fits)
+    (l .loop .inv) (gets .before .get .ensures) (gets .get2 .ensures) (put .put .ensures) (omega arith) (omega arith) (omega arith)
 
 same-length : tie.Need-same-length Inv-loop μ-loop
 same-length c = omega arith
@@ -48,10 +55,11 @@ meet-with-spec =
     Inv-loop
     μ-loop
     loop-holds
-    slice-read-dst
-    shared-slice-read-dst
-    slice-write-dst
-    add-i
+    mul-i
+    get-requires
+    get-requires-2
+    put-requires
+    add-j
     loop-less
     loop-again
     same-length

@@ -1,5 +1,5 @@
 -- Numbers and their bytes: read and written in halves, and one from the other.
-use mathlib.Core.Path.{_≡_, refl, sym, ap, _∙_}
+use mathlib.Core.Path.{_≡_, refl, ap, _∙_}
 use mathlib.Core.List.{List, [], _∷_}
 use Prim.Native.Nat.{ℕ, zero, suc, _+_, _*_, _/_, _%_, _^_, _≤_, _<_}
 use native.Mathlib.Nat.{pow-suc, div-add-mod', le-of-suc-le-suc, zero-add, suc-add, add-zero, add-suc, mul-comm, div-one, div-div-eq-div-mul}
