@@ -36,7 +36,7 @@ def missing(text):
             if os.path.exists(path) and not re.search(r"(?<![\w-])" + re.escape(word) + r"(?![\w-])", read(path)):
                 yield f"{crate}/{name}: {word}"
     for crate, word in re.findall(r"`(\w+)::(\w+)`", text):
-        if crate != "crate" and not (in_source(crate, word) or crate in ("u8",)):
+        if crate != "crate" and not (in_source(crate, word) or crate in ("u64",)):
             yield f"{crate}::{word}"
     for crate, word in re.findall(r"`(\w+)!(\w+)`", text):
         if crate != "crate" and not os.path.exists(f"crates/{crate}/must-fail/{word}.edit"):
