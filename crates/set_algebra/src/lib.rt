@@ -1,4 +1,4 @@
-// Operations on whole sets of 256 slots in 32 bytes: union, intersection, complement and comparisons.
+// Operations on whole sets of 256 slots in 32 bytes: union, intersection, complement and comparisons. All but `meets` go eight bytes to a word.
 ghost use mathlib.Core.Path.{_≡_};
 ghost use mathlib.Core.Bool.{true, false, not, _&&_, _||_};
 ghost use lib.ListN.{length};
@@ -58,7 +58,7 @@ pub fn equal(a: &[u8], b: &[u8]) -> bool
     true
 }
 
-// Is every slot of `a` in `b`? All bytes are looked at, so that the compiler takes many at a time.
+// Is every slot of `a` in `b`? All words are looked at, with one test at the end.
 pub fn subset(a: &[u8], b: &[u8]) -> bool
     requires { ⌜ (length (now a) ≡ setBytes) × (length (now b) ≡ setBytes) ⌝ }
     ensures { λ r. ⌜ r ≡ all setSlots (λ s. not (has (now (a .entry)) s) || has (now (b .entry)) s) ⌝ }
@@ -71,7 +71,7 @@ pub fn subset(a: &[u8], b: &[u8]) -> bool
     outside == 0
 }
 
-// Is some slot in both? All bytes are looked at, as in `subset`.
+// Is some slot in both? All bytes are looked at, so that the compiler takes 16 at a time: by the word it was not faster.
 pub fn meets(a: &[u8], b: &[u8]) -> bool
     requires { ⌜ (length (now a) ≡ setBytes) × (length (now b) ≡ setBytes) ⌝ }
     ensures { λ r. ⌜ r ≡ any setSlots (λ s. has (now (a .entry)) s && has (now (b .entry)) s) ⌝ }

@@ -1,4 +1,5 @@
-// Eight bytes as a word, low byte first. Put together from halves, the compiler makes one load, or one store, of the eight.
+// Eight bytes as a word, low byte first. The compiler makes one load, or one store, of the eight, and does so early enough to put what is built on
+// them in place of its calls, since they are put together from halves and not by a loop.
 ghost use mathlib.Core.Path.{_≡_};
 ghost use Prim.Native.Nat.{_+_, _^_, _≤_, _<_};
 ghost use lib.ListN.{length, drop};
