@@ -37,8 +37,12 @@ pub record Evaluable (site S free env fresh work : List ℕ) : Type 0 where
   pub work-size : length work ≡ workBytes
   pub flags-right : FlagsRight site S env fresh work
 
--- what a call for node i leaves: the variables' sets as they were, flags that are right, and node i's set in the work buffer
+-- what a call for node i leaves: buffers of the right length, the variables' sets as they were, flags that are right, and node i's set in the
+-- work buffer
 pub record Done (site S env env′ fresh′ work′ : List ℕ) (i : ℕ) : Type 0 where
+  pub env-size : length env′ ≡ envBytes
+  pub fresh-size : length fresh′ ≡ tableNodes
+  pub work-size : length work′ ≡ workBytes
   pub kept : (v : ℕ) → setAt env′ v ≐ setAt env v
   pub flags-right : FlagsRight site S env′ fresh′ work′
   pub here : setAt work′ i ≐ nodeSet site S (setAt env) i

@@ -1,13 +1,14 @@
 // Lists a condition on a site: the set of the slots where it holds. Evaluation goes by recursion on a node's children and is
 // memoised: node i's set is written at byte 32 * i of the work buffer, and is computed again only once a variable that is free in
-// the node has moved.
+// the node has moved. A node whose flag is set needs no call.
 ghost use mathlib.Core.Path.{_≡_};
 ghost use mathlib.Core.Logic.{_⊎_};
 ghost use mathlib.Core.Bool.{true, false};
 ghost use Prim.Native.Nat.{_+_, _*_, _≤_};
 ghost use lib.ListN.{length, replicate};
-ghost use Rattle.bitset.specs.Set.{setBytes};
+ghost use Rattle.bitset.specs.Set.{setBytes, has};
 ghost use Rattle.semantics.specs.Table.{formOf};
+ghost use Rattle.semantics.specs.Laws.Agree.{_≐_};
 ghost use Rattle.site.specs.Layout.{siteBytes};
 ghost use Rattle.site.specs.Site.{siteOf};
 ghost use Rattle.verdict.specs.declared.Verdict.the-variants.{Accepted};
@@ -16,6 +17,7 @@ ghost use Rattle.condition.specs.Refusal.{conditionVerdict};
 ghost use Rattle.even_rule.specs.Free.{FreeRows};
 ghost use Rattle.limits.specs.Limits.{tableNodes, notNo, orNo, andNo, diaNo, boxNo, muNo, nuNo};
 ghost use Rattle.listing_sets.specs.Offsets.{envBytes};
+ghost use Rattle.listing_sets.specs.Nodes.{startOf};
 ghost use Rattle.listing.specs.Listed.{workBytes, Listed};
 ghost use Rattle.listing.specs.State.{Evaluable, Done};
 use bitset::SET_BYTES;
@@ -33,13 +35,13 @@ use listing_sets::ENV_BYTES;
 // The work buffer has a set for each node of a table.
 pub const WORK_BYTES: usize = SET_BYTES * TABLE_NODES;
 
-// Writes node i's set to the work buffer, unless its flag says that it is there already.
+// Writes node i's set to the work buffer, and sets its flag.
 fn eval(
     site: &[u8],
     table: &[u8],
     free: &[u16],
-    env: &mut [u8],
-    fresh: &mut [u8],
+    env: &mut [u8; ENV_BYTES],
+    fresh: &mut [u8; TABLE_NODES],
     work: &mut [u8],
     i: usize,
 )
@@ -47,9 +49,6 @@ fn eval(
     requires { ⌜ 6 * i + 6 ≤ length (now table) ⌝ }
     ensures { λ _. ⌜ Done (now (site .entry)) (now (table .entry)) (now (env .entry)) (now (env .exit)) (now (fresh .exit)) (now (work .exit)) i ⌝ }
 {
-    if fresh[i] == 1 {
-        return;
-    }
     compute(site, table, free, env, fresh, work, i);
     fresh[i] = 1;
 }
@@ -59,8 +58,8 @@ fn compute(
     site: &[u8],
     table: &[u8],
     free: &[u16],
-    env: &mut [u8],
-    fresh: &mut [u8],
+    env: &mut [u8; ENV_BYTES],
+    fresh: &mut [u8; TABLE_NODES],
     work: &mut [u8],
     i: usize,
 )
@@ -82,8 +81,8 @@ fn unary(
     site: &[u8],
     table: &[u8],
     free: &[u16],
-    env: &mut [u8],
-    fresh: &mut [u8],
+    env: &mut [u8; ENV_BYTES],
+    fresh: &mut [u8; TABLE_NODES],
     work: &mut [u8],
     i: usize,
 )
@@ -93,7 +92,9 @@ fn unary(
     ensures { λ _. ⌜ Done (now (site .entry)) (now (table .entry)) (now (env .entry)) (now (env .exit)) (now (fresh .exit)) (now (work .exit)) i ⌝ }
 {
     let l = condition::left_child(table, i);
-    eval(site, table, free, env, fresh, work, l);
+    if fresh[l] != 1 {
+        eval(site, table, free, env, fresh, work, l);
+    }
     let set = listing_sets::load(work, l);
     listing_sets::put_unary(site, table, work, i, set);
 }
@@ -104,8 +105,8 @@ fn binary(
     site: &[u8],
     table: &[u8],
     free: &[u16],
-    env: &mut [u8],
-    fresh: &mut [u8],
+    env: &mut [u8; ENV_BYTES],
+    fresh: &mut [u8; TABLE_NODES],
     work: &mut [u8],
     i: usize,
 )
@@ -115,10 +116,14 @@ fn binary(
     ensures { λ _. ⌜ Done (now (site .entry)) (now (table .entry)) (now (env .entry)) (now (env .exit)) (now (fresh .exit)) (now (work .exit)) i ⌝ }
 {
     let l = condition::left_child(table, i);
-    eval(site, table, free, env, fresh, work, l);
+    if fresh[l] != 1 {
+        eval(site, table, free, env, fresh, work, l);
+    }
     let left = listing_sets::load(work, l);
     let r = condition::right_child(table, i);
-    eval(site, table, free, env, fresh, work, r);
+    if fresh[r] != 1 {
+        eval(site, table, free, env, fresh, work, r);
+    }
     let right = listing_sets::load(work, r);
     listing_sets::put_binary(table, work, i, left, right);
 }
@@ -130,14 +135,14 @@ fn same_set(a: [u8; SET_BYTES], b: [u8; SET_BYTES]) -> bool
     set_algebra::equal(&a, &b)
 }
 
-// Writes the set of node i, a mu or nu: rounds from the empty or the full set until one gives back its set, 256 at most. The variable then
-// has its old set again.
+// Writes the set of node i, a mu or nu. Since there are two calls of `rounds`, the compiler leaves it a function of its own; put in place, it would
+// lengthen the frame of every node.
 fn fixpoint(
     site: &[u8],
     table: &[u8],
     free: &[u16],
-    env: &mut [u8],
-    fresh: &mut [u8],
+    env: &mut [u8; ENV_BYTES],
+    fresh: &mut [u8; TABLE_NODES],
     work: &mut [u8],
     i: usize,
 )
@@ -146,20 +151,50 @@ fn fixpoint(
     requires { ⌜ (muNo ≤ nodeAt (now table) i .kind) × (nodeAt (now table) i .kind ≤ nuNo) ⌝ }
     ensures { λ _. ⌜ Done (now (site .entry)) (now (table .entry)) (now (env .entry)) (now (env .exit)) (now (fresh .exit)) (now (work .exit)) i ⌝ }
 {
+    let k = condition::kind(table, i);
+    if k == MU {
+        let none = listing_sets::start(MU);
+        rounds(site, table, free, env, fresh, work, i, none);
+        return;
+    }
+    let all = listing_sets::start(NU);
+    rounds(site, table, free, env, fresh, work, i, all);
+}
+
+// Writes the set of node i, a mu or nu: rounds from the set `start` until one gives back its set, 256 at most. The variable then has its old
+// set again.
+fn rounds(
+    site: &[u8],
+    table: &[u8],
+    free: &[u16],
+    env: &mut [u8; ENV_BYTES],
+    fresh: &mut [u8; TABLE_NODES],
+    work: &mut [u8],
+    i: usize,
+    start: [u8; SET_BYTES],
+)
+    requires { ⌜ Evaluable (now site) (now table) (now free) (now env) (now fresh) (now work) ⌝ }
+    requires { ⌜ 6 * i + 6 ≤ length (now table) ⌝ }
+    requires { ⌜ (muNo ≤ nodeAt (now table) i .kind) × (nodeAt (now table) i .kind ≤ nuNo) ⌝ }
+    requires { ⌜ has start ≐ startOf (nodeAt (now table) i .kind) ⌝ }
+    ensures { λ _. ⌜ Done (now (site .entry)) (now (table .entry)) (now (env .entry)) (now (env .exit)) (now (fresh .exit)) (now (work .exit)) i ⌝ }
+{
     let x = condition::number(table, i);
     let b = condition::left_child(table, i);
     let n = table.len() / 6;
     let old = listing_sets::load(env, x);
-    let mut set = listing_sets::start(condition::kind(table, i));
-    let mut rounds: usize = 0;
+    let mut set = start;
+    let mut turns: usize = 0;
     let mut moved = true;
-    while moved && rounds < SET_SLOTS {
+    while moved && turns < SET_SLOTS {
         listing_sets::assign(free, env, fresh, n, x, set);
-        eval(site, table, free, env, fresh, work, b);
+        if fresh[b] != 1 {
+            eval(site, table, free, env, fresh, work, b);
+        }
         let next = listing_sets::load(work, b);
         moved = !same_set(set, next);
         set = next;
-        rounds += 1;
+        turns += 1;
     }
     listing_sets::assign(free, env, fresh, n, x, old);
     listing_sets::store(work, i, set);

@@ -19,18 +19,15 @@ no-flags-requires c κs = tt
 sub-i : tie.Need-sub-i
 sub-i c = let a = c .before .before .before .before .before .before .before .args in let s = accepted-sound (a .table .now) (c .before .before .before .before .before .before .before .pre .1 .0) in omega (arith, s .some)
 
-slice-aggregate-eval : tie.Need-slice-aggregate-eval
-slice-aggregate-eval c = search needs
-
-slice-aggregate-eval-2 : tie.Need-slice-aggregate-eval-2
-slice-aggregate-eval-2 c = search needs
-
 eval-requires : tie.Need-eval-requires
 eval-requires c κs = let a = c .before .before .before .before .before .before .before .before .before .before .args in let p = c .before .before .before .before .before .before .before .before .before .before .pre in let s = accepted-sound (a .table .now) (p .1 .0) in
     (rw (c .before .before .before .before .no-sets .ensures, c .before .before .before .no-flags .ensures) (none-known (a .site .now) (a .table .now) (a .free .now) (a .work .now) (p .0) s (p .1 .1 .0 .1) (p .1 .1 .0 .0) (p .1 .1 .1 .1)), omega (arith, s .some))
 
 load-requires : tie.Need-load-requires
-load-requires c κs = let a = c .before .before .before .before .before .before .before .before .before .before .before .before .before .before .before .before .args in let p = c .before .before .before .before .before .before .before .before .before .before .before .before .before .before .before .before .pre in let s = accepted-sound (a .table .now) (p .1 .0) in omega (arith, p .1 .1 .1, s .some, s .few, c .before .before .before .before .before .eval .kept)
+load-requires c κs =
+    let start = c .before .before .before .before .before .before .before .before .before .before .before .before .before .before in
+    let s = accepted-sound (start .args .table .now) (start .pre .1 .0) in
+    omega (arith, s .some, s .few, c .before .before .before .eval .ensures .work-size)
 
 store-requires : tie.Need-store-requires
 store-requires c κs = omega arith
@@ -50,8 +47,8 @@ same-length-2 c = omega arith
 returns : tie.Need-returns
 unfolding slots
 returns c =
-    let start = c .before .before .before .before .before .before .before .before .before .before .before .before .before .before .before .before .before .before .before .before .before .before .before .before .before .before .before in
-    let ev = c .before .before .before .before .before .before .before .before .before .before .before .before .before .before .before .before .eval in
+    let start = c .before .before .before .before .before .before .before .before .before .before .before .before .before .before .before .before .before .before .before .before .before .before .before .before .before in
+    let ev = c .before .before .before .before .before .before .before .before .before .before .before .before .before .before .eval in
     let ld = c .before .before .before .before .before .before .before .before .before .before .load in
     let st = c .before .before .before .before .before .before .before .before .store in
     let a = start .args in
@@ -66,7 +63,7 @@ returns c =
             (λ t h. whole (a .set .now) (st .last .0) (ld .result) (st .ensures) t h ∙ ld .ensures t h);
         counted = c .count .ensures;
       },
-      c .before .before .before .before .zero .ensures ∙ ap (λ (n : ℕ). replicate n 0) (ev .kept .1 .1 .1 .1 .1 .0 ∙ p .1 .1 .1 .1),
+      c .before .before .before .before .zero .ensures ∙ ap (λ (n : ℕ). replicate n 0) (ev .ensures .work-size),
     )
 
 pub list-spec : {M : Type 1} → statement M
@@ -76,8 +73,6 @@ list-spec =
     no-sets-requires
     no-flags-requires
     sub-i
-    slice-aggregate-eval
-    slice-aggregate-eval-2
     eval-requires
     load-requires
     store-requires

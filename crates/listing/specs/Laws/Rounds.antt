@@ -87,15 +87,15 @@ module _ {site S env₀ env fresh work : List ℕ} {k x b : ℕ} {set : List ℕ
 
     -- one more round
     pub rounds-more : {env₂ fresh₂ work₂ next : List ℕ} {q : Bool} → rounds < setSlots → Done site S env₁ env₂ fresh₂ work₂ b
-        → has next ≐ setAt work₂ b → (q ≡ true → set ≡ next) → length env₂ ≡ envBytes → length fresh₂ ≡ tableNodes → length work₂ ≡ workBytes
+        → has next ≐ setAt work₂ b → (q ≡ true → set ≡ next)
         → Rounds site S env₀ env₂ fresh₂ work₂ k x b next (rounds + 1) (not q)
     unfolding iter
-    rounds-more {next = next} {q} lt d en eq he hf hw =
+    rounds-more {next = next} {q} lt d en eq =
         record {
           few = omega arith;
-          env-size = he;
-          fresh-size = hf;
-          work-size = hw;
+          env-size = d .env-size;
+          fresh-size = d .fresh-size;
+          work-size = d .work-size;
           rest = λ v n s h. d .kept v s h ∙ w .others v n s h ∙ R .rest v n s h;
           flags-right = d .flags-right;
           value = λ s h.
