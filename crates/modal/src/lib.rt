@@ -55,13 +55,13 @@ fn put_if(found: &mut [u8], s: usize, leads: bool)
 }
 
 // The slots from which link m leads into the set.
-fn preimage(site: &[u8], m: usize, set: [u8; SET_BYTES]) -> [u8; SET_BYTES]
-    requires { ⌜ (length (now site) ≡ siteBytes) × (m < links) ⌝ }
-    ensures { λ r. ⌜ Is r (λ s. any slots (λ t. siteOf (now (site .entry)) .link m s t && has set t)) ⌝ }
+fn preimage(site: &[u8], m: usize, set: &[u8]) -> [u8; SET_BYTES]
+    requires { ⌜ (length (now site) ≡ siteBytes) × ((m < links) × (length (now set) ≡ setBytes)) ⌝ }
+    ensures { λ r. ⌜ Is r (λ s. any slots (λ t. siteOf (now (site .entry)) .link m s t && has (now (set .entry)) t)) ⌝ }
 {
     let mut found = [0u8; SET_BYTES];
     for s in 0..SET_SLOTS {
-        let leads = leads_into(site, m, s, &set);
+        let leads = leads_into(site, m, s, set);
         put_if(&mut found, s, leads);
     }
     found
@@ -111,13 +111,13 @@ fn add_byte(site: &[u8], m: usize, i: usize, set: &[u8], found: &mut [u8])
 }
 
 // The slots that link m leads to from the set.
-fn image(site: &[u8], m: usize, set: [u8; SET_BYTES]) -> [u8; SET_BYTES]
-    requires { ⌜ (length (now site) ≡ siteBytes) × (m < links) ⌝ }
-    ensures { λ r. ⌜ Is r (λ s. any slots (λ t. siteOf (now (site .entry)) .link m t s && has set t)) ⌝ }
+fn image(site: &[u8], m: usize, set: &[u8]) -> [u8; SET_BYTES]
+    requires { ⌜ (length (now site) ≡ siteBytes) × ((m < links) × (length (now set) ≡ setBytes)) ⌝ }
+    ensures { λ r. ⌜ Is r (λ s. any slots (λ t. siteOf (now (site .entry)) .link m t s && has (now (set .entry)) t)) ⌝ }
 {
     let mut found = [0u8; SET_BYTES];
     for i in 0..SET_BYTES {
-        add_byte(site, m, i, &set, &mut found);
+        add_byte(site, m, i, set, &mut found);
     }
     found
 }
@@ -140,10 +140,10 @@ pub fn diamond(site: &[u8], way: u8, set: [u8; SET_BYTES]) -> [u8; SET_BYTES]
 {
     let w = way as usize;
     if w < LINKS {
-        return preimage(site, w, set);
+        return preimage(site, w, &set);
     }
     if w < LINKS + LINKS {
-        return image(site, w - LINKS, set);
+        return image(site, w - LINKS, &set);
     }
     everywhere(set)
 }

@@ -21,9 +21,6 @@ loop-holds c = gather-none _
 slice-aggregate-add-byte : tie.Need-slice-aggregate-add-byte Inv-loop μ-loop
 slice-aggregate-add-byte c = search needs
 
-slice-aggregate-add-byte-2 : tie.Need-slice-aggregate-add-byte-2 Inv-loop μ-loop
-slice-aggregate-add-byte-2 c = search needs
-
 add-byte-requires : tie.Need-add-byte-requires Inv-loop μ-loop
 add-byte-requires c κs = search needs
 
@@ -34,7 +31,7 @@ loop-less : tie.Need-loop-less Inv-loop μ-loop
 loop-less c = omega arith
 
 loop-again : tie.Need-loop-again Inv-loop μ-loop
-loop-again c = gather-byte _ (c .before .before .before .before .before .loop .found) _ (c .before .before .before .before .before .loop .i) (c .before .before .before .before .before .loop .inv) (omega arith) (omega arith) (c .before .add-byte .ensures)
+loop-again c = gather-byte _ (c .before .before .before .before .loop .found) _ (c .before .before .before .before .loop .i) (c .before .before .before .before .loop .inv) (omega arith) (omega arith) (c .before .add-byte .ensures)
 
 returns : tie.Need-returns Inv-loop μ-loop
 returns c = gather-done _ _ (c .before .loop .i * 8) (c .before .loop .inv) (omega arith)
@@ -47,7 +44,6 @@ image-spec =
     μ-loop
     loop-holds
     slice-aggregate-add-byte
-    slice-aggregate-add-byte-2
     add-byte-requires
     add-i
     loop-less

@@ -20,9 +20,6 @@ abbrev μ-loop : tie.MeasureT-loop
 loop-holds : tie.Need-loop-holds Inv-loop μ-loop
 loop-holds c = gather-none _
 
-slice-aggregate-leads-into : tie.Need-slice-aggregate-leads-into Inv-loop μ-loop
-slice-aggregate-leads-into c = search needs
-
 leads-into-requires : tie.Need-leads-into-requires Inv-loop μ-loop
 leads-into-requires c κs = search needs
 
@@ -39,7 +36,7 @@ loop-less : tie.Need-loop-less Inv-loop μ-loop
 loop-less c = omega arith
 
 loop-again : tie.Need-loop-again Inv-loop μ-loop
-loop-again c = gather-more _ (c .before .before .before .before .before .before .loop .found) _ (c .before .before .before .before .before .before .loop .s) (c .before .before .before .before .before .before .loop .inv) (c .before .before .before .before .before .loop-test .taken) (omega arith) (rw (c .before .before .before .leads-into .ensures) at (c .before .put-if .ensures))
+loop-again c = gather-more _ (c .before .before .before .before .before .loop .found) _ (c .before .before .before .before .before .loop .s) (c .before .before .before .before .before .loop .inv) (c .before .before .before .before .loop-test .taken) (omega arith) (rw (c .before .before .before .leads-into .ensures) at (c .before .put-if .ensures))
 
 returns : tie.Need-returns Inv-loop μ-loop
 returns c = gather-each _ _ _ (c .before .loop .inv) (c .loop-test .left)
@@ -51,7 +48,6 @@ preimage-spec =
     Inv-loop
     μ-loop
     loop-holds
-    slice-aggregate-leads-into
     leads-into-requires
     slice-aggregate-put-if
     put-if-requires
