@@ -1,12 +1,12 @@
 // The neighbours of each slot by the ways 0 to 15, as rows of bits: read off a site once, before the rounds of refinement.
 ghost use mathlib.Core.Path.{_≡_};
-ghost use mathlib.Core.Bool.{_&&_, cond};
-ghost use Prim.Native.Nat.{_/_, _%_, _^_, _≤_, _<_};
-ghost use lib.ListN.{length};
+ghost use mathlib.Core.Bool.{true, _&&_, cond};
+ghost use Prim.Native.Nat.{ℕ, _+_, _/_, _%_, _^_, _≤_, _<_};
+ghost use lib.ListN.{length, getD};
 ghost use Rattle.finite.specs.Tests.{same, any};
 ghost use Rattle.bitset.specs.Set.{setBytes, setSlots};
 ghost use Rattle.limits.specs.Limits.{links, generalLinks};
-ghost use Rattle.site.specs.Layout.{siteBytes};
+ghost use Rattle.site.specs.Layout.{siteBytes, rowAt};
 ghost use Rattle.site.specs.Site.{siteOf};
 ghost use Rattle.partition.specs.Gains.{Gains};
 ghost use Rattle.partition.specs.Rows.{waysBytes, Neighbours};
@@ -89,11 +89,27 @@ fn join_byte(site: &[u8], m: usize, s: usize, i: usize, ways: &mut [u8])
     join_back(site, m, s, i, ways);
 }
 
-// Joins s and its targets by the general link m.
+// Has s no target by the general link m? All bytes are looked at, so that the compiler takes many at a time.
+fn no_targets(site: &[u8], m: usize, s: usize) -> bool
+    requires { ⌜ (length (now site) ≡ siteBytes) × ((m < generalLinks) × (s < setSlots)) ⌝ }
+    ensures { λ r. ⌜ (r ≡ true → (i : ℕ) → i < setBytes → getD (now (site .entry)) (rowAt m s + i) 0 ≡ 0) ⌝ }
+{
+    let row = ROWS_AT + ROWS_BYTES * m + SET_BYTES * s;
+    let mut found = 0u8;
+    for i in 0..SET_BYTES {
+        found = found | site[row + i];
+    }
+    found == 0
+}
+
+// Joins s and its targets by the general link m. Most rows of a small site have no target.
 fn join_row(site: &[u8], m: usize, s: usize, ways: &mut [u8])
     requires { ⌜ (length (now site) ≡ siteBytes) × ((m < generalLinks) × ((s < setSlots) × (length (now ways) ≡ waysBytes))) ⌝ }
     ensures { λ _. ⌜ Gains (targetJoins (siteOf (now (site .entry))) m s) (now (ways .entry)) (now (ways .exit)) ⌝ }
 {
+    if no_targets(site, m, s) {
+        return;
+    }
     for i in 0..SET_BYTES {
         join_byte(site, m, s, i, ways);
     }

@@ -68,11 +68,14 @@ byte-joined M m s i g h =
 
 module _ (S : List ℕ) (m s : ℕ) (hs : s < setSlots) where
   -- a byte of the row that is 0 joins nothing
-  pub byte-none : (i : ℕ) {b : List ℕ} → m < generalLinks → i < setBytes → getD S (rowAt m s + i) 0 ≡ 0 → Gains (byteJoins (siteOf S) m s i) b b
+  no-join : (i y : ℕ) → m < generalLinks → i < setBytes → getD S (rowAt m s + i) 0 ≡ 0 → byteJoins (siteOf S) m s i y ≡ false
   unfolding byteJoins linkJoins slots has
-  byte-none i hm hi e = gains-none (λ y. none-any 8 _ (λ j h.
+  no-join i y hm hi e = none-any 8 _ (λ j h.
       let x : (rowAt m s * 8 + (8 * i + j)) / 8 ≡ rowAt m s + i = omega arith in
-      rw (row-is S m s (8 * i + j) hm hs (omega arith), x, e, bit-zero ((rowAt m s * 8 + (8 * i + j)) % 8))))
+      rw (row-is S m s (8 * i + j) hm hs (omega arith), x, e, bit-zero ((rowAt m s * 8 + (8 * i + j)) % 8)))
+
+  pub byte-none : (i : ℕ) {b : List ℕ} → m < generalLinks → i < setBytes → getD S (rowAt m s + i) 0 ≡ 0 → Gains (byteJoins (siteOf S) m s i) b b
+  byte-none i hm hi e = gains-none (λ y. no-join i y hm hi e)
 
   -- a functional link leads to its target v, or nowhere
   module _ (f : generalLinks ≤ m) (l : m < links) (v : ℕ) (e : v ≡ getD S (targetAt m s) 0) where
@@ -105,6 +108,11 @@ bytes-all M m s = gains-map (λ y. both
     let r = any-out setSlots _ q in
     let e : r .0 ≡ 8 * (r .0 / 8) + r .0 % 8 = omega arith in
     any-in setBytes _ (r .0 / 8) (omega (arith, r .1)) (any-in 8 _ (r .0 % 8) (omega arith) (rw (← e) (r .2)))))
+
+-- a row without a target joins nothing
+pub row-none : (S : List ℕ) (m s : ℕ) {b : List ℕ} → m < generalLinks → s < setSlots → ((i : ℕ) → i < setBytes → getD S (rowAt m s + i) 0 ≡ 0)
+    → Gains (targetJoins (siteOf S) m s) b b
+row-none S m s hm hs z = bytes-all (siteOf S) m s (gains-none (λ y. none-any setBytes _ (λ i h. no-join S m s hs i y hm h (z i h))))
 
 -- all links joined
 module _ (M : Model) (n : ℕ) {W : List ℕ} (g : Gains (λ y. any links (λ m. any setSlots (λ s. targetJoins M m s y))) (replicate n 0) W) where
