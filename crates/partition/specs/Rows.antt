@@ -1,12 +1,11 @@
 -- Rows: 256 sets of 32 bytes, one for each slot. A slot's signature is the row of the classes that its neighbours are in.
 use mathlib.Core.Path.{_≡_}
-use mathlib.Core.Bool.{Bool, true, _&&_, _||_, Bool·beq}
+use mathlib.Core.Bool.{Bool, true, not, _&&_, _||_, Bool·beq}
 use mathlib.Core.List.{List}
-use Prim.Native.Nat.{ℕ, _+_, _-_, _*_, _<_}
-use lib.Bits.{bitAnd}
+use Prim.Native.Nat.{ℕ, _+_, _*_, _<_}
 use lib.ListN.{getD}
 use Rattle.limits.specs.Limits.{everyWay}
-use Rattle.finite.specs.Tests.{same, any, all}
+use Rattle.finite.specs.Tests.{bit, same, any, all}
 use Rattle.bitset.specs.Set.{setSlots, has}
 use Rattle.semantics.specs.Holds.{Model, step}
 use Rattle.semantics.specs.Table.{wayOf}
@@ -56,10 +55,6 @@ othersInClass p O i c = all 8 (λ j. has O (8 * i + j) || same (getD p (8 * i + 
 unfoldable pub ownBytePuts : List ℕ → List ℕ → List ℕ → ℕ → ℕ → ℕ → Bool
 ownBytePuts R p O s i y = any 8 (λ j. has O (8 * i + j) && slotPuts R p s (8 * i + j) y)
 
--- byte i of row s has no slot that is not in O
-unfoldable pub noOtherInByte : List ℕ → List ℕ → ℕ → ℕ → Bool
-noOtherInByte R O s i = same (bitAnd (getD R (32 * s + i) 0) (255 - getD O i 0)) 0
-
 -- of the slots of group g, those that are not in O are in class c
 unfoldable pub groupOthersInClass : List ℕ → List ℕ → ℕ → ℕ → Bool
 groupOthersInClass p O g c = all 8 (λ k. othersInClass p O (8 * g + k) c)
@@ -68,9 +63,13 @@ groupOthersInClass p O g c = all 8 (λ k. othersInClass p O (8 * g + k) c)
 unfoldable pub ownGroupPuts : List ℕ → List ℕ → List ℕ → ℕ → ℕ → ℕ → Bool
 ownGroupPuts R p O s g y = any 8 (λ k. ownBytePuts R p O s (8 * g + k) y)
 
--- group g of row s has no slot that is not in O
-unfoldable pub noOtherInGroup : List ℕ → List ℕ → ℕ → ℕ → Bool
-noOtherInGroup R O s g = all 8 (λ k. noOtherInByte R O s (8 * g + k))
+-- the digits of w that are 1 are the slots of group g of row s that are not in O
+unfoldable pub OtherSlots : List ℕ → List ℕ → ℕ → ℕ → ℕ → Type 0
+OtherSlots R O s g w = (j : ℕ) → j < 64 → bit w j ≡ (inRow R s (64 * g + j) && not (has O (64 * g + j)))
+
+-- what those of the slots of group g whose digits in w are 1 put into row s
+unfoldable pub wordPuts : List ℕ → ℕ → ℕ → ℕ → ℕ → Bool
+wordPuts p s g w y = any 64 (λ j. bit w j && same y (setSlots * s + getD p (64 * g + j) 0))
 
 -- for each of the first n groups, C has a class that those of its slots are in that are not in O; or it has a number that is no class
 abbrev pub ClassOfOthers : List ℕ → List ℕ → List ℕ → ℕ → Type 0

@@ -1,4 +1,4 @@
-// Signatures: for each slot the set of the classes that the slots of its row are in, eight slots at a time.
+// Signatures: for each slot the set of the classes that the slots of its row are in, 64 slots at a time.
 use buffer::wide;
 ghost use mathlib.Core.Path.{_≡_};
 ghost use mathlib.Core.Bool.{true, _&&_, _||_};
@@ -8,7 +8,7 @@ ghost use Rattle.finite.specs.Tests.{same, any};
 ghost use Rattle.bitset.specs.Set.{setBytes, setSlots, has, Is};
 ghost use Rattle.partition.specs.Gains.{Gains};
 ghost use Rattle.site.specs.Layout.{rowsBytes};
-ghost use Rattle.partition.specs.Rows.{Signed, slotPuts, bytePuts, groupPuts, owns, othersInClass, groupOthersInClass, ownGroupPuts, noOtherInGroup, ClassOfOthers};
+ghost use Rattle.partition.specs.Rows.{Signed, groupPuts, owns, othersInClass, groupOthersInClass, ownGroupPuts, OtherSlots, wordPuts, ClassOfOthers};
 use bitset::SET_BYTES;
 use bitset::SET_SLOTS;
 use site::ROWS_BYTES;
@@ -89,27 +89,6 @@ fn others_in_class(p: &[u8], own: &[u8], i: usize, c: u8) -> bool
     true
 }
 
-// Slot t puts its class into row s of the signatures if it is in row s.
-fn put_slot(rows: &[u8], p: &[u8], s: usize, t: usize, sig: &mut [u8])
-    requires { ⌜ (length (now rows) ≡ rowsBytes) × ((length (now p) ≡ setSlots) × ((s < setSlots) × ((t < setSlots) × (length (now sig) ≡ rowsBytes)))) ⌝ }
-    ensures { λ _. ⌜ Gains (slotPuts (now (rows .entry)) (now (p .entry)) s t) (now (sig .entry)) (now (sig .exit)) ⌝ }
-{
-    if !bitset::member(rows, SET_SLOTS * s + t) {
-        return;
-    }
-    bitset::insert(sig, SET_SLOTS * s + wide(p[t]));
-}
-
-// The eight slots of byte i of row s put in their classes, one by one.
-fn put_slots(rows: &[u8], p: &[u8], s: usize, i: usize, sig: &mut [u8])
-    requires { ⌜ (length (now rows) ≡ rowsBytes) × ((length (now p) ≡ setSlots) × ((s < setSlots) × ((i < setBytes) × (length (now sig) ≡ rowsBytes)))) ⌝ }
-    ensures { λ _. ⌜ Gains (bytePuts (now (rows .entry)) (now (p .entry)) s i) (now (sig .entry)) (now (sig .exit)) ⌝ }
-{
-    for j in 0..8 {
-        put_slot(rows, p, s, 8 * i + j, sig);
-    }
-}
-
 // Of the slots of group g, are those that are not in `own` in class c?
 fn group_others_in_class(p: &[u8], own: &[u8], g: usize, c: u8) -> bool
     requires { ⌜ (length (now p) ≡ setSlots) × ((length (now own) ≡ setBytes) × (g < 4)) ⌝ }
@@ -147,42 +126,25 @@ fn other_classes(p: &[u8], own: &[u8]) -> [u16; GROUPS]
     classes
 }
 
-// What `put_slots` does, with the slots that have their own number at once.
-fn put_byte(rows: &[u8], p: &[u8], own: &[u8], s: usize, i: usize, sig: &mut [u8])
-    requires { ⌜ (length (now rows) ≡ rowsBytes) × ((length (now p) ≡ setSlots) × ((length (now own) ≡ setBytes) × ((s < setSlots) × ((i < setBytes) × (length (now sig) ≡ rowsBytes))))) ⌝ }
-    requires { ⌜ Is (now own) (owns (now p)) ⌝ }
-    ensures { λ _. ⌜ Gains (bytePuts (now (rows .entry)) (now (p .entry)) s i) (now (sig .entry)) (now (sig .exit)) ⌝ }
-{
-    let at = SET_BYTES * s + i;
-    sig[at] = sig[at] | (rows[at] & own[i]);
-    if rows[at] & !own[i] == 0 {
-        return;
-    }
-    put_slots(rows, p, s, i, sig);
-}
-
-// The eight bytes of group g of row s put in their slots' classes, one by one.
-fn put_bytes(rows: &[u8], p: &[u8], own: &[u8], s: usize, g: usize, sig: &mut [u8])
-    requires { ⌜ (length (now rows) ≡ rowsBytes) × ((length (now p) ≡ setSlots) × ((length (now own) ≡ setBytes) × ((s < setSlots) × ((g < 4) × (length (now sig) ≡ rowsBytes))))) ⌝ }
-    requires { ⌜ Is (now own) (owns (now p)) ⌝ }
-    ensures { λ _. ⌜ Gains (groupPuts (now (rows .entry)) (now (p .entry)) s g) (now (sig .entry)) (now (sig .exit)) ⌝ }
-{
-    for k in 0..8 {
-        put_byte(rows, p, own, s, 8 * g + k, sig);
-    }
-}
-
-// Are the slots of group g of row s all in `own`? No byte ends the loop early, so that the compiler takes the eight bytes at once.
-fn all_own(rows: &[u8], own: &[u8], s: usize, g: usize) -> bool
+// The slots of group g of row s that are not in `own`, as the digits of a word.
+fn others_of(rows: &[u8], own: &[u8], s: usize, g: usize) -> u64
     requires { ⌜ (length (now rows) ≡ rowsBytes) × ((length (now own) ≡ setBytes) × ((s < setSlots) × (g < 4))) ⌝ }
-    ensures { λ r. ⌜ r ≡ noOtherInGroup (now (rows .entry)) (now (own .entry)) s g ⌝ }
+    ensures { λ r. ⌜ OtherSlots (now (rows .entry)) (now (own .entry)) s g r ⌝ }
 {
-    let mut others = 0u8;
-    for k in 0..8 {
-        let i = 8 * g + k;
-        others = others | (rows[SET_BYTES * s + i] & !own[i]);
+    words::get(rows, SET_BYTES * s + 8 * g) & !words::get(own, 8 * g)
+}
+
+// The slots of group g whose digits in w are 1 put their classes into row s of the signatures, from one digit that is 1 to the next.
+fn put_word(p: &[u8], s: usize, g: usize, w: u64, sig: &mut [u8])
+    requires { ⌜ (length (now p) ≡ setSlots) × ((s < setSlots) × ((g < 4) × (length (now sig) ≡ rowsBytes))) ⌝ }
+    ensures { λ _. ⌜ Gains (wordPuts (now (p .entry)) s g w) (now (sig .entry)) (now (sig .exit)) ⌝ }
+{
+    let mut left = w;
+    while left != 0 {
+        let t = 64 * g + u64::trailing_zeros(left) as usize;
+        bitset::insert(sig, SET_SLOTS * s + wide(p[t]));
+        left = left & (left - 1);
     }
-    others == 0
 }
 
 // The slots of group g of row s that are in `own` put in their classes: each is the number of its class.
@@ -206,14 +168,15 @@ fn put_group(rows: &[u8], p: &[u8], own: &[u8], c: u16, s: usize, g: usize, sig:
     ensures { λ _. ⌜ Gains (groupPuts (now (rows .entry)) (now (p .entry)) s g) (now (sig .entry)) (now (sig .exit)) ⌝ }
 {
     put_own_group(rows, p, own, s, g, sig);
-    if all_own(rows, own, s, g) {
+    let others = others_of(rows, own, s, g);
+    if others == 0 {
         return;
     }
     if c < 256 {
         bitset::insert(sig, SET_SLOTS * s + slot(c));
         return;
     }
-    put_bytes(rows, p, own, s, g, sig);
+    put_word(p, s, g, others, sig);
 }
 
 // Row s puts in its slots' classes, group by group.

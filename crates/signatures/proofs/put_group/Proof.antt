@@ -8,18 +8,18 @@ use Rattle.signatures.proofs.put_group.Tie as tie
 put-own-group-requires : tie.Need-put-own-group-requires
 put-own-group-requires c κs = search needs
 
-all-own-requires : tie.Need-all-own-requires
-all-own-requires c κs = search needs
+others-of-requires : tie.Need-others-of-requires
+others-of-requires c κs = search needs
 
 same-length : tie.Need-same-length
 same-length c = search needs
 
 returns : tie.Need-returns
 returns c =
-    let s = c .before .before .before .before .before .before .before .before .before .before in
-    let a = s .args in
-    let row-bytes = c .before .before .before .before .before .before .before .before .before .shared-slice-known in
-    group-own (a .rows .now) (a .p .now) (a .s) (a .g) (a .own .now) (s .pre .1 .0) (omega arith) (λ k. omega (arith, row-bytes .given k)) (λ k. omega (arith, c .before .before .before .before .before .before .before .shared-slice-known3 .given k)) (c .before .all-own .ensures) (c .if1 .taken) (c .before .before .before .before .put-own-group .ensures)
+    let o = c .before in
+    let own = o .before .before .before in
+    let a = own .before .before .before .before .before .before .args in
+    group-own (a .rows .now) (a .p .now) (a .s) (a .g) (a .own .now) (o .others-of .result) (o .others-of .ensures) (own .put-own-group .ensures) (omega (arith, c .if1 .taken))
 
 mul-insert : tie.Need-mul-insert
 mul-insert c = omega arith
@@ -38,36 +38,35 @@ same-length-2 c = search needs
 
 returns-2 : tie.Need-returns-2
 returns-2 c =
-    let s = c .before .before .before .before .before .before .before .before .before .before .before .before .before .before .before .before in
-    let a = s .args in
-    let row-bytes = c .before .before .before .before .before .before .before .before .before .before .before .before .before .before .before .shared-slice-known in
-    let own-bytes = c .before .before .before .before .before .before .before .before .before .before .before .before .before .shared-slice-known3 in
-    let own-put = c .before .before .before .before .before .before .before .before .before .before .put-own-group in
-    group-one (a .rows .now) (a .p .now) (a .s) (a .g) (a .own .now) (s .pre .1 .0) (omega arith) (λ k. omega (arith, row-bytes .given k)) (λ k. omega (arith, own-bytes .given k)) (a .c) (c .before .before .before .before .before .before .before .all-own .ensures) (c .before .before .before .before .before .before .if1 .left) (s .pre .1 .1 (c .before .before .before .before .before .if2 .taken)) (own-put .ensures) (rw (c .before .before .before .slot .ensures) at (c .before .before .insert .ensures)) (omega (arith, own-put .ensures .long))
+    let if2 = c .before .before .before .before .before in
+    let o = if2 .before .before in
+    let own = o .before .before .before in
+    let start = own .before .before .before .before .before .before in
+    let a = start .args in
+    group-one (a .rows .now) (a .p .now) (a .s) (a .g) (a .own .now) (o .others-of .result) (o .others-of .ensures) (own .put-own-group .ensures) (a .c) (omega arith)
+    (omega (arith, if2 .before .if1 .left)) (start .pre .1 .1 (if2 .if2 .taken)) (rw (c .before .before .before .slot .ensures) at (c .before .before .insert .ensures))
+    (omega (arith, start .pre .0, if2 .if2 .taken, own .put-own-group .ensures .long))
 
-put-bytes-requires : tie.Need-put-bytes-requires
-put-bytes-requires c κs =
-    let start = c .before .before .before .before .before .before .before .before .before .before .before .before in
-    (omega arith, start .pre .1 .0)
+put-word-requires : tie.Need-put-word-requires
+put-word-requires c κs = omega arith
 
 same-length-3 : tie.Need-same-length-3
 same-length-3 c = search needs
 
 returns-3 : tie.Need-returns-3
 returns-3 c =
-    let s = c .before .before .before .before .before .before .before .before .before .before .before .before .before .before .before in
-    let a = s .args in
-    let row-bytes = c .before .before .before .before .before .before .before .before .before .before .before .before .before .before .shared-slice-known in
-    let own-bytes = c .before .before .before .before .before .before .before .before .before .before .before .before .shared-slice-known3 in
-    let own-put = c .before .before .before .before .before .before .before .before .before .put-own-group in
-    group-all (a .rows .now) (a .p .now) (a .s) (a .g) (a .own .now) (s .pre .1 .0) (omega arith) (λ k. omega (arith, row-bytes .given k)) (λ k. omega (arith, own-bytes .given k)) (own-put .ensures) (c .before .before .put-bytes .ensures)
+    let o = c .before .before .before .before .before .before in
+    let own = o .before .before .before in
+    let a = own .before .before .before .before .before .before .args in
+    group-all (a .rows .now) (a .p .now) (a .s) (a .g) (a .own .now) (o .others-of .result) (o .others-of .ensures) (own .put-own-group .ensures)
+    (c .before .before .put-word .ensures)
 
 pub put-group-spec : {M : Type 1} → statement M
 put-group-spec =
     tie.close
     (tie.spec
     put-own-group-requires
-    all-own-requires
+    others-of-requires
     same-length
     returns
     mul-insert
@@ -76,6 +75,6 @@ put-group-spec =
     insert-requires
     same-length-2
     returns-2
-    put-bytes-requires
+    put-word-requires
     same-length-3
     returns-3)
