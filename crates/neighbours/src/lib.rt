@@ -53,16 +53,13 @@ fn put_if(ways: &mut [u8], x: usize, put: bool)
     ways[x / 8] = ways[x / 8] | w;
 }
 
-// Puts the targets of s by the general link m among the eight slots of byte i into row s of way m.
+// Puts the targets of s by the general link m among the eight slots of byte i into row s of way m, where they stand as in the site.
 fn join_along(site: &[u8], m: usize, s: usize, i: usize, ways: &mut [u8])
     requires { ⌜ (length (now site) ≡ siteBytes) × ((m < generalLinks) × ((s < setSlots) × ((i < setBytes) × (length (now ways) ≡ waysBytes)))) ⌝ }
     ensures { λ _. ⌜ Gains (alongJoins (siteOf (now (site .entry))) m s i) (now (ways .entry)) (now (ways .exit)) ⌝ }
 {
-    for j in 0..8 {
-        let t = 8 * i + j;
-        let there = bitset::member(site, (ROWS_AT + ROWS_BYTES * m + SET_BYTES * s) * 8 + t);
-        put_if(ways, WAY_BITS * m + (SET_SLOTS * s + t), there);
-    }
+    let at = ROWS_BYTES * m + SET_BYTES * s + i;
+    ways[at] = ways[at] | site[ROWS_AT + at];
 }
 
 // Puts s into the rows, of the reverse of m, of its targets by the general link m among the eight slots of byte i.

@@ -1,27 +1,26 @@
 -- The steps of loops that join slots, and the neighbours that they make.
 use mathlib.Core.Path.{_≡_, refl, sym, _∙_}
 use mathlib.Core.Logic.{_≢_}
-use mathlib.Core.Bool.{Bool, true, false, not, _&&_, _||_, cond, or-false}
+use mathlib.Core.Bool.{Bool, true, false, not, _&&_, _||_, cond}
 use mathlib.Core.List.{List}
 use Prim.Native.Nat.{ℕ, zero, suc, _+_, _-_, _*_, _/_, _%_, _^_, _≤_, _<_}
 use native.Mathlib.Omega.{arith}
-use lib.Bits.{bitOr, or-zero-r}
-use lib.ListN.{length, getD, set, replicate, length-set}
-use lib.Seq.{getD-set-same, getD-set-other}
+use lib.Bits.{bitOr}
+use lib.ListN.{length, getD, set, replicate}
 use Rattle.finite.specs.Tests.{bit, same, below, any}
 use Rattle.finite.specs.Laws.Bools.{either, look, and-in, and-l, and-r, or-l, or-r, or-out, both}
-use Rattle.finite.specs.Laws.Below.{equal?, same-eq, same-refl, ne-same, any-in, any-out, none-any, below-out, not-below}
+use Rattle.finite.specs.Laws.Below.{equal?, same-eq, same-refl, eq-same, ne-same, any-in, any-out, none-any, below-out, not-below}
 use Rattle.finite.specs.Laws.Weights.{bit-zero}
 use Rattle.bitset.specs.Set.{setBytes, setSlots, has, inserted}
 use Rattle.limits.specs.Limits.{slots, links, generalLinks}
 use Rattle.semantics.specs.Holds.{Model, step}
 use Rattle.semantics.specs.Laws.Ways.{way-along, way-against}
-use Rattle.site.specs.Layout.{targetAt, rowAt}
+use Rattle.site.specs.Layout.{rowsBytes, targetAt, rowAt}
 use Rattle.site.specs.Site.{siteOf}
 use Rattle.site.specs.Laws.Read.{row-is, target-read}
 use Rattle.partition.specs.Gains.{Gains}
 use Rattle.partition.specs.Rows.{Neighbours}
-use Rattle.partition.specs.Laws.Gains.{gains-none, gains-put, gains-map, gains-join, gains-zeros}
+use Rattle.partition.specs.Laws.Gains.{gains-none, gains-put, gains-byte, gains-map, gains-join, gains-zeros}
 use Rattle.neighbours.specs.Steps.{at, joins, linkJoins, alongJoins, backJoins, byteJoins, targetJoins}
 
 -- both bits of a join are set
@@ -37,13 +36,11 @@ pub weighed : (put : Bool) {b : List ℕ} (x w : ℕ) → w ≡ cond put (2 ^ (x
     → Gains (λ y. put && same y x) b (set b (x / 8) (bitOr (getD b (x / 8) 0) w))
 unfolding inserted has
 weighed true x w e h = gains-put x (rw e) h
-weighed false {b} x w e h = record {
-  long = length-set b (x / 8) _;
-  holds = λ y. either
-      (equal? (y / 8) (x / 8))
-      (λ q. rw (e, or-zero-r (getD b (x / 8) 0), q, getD-set-same b (x / 8) (getD b (x / 8) 0) 0 h) (sym (or-false (bit (getD b (x / 8) 0) (y % 8)))))
-      (λ n. rw (getD-set-other b (x / 8) (y / 8) (bitOr (getD b (x / 8) 0) w) 0 n) (sym (or-false (bit (getD b (y / 8) 0) (y % 8)))));
-}
+weighed false x w e h = gains-map (λ y. rw (e, bit-zero (y % 8)) (never (same (y / 8) (x / 8)))) (gains-byte (x / 8) w h)
+  where
+    never : (t : Bool) → (t && false) ≡ false
+    never true = refl
+    never false = refl
 
 -- some number passes one of two tests
 any-or : (n : ℕ) (f g h : ℕ → Bool) → (any n (λ k. f k && g k) || any n (λ k. f k && h k)) ≡ any n (λ k. f k && (g k || h k))
@@ -67,15 +64,37 @@ byte-joined M m s i g h =
     (gains-join g h)
 
 module _ (S : List ℕ) (m s : ℕ) (hs : s < setSlots) where
+  row-bit : (i j : ℕ) → m < generalLinks → i < setBytes → j < 8 → siteOf S .link m s (8 * i + j) ≡ bit (getD S (rowAt m s + i) 0) j
+  unfolding slots has
+  row-bit i j hm hi h =
+      let x : (rowAt m s * 8 + (8 * i + j)) / 8 ≡ rowAt m s + i = omega arith in
+      let y : (rowAt m s * 8 + (8 * i + j)) % 8 ≡ j = omega arith in
+      row-is S m s (8 * i + j) hm hs (omega arith) ∙ rw (x, y)
+
   -- a byte of the row that is 0 joins nothing
   no-join : (i y : ℕ) → m < generalLinks → i < setBytes → getD S (rowAt m s + i) 0 ≡ 0 → byteJoins (siteOf S) m s i y ≡ false
-  unfolding byteJoins linkJoins slots has
-  no-join i y hm hi e = none-any 8 _ (λ j h.
-      let x : (rowAt m s * 8 + (8 * i + j)) / 8 ≡ rowAt m s + i = omega arith in
-      rw (row-is S m s (8 * i + j) hm hs (omega arith), x, e, bit-zero ((rowAt m s * 8 + (8 * i + j)) % 8)))
+  unfolding byteJoins linkJoins
+  no-join i y hm hi e = none-any 8 _ (λ j h. rw (row-bit i j hm hi h, e, bit-zero j))
 
   pub byte-none : (i : ℕ) {b : List ℕ} → m < generalLinks → i < setBytes → getD S (rowAt m s + i) 0 ≡ 0 → Gains (byteJoins (siteOf S) m s i) b b
   byte-none i hm hi e = gains-none (λ y. no-join i y hm hi e)
+
+  -- a byte of the row is put in as it is
+  pub byte-along : (i : ℕ) {b : List ℕ} (k x : ℕ) → m < generalLinks → i < setBytes → k ≡ rowsBytes * m + setBytes * s + i → x ≡ rowAt m s + i → k < length b
+      → Gains (alongJoins (siteOf S) m s i) b (set b k (bitOr (getD b k 0) (getD S x 0)))
+  unfolding alongJoins
+  byte-along i k x hm hi e f l =
+      rw f (gains-map (λ y. both
+      (λ q.
+      let d : y / 8 ≡ k = same-eq (and-l _ _ q) in
+      any-in 8 _ (y % 8) (omega arith) (and-in (row-bit i (y % 8) hm hi (omega arith) ∙ and-r (same (y / 8) k) _ q) (eq-same (let z : y ≡ at m s (8 * i + y % 8) = omega arith in z))))
+      (λ q.
+      let j = any-out 8 _ q in
+      let z : y ≡ at m s (8 * i + j .0) = same-eq (and-r (siteOf S .link m s (8 * i + j .0)) _ (j .2)) in
+      let d : y / 8 ≡ k = omega (arith, j .1) in
+      let h : y % 8 ≡ j .0 = omega (arith, j .1) in
+      and-in (eq-same d) (rw h (sym (row-bit i (j .0) hm hi (j .1)) ∙ and-l _ _ (j .2)))))
+      (gains-byte k (getD S (rowAt m s + i) 0) l))
 
   -- a functional link leads to its target v, or nowhere
   module _ (f : generalLinks ≤ m) (l : m < links) (v : ℕ) (e : v ≡ getD S (targetAt m s) 0) where

@@ -5,8 +5,13 @@ use mathlib.Core.List.{List}
 use Prim.Native.Nat.{ℕ, zero, suc, _+_, _/_, _%_, _≤_, _<_}
 use native.Mathlib.Numerals.{add-one}
 use native.Mathlib.Omega.{arith}
-use lib.ListN.{length, getD, replicate}
-use Rattle.finite.specs.Tests.{same, any}
+use lib.Bits.{bitOr}
+use lib.ListN.{length, getD, set, replicate, length-set}
+use lib.Seq.{getD-set-same, getD-set-other}
+use Rattle.finite.specs.Tests.{bit, same, any}
+use Rattle.finite.specs.Laws.Bools.{either}
+use Rattle.finite.specs.Laws.Below.{equal?, same-refl, ne-same}
+use Rattle.finite.specs.Laws.Bits.{bit-or}
 use Rattle.finite.specs.Laws.Weights.{bit-zero}
 use Rattle.finite.specs.Laws.Zeros.{zeros-at}
 use Rattle.bitset.specs.Set.{has, inserted}
@@ -34,6 +39,17 @@ pub gains-join : {f g : ℕ → Bool} {b a d : List ℕ} → Gains f b a → Gai
 gains-join {f} {g} {b} h k = record {
   long = k .long ∙ h .long;
   holds = λ y. k .holds y ∙ ap (λ (z : Bool). z || g y) (h .holds y) ∙ or-assoc (has b y) (f y) (g y);
+}
+
+-- a byte is united with v
+pub gains-byte : {b : List ℕ} (k v : ℕ) → k < length b → Gains (λ y. same (y / 8) k && bit v (y % 8)) b (set b k (bitOr (getD b k 0) v))
+unfolding has
+gains-byte {b} k v l = record {
+  long = length-set b k _;
+  holds = λ y. either
+      (equal? (y / 8) k)
+      (λ e. rw (e, getD-set-same b k (bitOr (getD b k 0) v) 0 l, bit-or (getD b k 0) v (y % 8), same-refl k))
+      (λ n. rw (getD-set-other b k (y / 8) (bitOr (getD b k 0) v) 0 n, ne-same n) (sym (or-false (bit (getD b (y / 8) 0) (y % 8)))));
 }
 
 -- the first i passes set the bits that pass f of each: at the start, after one more, at the end

@@ -7,18 +7,18 @@ use Prim.Native.Nat.{ℕ, _+_, _-_, _*_, _/_, _%_, _^_, _<_}
 use native.Mathlib.Omega.{arith}
 use lib.Bits.{bitAnd, bitOr, or-add-and, and-le-l, and-le-r}
 use lib.Count.{trailingZeros}
-use lib.ListN.{length, getD, set, replicate, length-set}
+use lib.ListN.{length, getD, set, replicate}
 use lib.Seq.{getD-set-same, getD-set-other}
 use Rattle.finite.specs.Tests.{bit, same, any, all}
-use Rattle.finite.specs.Laws.Bools.{either, look, no-true, and-in, and-l, and-r, or-l, or-r, or-out, not-out, both}
+use Rattle.finite.specs.Laws.Bools.{either, look, and-in, and-l, and-r, or-l, or-r, or-out, not-out, both}
 use Rattle.finite.specs.Laws.Below.{equal?, same-eq, same-refl, eq-same, any-in, any-out, any-none, all-out, none-any}
-use Rattle.finite.specs.Laws.Bits.{bit-or, bit-and}
+use Rattle.finite.specs.Laws.Bits.{bit-and}
 use Rattle.finite.specs.Laws.Weights.{bit-zero, no-bits}
 use Rattle.bitset.specs.Set.{setBytes, setSlots, has, Is, inserted}
 use Rattle.bitset.specs.Laws.Bytes.{has-byte}
 use Rattle.partition.specs.Gains.{Gains, Lacks}
 use Rattle.partition.specs.Rows.{inRow, slotPuts, bytePuts, groupPuts, owns, othersInClass, ownBytePuts, groupOthersInClass, ownGroupPuts, OtherSlots, wordPuts, ClassOfOthers}
-use Rattle.partition.specs.Laws.Gains.{gains-none, gains-put, gains-map, gains-join, gains-zeros}
+use Rattle.partition.specs.Laws.Gains.{gains-byte, gains-none, gains-put, gains-map, gains-join, gains-zeros}
 use Rattle.partition.specs.Laws.Digits.{lowest}
 
 pub or-zero : (a b : ℕ) → bitOr a b ≡ 0 → (a ≡ 0) × (b ≡ 0)
@@ -52,28 +52,21 @@ module _ (R p : List ℕ) (s i : ℕ) (O : List ℕ) (o : Is O (owns p)) (h : i 
 
   pub own-byte-puts : {b : List ℕ} → 32 * s + i < length b
       → Gains (ownBytePuts R p O s i) b (set b (32 * s + i) (bitOr (getD b (32 * s + i) 0) (bitAnd (getD R (32 * s + i) 0) (getD O i 0))))
-  unfolding has
-  own-byte-puts {b} l = record {
-    long = length-set b (32 * s + i) _;
-    holds = λ y. either
-        (equal? (y / 8) (32 * s + i))
-        (λ e. rw (e, getD-set-same b (32 * s + i) _ 0 l, bit-or (getD b (32 * s + i) 0) (bitAnd (getD R (32 * s + i) 0) (getD O i 0)) (y % 8), bit-and (getD R (32 * s + i) 0) (getD O i 0) (y % 8))
-        (ap (λ (z : Bool). bit (getD b (32 * s + i) 0) (y % 8) || z) (here y e)))
-        (λ n. rw (getD-set-other b (32 * s + i) (y / 8) _ 0 n, there y n) (sym (or-false (bit (getD b (y / 8) 0) (y % 8)))));
-  }
-    where
-      here : (y : ℕ) → y / 8 ≡ 32 * s + i → (bit (getD R (32 * s + i) 0) (y % 8) && bit (getD O i 0) (y % 8)) ≡ ownBytePuts R p O s i y
-      here y e = both
-          (λ q. own-in y (y % 8) (omega arith) (own-bit (y % 8) (omega arith) ∙ and-r (bit (getD R (32 * s + i) 0) (y % 8)) _ q) (row-bit R s i (y % 8) (omega arith) ∙ and-l _ _ q) (omega arith))
-          (λ q.
-          let a = own-out y q in
-          let j : a .0 ≡ y % 8 = omega (arith, a .1, a .4) in
-          let x : bit (getD R (32 * s + i) 0) (a .0) ≡ true = sym (row-bit R s i (a .0) (a .1)) ∙ a .3 in
-          let z : bit (getD O i 0) (a .0) ≡ true = sym (own-bit (a .0) (a .1)) ∙ a .2 in
-          and-in (rw j at x) (rw j at z))
-
-      there : (y : ℕ) → y / 8 ≢ 32 * s + i → ownBytePuts R p O s i y ≡ false
-      there y n = no-true (λ q. let a = own-out y q in n (omega (arith, a .1, a .4)))
+  own-byte-puts l =
+      gains-map (λ y. both
+      (λ q.
+      let e : y / 8 ≡ 32 * s + i = same-eq (and-l _ _ q) in
+      let z = sym (bit-and (getD R (32 * s + i) 0) (getD O i 0) (y % 8)) ∙ and-r (same (y / 8) (32 * s + i)) _ q in
+      own-in y (y % 8) (omega arith) (own-bit (y % 8) (omega arith) ∙ and-r (bit (getD R (32 * s + i) 0) (y % 8)) _ z)
+      (row-bit R s i (y % 8) (omega arith) ∙ and-l _ _ z) (omega arith))
+      (λ q.
+      let a = own-out y q in
+      let j : a .0 ≡ y % 8 = omega (arith, a .1, a .4) in
+      let x : bit (getD R (32 * s + i) 0) (a .0) ≡ true = sym (row-bit R s i (a .0) (a .1)) ∙ a .3 in
+      let z : bit (getD O i 0) (a .0) ≡ true = sym (own-bit (a .0) (a .1)) ∙ a .2 in
+      and-in (eq-same (let e : y / 8 ≡ 32 * s + i = omega (arith, a .1, a .4) in e))
+      (bit-and (getD R (32 * s + i) 0) (getD O i 0) (y % 8) ∙ and-in (rw j at x) (rw j at z))))
+      (gains-byte (32 * s + i) (bitAnd (getD R (32 * s + i) 0) (getD O i 0)) l)
 
 -- a group of eight bytes: its slots of O, and the others by a word
 module _ (R p : List ℕ) (s g : ℕ) (O : List ℕ) where

@@ -1,6 +1,5 @@
 -- The digits of a word are the bits of its bytes.
 use native.Mathlib.Omega.{arith}
-use borrow.Author.Needs.{needs}
 use Rattle.partition.specs.Laws.Digits.{other-slots}
 use Rattle.signatures.proofs.others_of.Statement.{statement}
 use Rattle.signatures.proofs.others_of.Tie as tie
