@@ -1,0 +1,2 @@
+-- What the exports do with bytes of any length.
+pub mod Length
