@@ -81,7 +81,7 @@ fn item(number: u32) -> Result<(), Refusal> {
 // ---- sets of slots
 
 #[derive(Clone, Copy, PartialEq)]
-struct Set([u64; 4]);
+pub struct Set([u64; 4]);
 
 impl Set {
     const NONE: Set = Set([0; 4]);
@@ -124,7 +124,7 @@ impl Set {
         (self & !other).is_empty()
     }
 
-    fn count(&self) -> u32 {
+    pub fn count(&self) -> u32 {
         self.0.iter().map(|w| w.count_ones()).sum()
     }
 

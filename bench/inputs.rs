@@ -4,10 +4,14 @@ use crate::desk::{E, GENERAL, LABELS_AT, NAMES, NAMES_AT, NODE, ROWS, ROWS_AT, S
 use crate::earlier::names;
 
 /// The same numbers in every run.
-struct Random(u64);
+pub struct Random(u64);
 
 impl Random {
-    fn below(&mut self, limit: usize) -> usize {
+    pub fn new() -> Random {
+        Random(0x9e37_79b9_7f4a_7c15)
+    }
+
+    pub fn below(&mut self, limit: usize) -> usize {
         self.0 ^= self.0 << 13;
         self.0 ^= self.0 >> 7;
         self.0 ^= self.0 << 17;
@@ -51,7 +55,7 @@ pub fn chain(n: usize) -> Vec<u8> {
 /// A chain, with `arcs` random arcs from each slot by each general link.
 pub fn random(n: usize, arcs: usize) -> Vec<u8> {
     let mut site = chain(n);
-    let mut random = Random(0x9e37_79b9_7f4a_7c15);
+    let mut random = Random::new();
     for row in (0..GENERAL).flat_map(|m| (1..n).map(move |s| ROWS_AT + ROWS * m + SET * s)) {
         (0..arcs).for_each(|_| put(&mut site[row..], 1 + random.below(n - 1)));
     }

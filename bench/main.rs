@@ -7,11 +7,14 @@
 //! present one and of the Rust, the ratio of present to earlier, in how many samples the present was slower, and the ratio to the Rust. With
 //! `--cfg before_through` the earlier build has `through` too; without it those lines are of the present library and the Rust. So are lines
 //! with names that the earlier build does not have.
+//!
+//! The part `sets` has tables of its own kind (sets.rs).
 
 mod desk;
 mod earlier;
 mod inputs;
 mod library;
+mod sets;
 mod stack;
 
 use desk::{Applied, Classed, Done, Listed, Results, Rewritten, E, GENERAL, NAMES, NODES, SET, SITE, SLOTS, TABLE, WORK};
@@ -204,10 +207,11 @@ fn now() -> Duration {
     Duration::new(time.seconds as u64, time.nanoseconds as u32)
 }
 
-fn time(turns: u32, mut f: impl FnMut()) -> Duration {
+/// The time of one of so many turns, in seconds.
+fn time(turns: u32, mut f: impl FnMut()) -> f64 {
     let start = now();
     (0..turns).for_each(|_| f());
-    (now() - start) / turns
+    (now() - start).as_secs_f64() / turns as f64
 }
 
 fn median(values: &[f64]) -> f64 {
@@ -222,14 +226,20 @@ fn title(text: &str) {
 
 fn title_of(text: &str, two_builds: bool) {
     println!("\n{text}");
-    let (what, outcome) = ("input", "outcome");
-    let two = " before µs      now µs     Rust µs now/before slower now/Rust";
-    let times = if two_builds { two } else { "library µs     Rust µs ratio" };
+    let (what, outcome, times) = ("input", "outcome", times_title("µs", two_builds));
     println!("{what:44} slots   arcs nodes edits  {outcome:24} {times}");
 }
 
-/// The columns behind the outcome, from the times of each side in microseconds. Two builds are compared sample by sample, since the ratio
-/// of their medians varies more from run to run.
+fn times_title(unit: &str, two_builds: bool) -> String {
+    if two_builds {
+        format!(" before {unit}      now {unit}     Rust {unit} now/before slower now/Rust")
+    } else {
+        format!("library {unit}     Rust {unit} ratio")
+    }
+}
+
+/// The columns of times and ratios, from the times of each side. Two builds are compared sample by sample, since the ratio of their medians
+/// varies more from run to run.
 fn columns(times: &[Vec<f64>]) -> String {
     match times {
         [now, rust] => {
@@ -252,6 +262,15 @@ fn turn(n: usize, sides: usize) -> usize {
     if side < libraries { (side + round) % libraries } else { side }
 }
 
+/// So many samples of each side.
+fn samples(count: usize, sides: usize, mut sample: impl FnMut(usize) -> f64) -> Vec<Vec<f64>> {
+    let mut times = vec![Vec::new(); sides];
+    for side in (0..count * sides).map(|n| turn(n, sides)) {
+        times[side].push(sample(side));
+    }
+    times
+}
+
 fn measure(what: &str, call: Call) {
     measure_of(what, call, cfg!(before));
 }
@@ -261,14 +280,11 @@ fn measure_of(what: &str, call: Call, two_builds: bool) {
     let answers: Vec<Vec<u32>> = sides.iter_mut().map(Side::answer).collect();
     assert!(answers.iter().all(|answer| *answer == answers[0]) && same(&sides), "{what}: the sides differ, {answers:?}");
     assert_eq!(answers[0][0], 0, "{what}: refused");
-    let mut times = vec![Vec::new(); sides.len()];
     let mut sample = |side: usize, turns| time(turns, || drop(std::hint::black_box(sides[side].answer())));
     let once = sample(0, 1);
-    let turns = (SAMPLE.as_nanos() / once.as_nanos().max(1)).clamp(1, 1000) as u32;
-    let samples = if once > Duration::from_millis(30) { 5 } else { SAMPLES };
-    for side in (0..samples * answers.len()).map(|n| turn(n, answers.len())) {
-        times[side].push(sample(side, turns).as_secs_f64() * 1e6);
-    }
+    let turns = (SAMPLE.as_secs_f64() / once).clamp(1.0, 1000.0) as u32;
+    let count = if once > 0.03 { 5 } else { SAMPLES };
+    let times = samples(count, answers.len(), |side| sample(side, turns) * 1e6);
     let [slots, arcs, nodes, edits] = call.size().map(|n| n.map_or("-".to_string(), |n| n.to_string()));
     let (outcome, columns) = (call.outcome(&answers[0]), columns(&times));
     println!("{what:44} {slots:>5} {arcs:>6} {nodes:>5} {edits:>5}  {outcome:24} {columns}");
@@ -402,6 +418,7 @@ fn all() {
     going_through();
     classing();
     jobs();
+    sets::show();
     stack::show();
 }
 
@@ -414,9 +431,10 @@ fn main() {
         Some("through") => going_through(),
         Some("classes") => classing(),
         Some("job") => jobs(),
+        Some("sets") => sets::show(),
         Some("stack") => stack::show(),
         Some(other) => {
-            eprintln!("{other} is none of list, apply, rewrite, through, classes, job and stack");
+            eprintln!("{other} is none of list, apply, rewrite, through, classes, job, sets and stack");
             std::process::exit(2);
         }
     }
