@@ -1033,6 +1033,205 @@ static void try_many_names(void)
     try_largest_job();
 }
 
+/* ---- every bit of a set, since sets are worked on eight bytes at a time */
+
+static void flip(uint8_t *set, int slot)
+{
+    set[slot / 8] ^= (uint8_t)(1 << slot % 8);
+}
+
+/* The list has these slots and no others, or all slots but these. */
+static void expect_set(bool in, int count, const int *slots, const char *what)
+{
+    static uint8_t set[DESK_SET_BYTES], work[DESK_WORK_BYTES], wanted[DESK_SET_BYTES];
+    struct desk_listed r = desk_list(site.at, site.length, cond.at, cond.length, set, sizeof set, work, sizeof work);
+    memset(wanted, in ? 0 : 0xff, sizeof wanted);
+    for (int k = 0; k < count; k++)
+        flip(wanted, slots[k]);
+    expect(r.reason == DESK_OK && r.count == (uint32_t)(in ? count : SLOTS - count) && memcmp(set, wanted, sizeof set) == 0, what);
+    try_entry(LIST, entries[LIST].lengths);
+}
+
+/* Every slot is there, and nothing else. */
+static void build_bare(void)
+{
+    site.length = DESK_SITE_BYTES;
+    memset(site.at, 0, site.length);
+    memset(site.at, 0xff, DESK_SET_BYTES);
+}
+
+/* Nodes 0 and 1: one slot, and all but it. Nodes 2 and 3: the same of another slot. Each of them once by a label and once by a not. */
+static void build_singles(int slot, int other)
+{
+    build_bare();
+    put_slot(site.at + label_at(0), slot);
+    memset(site.at + label_at(1), 0xff, DESK_SET_BYTES);
+    flip(site.at + label_at(1), other);
+    cond.length = 0;
+    add_node(LABEL, 0, 0, 0);
+    add_node(NOT, 0, 0, 0);
+    add_node(LABEL, 1, 0, 0);
+    add_node(NOT, 0, 2, 0);
+}
+
+/* Or and and of these, on both sides. The other slot is in the same byte, in the same word or in another one. */
+static void try_single_slots(void)
+{
+    static const struct {
+        int kind, left, right;
+        bool in;
+        int count; /* how many of the two slots */
+    } joins[] = {
+        {OR, 0, 0, true, 1}, {AND, 1, 1, false, 1}, {OR, 0, 3, true, 2}, {OR, 3, 0, true, 2}, {AND, 1, 2, false, 2}, {AND, 2, 1, false, 2},
+        {AND, 0, 2, true, 1}, {AND, 2, 0, true, 1}, {OR, 1, 3, false, 1}, {OR, 3, 1, false, 1}, {AND, 0, 3, true, 0}, {OR, 1, 2, false, 0},
+    };
+    for (int s = 0; s < SLOTS; s++)
+        for (size_t k = 0; k < sizeof joins / sizeof *joins; k++) {
+            const int slots[] = {s, s ^ 1 << s % 8};
+            build_singles(slots[0], slots[1]);
+            add_node(joins[k].kind, 0, joins[k].left, joins[k].right);
+            expect_set(joins[k].in, joins[k].count, slots, "an or or an and of sets with one slot, or all but one");
+        }
+}
+
+/* Mu x (one | two and <E> x | three and <E> (two and x)), which takes one slot more in each of three rounds; or nu of what is left. */
+static void build_rounds(bool mu, const int *slots)
+{
+    const int with = mu ? AND : OR, join = mu ? OR : AND, modal = mu ? DIAMOND : BOX;
+    const int one = mu ? 0 : 3, two = one + 1, three = one + 2;
+    cond.length = 0;
+    for (int k = 0; k < 3; k++)
+        add_node(SLOT, slots[k], 0, 0);
+    for (int k = 0; k < 3; k++)
+        add_node(NOT, 0, k, 0);
+    add_node(VARIABLE, 0, 0, 0);
+    add_node(modal, EVERYWHERE, 6, 0);
+    add_node(with, 0, two, 7);
+    add_node(with, 0, two, 6);
+    add_node(modal, EVERYWHERE, 9, 0);
+    add_node(with, 0, three, 10);
+    add_node(join, 0, one, 8);
+    add_node(join, 0, 12, 11);
+    add_node(mu ? MU : NU, 0, 13, 0);
+}
+
+/* A loop that stops when two rounds differ in one slot alone, whichever it is, lists too few or too many. */
+static void try_single_rounds(void)
+{
+    build_bare();
+    for (int s = 0; s < SLOTS; s++)
+        for (int mu = 0; mu <= 1; mu++) {
+            const int slots[] = {(s + 131) % SLOTS, s, (s + 62) % SLOTS};
+            build_rounds(mu, slots);
+            expect_set(mu, 3, slots, "a loop with one slot in each round");
+        }
+}
+
+/* The slots but nil with the same place in a word: one in each word. */
+static int quarter(int slot, int *slots)
+{
+    int count = 0;
+    for (int s = slot % 64; s < SLOTS; s += 64)
+        if (s != DESK_NIL)
+            slots[count++] = s;
+    return count;
+}
+
+/* Rows with a slot in each word: a diamond finds each of them alone, and a box misses each. */
+static void try_quarters(void)
+{
+    int slots[4];
+    build_bare();
+    for (int s = 1; s < SLOTS; s++)
+        for (int k = quarter(s, slots) - 1; k >= 0; k--)
+            put_slot(site.at + row_at(0, s), slots[k]);
+    for (int k = 0; k < 4 * SLOTS; k++) {
+        const int s = k / 4, count = s == DESK_NIL ? 0 : quarter(s, slots), way = k % 2 ? LINKS : 0;
+        cond.length = 0;
+        add_node(SLOT, s, 0, 0);
+        add_node(NOT, 0, 0, 0);
+        add_node(k / 2 % 2 ? DIAMOND : BOX, way, k / 2 % 2 ? 0 : 1, 0);
+        expect_set(k / 2 % 2, count, slots, "a diamond or a box of rows with a slot in each word");
+    }
+}
+
+/* One slot is absent: a label there, a link to it or from it is refused, and the same with all other slots is not. */
+static void try_absent_slots(void)
+{
+    cond.length = 0;
+    add_node(TRUE, 0, 0, 0);
+    for (int s = 1; s < SLOTS; s++) {
+        const int from = 1 + s % (SLOTS - 1);
+        const struct {
+            int at, slot;
+            uint32_t reason;
+        } faults[] = {
+            {label_at(9), s, DESK_LABELS}, {row_at(1, from), s, DESK_LINKS}, {row_at(2, s), from, DESK_LINKS}, {row_at(1, from), DESK_NIL, DESK_LINKS},
+        };
+        for (size_t k = 0; k < sizeof faults / sizeof *faults; k++)
+            for (int fault = 0; fault <= 1; fault++) {
+                build_bare();
+                flip(site.at, s);
+                memcpy(site.at + label_at(9), site.at, DESK_SET_BYTES);
+                memcpy(site.at + row_at(1, from), site.at, DESK_SET_BYTES);
+                flip(site.at + row_at(1, from), DESK_NIL);
+                if (fault)
+                    flip(site.at + faults[k].at, faults[k].slot);
+                expect(try_entry(LIST, entries[LIST].lengths) == (fault ? faults[k].reason : DESK_OK), "a site with an absent slot");
+            }
+    }
+}
+
+enum { APART = 5 }; /* a neighbour, two slots that it may tell apart, and two of which these are the neighbours */
+
+static bool among(const int *slots, int slot)
+{
+    for (int k = 0; k < APART; k++)
+        if (slots[k] == slot)
+            return true;
+    return false;
+}
+
+/* The two have the same four neighbours by link 1; of the first, the one with a label may be a neighbour too, or the first may be its neighbour. */
+static void build_apart(const int *slots, bool to, bool from)
+{
+    build_bare();
+    put_slot(site.at + label_at(5), slots[0]);
+    for (int shared = 33; shared < SLOTS; shared += 64)
+        for (int k = 1; k <= 2 && !among(slots, shared); k++)
+            put_slot(site.at + row_at(1, slots[k]), shared);
+    for (int k = 1; k <= 2; k++)
+        put_slot(site.at + row_at(2, slots[k + 2]), slots[k]);
+    if (to)
+        put_slot(site.at + row_at(1, slots[1]), slots[0]);
+    if (from)
+        put_slot(site.at + row_at(1, slots[0]), slots[1]);
+}
+
+/* Two slots that one neighbour tells apart, whichever it is. */
+static void try_apart(void)
+{
+    static uint8_t classes[DESK_CLASSES_BYTES];
+    for (int s = 1; s < SLOTS; s++)
+        for (int k = 0; k < 3; k++) {
+            const int slots[APART] = {s, 1 + s % 255, 1 + (s + 63) % 255, 1 + (s + 127) % 255, 1 + (s + 191) % 255};
+            build_apart(slots, k == 1, k == 2);
+            desk_classes(site.at, site.length, classes, sizeof classes);
+            for (int j = 1; j < APART; j += 2)
+                expect((classes[slots[j]] != classes[slots[j + 1]]) == (k > 0), "two slots that one neighbour tells apart");
+            try_entry(CLASSES, entries[CLASSES].lengths);
+        }
+}
+
+static void try_every_slot(void)
+{
+    try_single_slots();
+    try_single_rounds();
+    try_quarters();
+    try_absent_slots();
+    try_apart();
+}
+
 static void *try_known_answers(void *unused)
 {
     try_chains();
@@ -1050,6 +1249,7 @@ static void *try_known_answers(void *unused)
     try_short_files();
     try_large_sites();
     try_many_names();
+    try_every_slot();
     return unused;
 }
 
