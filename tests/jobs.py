@@ -312,6 +312,31 @@ def many_names():
     yield equals(*HIGH), named(last), sheet((0, 20, last), (0, 30, 0), (7, last, 200), (8, 40))
 
 
+def apart(s, link=None):
+    """Slot s has label 5. The two behind it have the same four neighbours by link 1, and are the neighbours of two others. `link`: a pair of
+    these five that is linked too, which tells the two apart, and then the two others."""
+    slots = [s, *(1 + (s + k) % (SLOTS - 1) for k in (0, 63, 127, 191))]
+    site = pieces.bare_site()
+    pieces.put(site, label_at(5), s)
+    for shared in set(range(33, SLOTS, 64)) - set(slots):
+        for k in (1, 2):
+            pieces.put(site, row_at(1, slots[k]), shared)
+    for k in (1, 2):
+        pieces.put(site, row_at(2, slots[k + 2]), slots[k])
+    if link:
+        pieces.put(site, row_at(1, slots[link[0]]), slots[link[1]])
+    return site
+
+
+def at_edges():
+    """Two slots that one neighbour tells apart, or none; and that neighbour goes."""
+    seen = pieces.table((2, 5, 0, 0), (8, 1, 0, 0), (8, 1 + LINKS, 0, 0), (6, 0, 1, 2))
+    for s in pieces.EDGES[1:]:
+        for link in None, (1, 0), (0, 1):
+            yield apart(s, link), seen, sheet()
+        yield with_bytes(apart(s, (1, 0)), (NAMES_AT + 1, s)), seen, sheet((8, 1))
+
+
 def largest():
     """The longest job that is not refused: as many nodes as a table has, before and after, and as many edits as a sheet has."""
     nodes = [(3, n, 0, 0) for n in HIGH]
@@ -326,7 +351,7 @@ def cases(rng):
     yield J
     yield largest()
     yield from files()
-    for make in (by_hand, refusals, limits, collisions, classing, many_names):
+    for make in (by_hand, refusals, limits, collisions, classing, many_names, at_edges):
         for three in make():
             yield job(*three)
     for _ in range(60):

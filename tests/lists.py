@@ -5,6 +5,7 @@ The evaluator here is written from docs/SPEC.md alone and in another way than th
 slots are Python sets, loops go by Kleene iteration over a memo that is keyed by the values of a node's
 free variables, and neighbours are looked up in dictionaries of pairs.
 """
+import functools
 import random
 import sys
 
@@ -106,11 +107,19 @@ def list_slots(site, nodes):
     return Lister(site, nodes).value(len(nodes) - 1, {})
 
 
+@functools.lru_cache(maxsize=2)
+def judged(site):
+    """The site's refusal, or the site; kept, since many conditions in a row have the same site."""
+    refusal = pieces.judge_site(site)
+    return refusal, None if refusal else Site(site)
+
+
 def answer(site, condition):
-    refusal = pieces.judge_site(site) or pieces.judge_condition(condition)
+    refusal, opened = judged(bytes(site))
+    refusal = refusal or pieces.judge_condition(condition)
     if refusal:
         return "refused %d %d" % refusal
-    slots = list_slots(Site(site), nodes_of(condition))
+    slots = list_slots(opened, nodes_of(condition))
     data = bytearray(SET_BYTES)
     for s in slots:
         pieces.put(data, 0, s)
@@ -209,10 +218,125 @@ def by_name():
         yield a, pieces.table((kind, pieces.HIGH[0], 0, 0))
 
 
+def sixteens():
+    """Sixteen slots at a time, next to each other and one in each sixteen. All but 255 are not the last in one of the two."""
+    for k in range(16):
+        yield range(16 * k, 16 * k + 16)
+        yield range(k, SLOTS, 16)
+
+
+def single_site(slots):
+    """Every slot is there. Each label has one of these sixteen, and each but the first two has a link to the one before it."""
+    d = pieces.bare_site()
+    for p, s in enumerate(slots):
+        pieces.put(d, label_at(p), s)
+        if p > 1:
+            d[target_at(4, s)] = slots[p - 1]
+    return d
+
+
+class Nodes(list):
+    """A table, written node by node; each gives its number."""
+
+    def add(self, kind, param=0, left=0, right=0):
+        self.append((kind, param, left, right))
+        return len(self) - 1
+
+    def leaves(self, kind, params, nots):
+        """One slot each; with nots all but one each."""
+        leaves = [self.add(kind, param) for param in params]
+        return [self.add(5, 0, i) for i in leaves] if nots else leaves
+
+    def join(self, kind, parts):
+        """The or (6) or the and (7) of these."""
+        last = parts[0]
+        for i in parts[1:]:
+            last = self.add(kind, 0, last, i)
+        return last
+
+
+def at_once(nots):
+    """The or of sets with one slot, or the and of sets with all but one."""
+    nodes = Nodes()
+    nodes.join(7 if nots else 6, nodes.leaves(2, range(LABELS), nots))
+    return nodes
+
+
+def along_links(nots):
+    """Mu: label 1, and then one slot in each round. Nu with nots: one slot less in each."""
+    loop, join, modal = (11, 7, 9) if nots else (10, 6, 8)
+    nodes = Nodes()
+    first, x = nodes.leaves(2, [1], nots)[0], nodes.add(4)
+    nodes.add(loop, 0, nodes.add(join, 0, first, nodes.add(modal, 4, x)))
+    return nodes
+
+
+def one_by_one(slots, nots):
+    """The same without links: a slot is taken if the one before it has been."""
+    loop, join, within, modal = (11, 7, 6, 9) if nots else (10, 6, 7, 8)
+    nodes = Nodes()
+    leaves, x = nodes.leaves(12, slots, nots), nodes.add(4)
+    parts = leaves[:1]
+    for before, leaf in zip(leaves, leaves[1:]):
+        parts.append(nodes.add(within, 0, leaf, nodes.add(modal, EVERYWHERE, nodes.add(within, 0, before, x))))
+    nodes.add(loop, 0, nodes.join(join, parts))
+    return nodes
+
+
+def edge_sets():
+    """A label with one slot and one with all but one, alone and together, each as it is and as a not."""
+    t = pieces.table
+    for s in pieces.EDGES:
+        d = pieces.bare_site()
+        pieces.put(d, label_at(0), s)
+        pieces.put_all(d, label_at(1), s)
+        for kind in (6, 7):
+            yield d, t((2, 0, 0, 0), (2, 1, 0, 0), (kind, 0, 0, 1))
+            yield d, t((2, 0, 0, 0), (2, 1, 0, 0), (5, 0, 1 if kind == 6 else 0, 0), (kind, 0, 0 if kind == 6 else 1, 2))
+
+
+def quarter_site():
+    """Each slot's row has the slots but 0 that are at the same place in their word."""
+    d = pieces.bare_site()
+    for s in range(1, SLOTS):
+        for t in range(s % 64, SLOTS, 64):
+            if t:
+                pieces.put(d, row_at(0, s), t)
+    return d
+
+
+def one_target(kind, way):
+    """Of slots at edges, those that have themselves among their neighbours, or have no neighbour but others."""
+    nodes, parts = Nodes(), []
+    for s in pieces.EDGES:
+        alone = nodes.add(12, s)
+        parts.append(nodes.add(7, 0, alone, nodes.add(kind, way, alone if kind == 8 else nodes.add(5, 0, alone))))
+    nodes.join(6, parts)
+    return nodes
+
+
+def by_slot():
+    """Every bit of a set: alone, missing alone, and as all that a round changes; rows with a slot in each word."""
+    t = pieces.table
+    for slots in sixteens():
+        site = single_site(slots)
+        for make in (at_once, along_links):
+            for nots in (False, True):
+                yield site, t(*make(nots))
+    for slots in (pieces.EDGES, pieces.EDGES[::-1]):
+        for nots in (False, True):
+            yield pieces.site_a(), t(*one_by_one(slots, nots))
+    yield from edge_sets()
+    for way in (0, LINKS):
+        for kind in (8, 9):
+            yield quarter_site(), t(*one_target(kind, way))
+
+
 def cases(rng):
     t = pieces.table
     yield from by_hand()
     yield from by_name()
+    yield from by_slot()
     # every way, both modalities
     site = random_site(rng, 60)
     for way in range(WAYS):

@@ -168,6 +168,23 @@ def site_a():
     return d
 
 
+# Slots where bytes and words of a set begin and end, and all of the last byte.
+EDGES = (0, 7, 8, 63, 64, 127, 128, 191, 192, *range(SLOTS - 8, SLOTS))
+
+
+def put_all(site, at, *but):
+    """Every slot but these."""
+    for s in set(range(SLOTS)) - set(but):
+        put(site, at, s)
+
+
+def bare_site(*but):
+    """Every slot is there but these, and nothing else."""
+    d = bytearray(SITE_BYTES)
+    put_all(d, 0, *but)
+    return d
+
+
 HIGH = range(LABELS, NAMES)  # the names whose numbers no label and no variable has
 CROWD = range(8, NAMES)  # forty of them
 
@@ -274,11 +291,26 @@ def sites_of_names():
     yield site_with(TARGETS_AT - 1, 3)
 
 
+def sites_at_edges():
+    """One slot is absent: a label, a link to it, a link from it; and all other slots with a label and as targets."""
+    for s in EDGES[1:]:
+        other = 1 + s % (SLOTS - 1)
+        for at, slot in ((label_at(9), s), (row_at(1, other), s), (row_at(2, s), other)):
+            d = bare_site(s)
+            put(d, at, slot)
+            yield d
+        d = bare_site(s)
+        put_all(d, label_at(9), s)
+        put_all(d, row_at(1, other), 0, s)
+        yield d
+
+
 def sites(rng):
     yield site_a()
     for n in (0, SITE_BYTES - 1, SITE_BYTES + 1):
         yield (site_a() + b"\0")[:n]
     yield from sites_of_names()
+    yield from sites_at_edges()
     for at, value in (
         (0, 14), (0, 0), (NAMES_AT, 1), (NAMES_AT + 1, 4), (NAMES_AT + NAMES - 1, 255),
         (NAMES_AT - 1, 128), (LABELS_AT, 3), (label_at(LABELS - 1), 1), (label_at(LABELS - 1), 16), (label_at(1) - 1, 128),
