@@ -135,7 +135,7 @@ fn same_set(a: [u8; SET_BYTES], b: [u8; SET_BYTES]) -> bool
     set_algebra::equal(&a, &b)
 }
 
-// Writes the set of node i, a mu or nu. Since there are two calls of `rounds`, the compiler leaves it a function of its own; put in place, it would
+// Writes the set of node i, a mu or nu. Since there are two calls of `fixpoint_from`, the compiler leaves it a function of its own; put in place, it would
 // lengthen the frame of every node.
 fn fixpoint(
     site: &[u8],
@@ -154,16 +154,16 @@ fn fixpoint(
     let k = condition::kind(table, i);
     if k == MU {
         let none = listing_sets::start(MU);
-        rounds(site, table, free, env, fresh, work, i, none);
+        fixpoint_from(site, table, free, env, fresh, work, i, none);
         return;
     }
     let all = listing_sets::start(NU);
-    rounds(site, table, free, env, fresh, work, i, all);
+    fixpoint_from(site, table, free, env, fresh, work, i, all);
 }
 
 // Writes the set of node i, a mu or nu: rounds from the set `start` until one gives back its set, 256 at most. The variable then has its old
 // set again.
-fn rounds(
+fn fixpoint_from(
     site: &[u8],
     table: &[u8],
     free: &[u16],
@@ -184,9 +184,9 @@ fn rounds(
     let n = table.len() / 6;
     let old = listing_sets::load(env, x);
     let mut set = start;
-    let mut turns: usize = 0;
+    let mut rounds: usize = 0;
     let mut moved = true;
-    while moved && turns < SET_SLOTS {
+    while moved && rounds < SET_SLOTS {
         listing_sets::assign(free, env, fresh, n, x, set);
         if fresh[b] != 1 {
             eval(site, table, free, env, fresh, work, b);
@@ -194,7 +194,7 @@ fn rounds(
         let next = listing_sets::load(work, b);
         moved = !same_set(set, next);
         set = next;
-        turns += 1;
+        rounds += 1;
     }
     listing_sets::assign(free, env, fresh, n, x, old);
     listing_sets::store(work, i, set);

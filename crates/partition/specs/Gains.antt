@@ -10,8 +10,3 @@ use Rattle.bitset.specs.Set.{has}
 pub record Gains (f : ℕ → Bool) (b a : List ℕ) : Type 0 where
   pub long : length a ≡ length b
   pub holds : (y : ℕ) → has a y ≡ (has b y || f y)
-
--- a is b with those of the bits set that pass f, but for some that pass g, which are to be set
-pub record Lacks (f g : ℕ → Bool) (b a : List ℕ) : Type 0 where
-  pub long : length a ≡ length b
-  pub holds : (y : ℕ) → (has a y || g y) ≡ (has b y || f y)

@@ -3,7 +3,6 @@ use mathlib.Core.Path.{refl, _∙_, ap}
 use Prim.Native.Nat.{ℕ, _-_, _/_}
 use native.Mathlib.Omega.{arith}
 use lib.ListN.{length, replicate}
-use borrow.Author.Needs.{needs}
 use Rattle.limits.specs.Limits.{slots}
 use Rattle.condition.specs.Laws.Verdict.{accepted-sound}
 use Rattle.listing.specs.Laws.Answer.{none-known, whole, answer}

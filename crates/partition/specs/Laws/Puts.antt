@@ -9,14 +9,14 @@ use lib.Bits.{bitAnd, bitOr, or-add-and, and-le-l, and-le-r}
 use lib.Count.{trailingZeros}
 use lib.ListN.{length, getD, set, replicate}
 use lib.Seq.{getD-set-same, getD-set-other}
-use Rattle.finite.specs.Tests.{bit, same, any, all}
+use Rattle.finite.specs.Tests.{bit, same, any}
 use Rattle.finite.specs.Laws.Bools.{either, look, and-in, and-l, and-r, or-l, or-r, or-out, not-out, both}
 use Rattle.finite.specs.Laws.Below.{equal?, same-eq, same-refl, eq-same, any-in, any-out, any-none, all-out, none-any}
 use Rattle.finite.specs.Laws.Bits.{bit-and}
 use Rattle.finite.specs.Laws.Weights.{bit-zero, no-bits}
 use Rattle.bitset.specs.Set.{setBytes, setSlots, has, Is, inserted}
 use Rattle.bitset.specs.Laws.Bytes.{has-byte}
-use Rattle.partition.specs.Gains.{Gains, Lacks}
+use Rattle.partition.specs.Gains.{Gains}
 use Rattle.partition.specs.Rows.{inRow, slotPuts, bytePuts, groupPuts, owns, othersInClass, ownBytePuts, groupOthersInClass, ownGroupPuts, OtherSlots, wordPuts, ClassOfOthers}
 use Rattle.partition.specs.Laws.Gains.{gains-byte, gains-none, gains-put, gains-map, gains-join, gains-zeros}
 use Rattle.partition.specs.Laws.Digits.{lowest}
@@ -140,6 +140,11 @@ module _ (R p : List ℕ) (s g : ℕ) (O : List ℕ) where
     pub group-one : {d : List ℕ} (c : ℕ) → w < 2 ^ 64 → w ≢ 0 → groupOthersInClass p O g c ≡ true → d ≡ inserted a (setSlots * s + c)
         → (setSlots * s + c) / 8 < length a → Gains (groupPuts R p s g) b d
     group-one c h n f e l = group-all (gains-map (λ y. sym (word-class w c h n o f y)) (gains-put (setSlots * s + c) e l))
+
+-- a is b with those of the bits set that pass f, but for some that pass g, which are to be set
+pub record Lacks (f g : ℕ → Bool) (b a : List ℕ) : Type 0 where
+  pub long : length a ≡ length b
+  pub holds : (y : ℕ) → (has a y || g y) ≡ (has b y || f y)
 
 -- the lowest digit that is 1 is put in, and those without it are left
 module _ (p : List ℕ) (s g : ℕ) where

@@ -1,7 +1,6 @@
 -- The lengths are tested first.
 use mathlib.Core.Path.{refl}
 use native.Mathlib.Omega.{arith}
-use borrow.Author.Needs.{needs}
 use Rattle.set_exports.specs.Length.{is-set, not-set}
 use Rattle.set_exports.proofs.set_equal.Statement.{statement}
 use Rattle.set_exports.proofs.set_equal.Tie as tie

@@ -4,10 +4,9 @@ use native.Mathlib.Omega.{arith}
 use borrow.Author.Needs.{needs}
 use lib.Bits.{and-le-r}
 use lib.Count.{trailing-le}
-use Rattle.partition.specs.Gains.{Lacks}
 use Rattle.partition.specs.Rows.{wordPuts}
 use Rattle.partition.specs.Laws.Digits.{lowest}
-use Rattle.partition.specs.Laws.Puts.{word-start, word-more, word-done}
+use Rattle.partition.specs.Laws.Puts.{Lacks, word-start, word-more, word-done}
 use Rattle.signatures.proofs.put_word.Statement.{statement}
 use Rattle.signatures.proofs.put_word.Tie as tie
 

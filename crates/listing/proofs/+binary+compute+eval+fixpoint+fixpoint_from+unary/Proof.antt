@@ -22,22 +22,22 @@ use Rattle.listing.specs.Laws.Memo.{flags-moved, finish, was-known, leaf
 use Rattle.listing.specs.Laws.Kinds.{unary-left, modal-in, loop-variable}
 use Rattle.listing.proofs.binary.Reads as binary
 use Rattle.listing.proofs.binary.Kinds as binary-kinds
-use Rattle.listing.proofs.+binary+compute+eval+fixpoint+rounds+unary.Lts-binary as binary-lts
+use Rattle.listing.proofs.+binary+compute+eval+fixpoint+fixpoint_from+unary.Lts-binary as binary-lts
 use Rattle.listing.proofs.compute.Reads as compute
 use Rattle.listing.proofs.compute.Kinds as compute-kinds
-use Rattle.listing.proofs.+binary+compute+eval+fixpoint+rounds+unary.Lts-compute as compute-lts
+use Rattle.listing.proofs.+binary+compute+eval+fixpoint+fixpoint_from+unary.Lts-compute as compute-lts
 use Rattle.listing.proofs.eval.Reads as eval
 use Rattle.listing.proofs.eval.Kinds as eval-kinds
-use Rattle.listing.proofs.+binary+compute+eval+fixpoint+rounds+unary.Lts-eval as eval-lts
+use Rattle.listing.proofs.+binary+compute+eval+fixpoint+fixpoint_from+unary.Lts-eval as eval-lts
 use Rattle.listing.proofs.fixpoint.Reads as fixpoint
 use Rattle.listing.proofs.fixpoint.Kinds as fixpoint-kinds
-use Rattle.listing.proofs.+binary+compute+eval+fixpoint+rounds+unary.Lts-fixpoint as fixpoint-lts
-use Rattle.listing.proofs.rounds.Reads as rounds
-use Rattle.listing.proofs.rounds.Kinds as rounds-kinds
-use Rattle.listing.proofs.+binary+compute+eval+fixpoint+rounds+unary.Lts-rounds as rounds-lts
+use Rattle.listing.proofs.+binary+compute+eval+fixpoint+fixpoint_from+unary.Lts-fixpoint as fixpoint-lts
+use Rattle.listing.proofs.fixpoint_from.Reads as fixpoint-from
+use Rattle.listing.proofs.fixpoint_from.Kinds as fixpoint-from-kinds
+use Rattle.listing.proofs.+binary+compute+eval+fixpoint+fixpoint_from+unary.Lts-fixpoint_from as fixpoint-from-lts
 use Rattle.listing.proofs.unary.Reads as unary
 use Rattle.listing.proofs.unary.Kinds as unary-kinds
-use Rattle.listing.proofs.+binary+compute+eval+fixpoint+rounds+unary.Lts-unary as unary-lts
+use Rattle.listing.proofs.+binary+compute+eval+fixpoint+fixpoint_from+unary.Lts-unary as unary-lts
 use Rattle.condition.proofs.kind.Reads as kind-reads
 use Rattle.condition.proofs.left_child.Reads as left-child-reads
 use Rattle.condition.proofs.number.Reads as number-reads
@@ -50,8 +50,8 @@ use Rattle.listing_sets.proofs.put_leaf.Reads as put-leaf-reads
 use Rattle.listing_sets.proofs.put_unary.Reads as put-unary-reads
 use Rattle.listing_sets.proofs.start.Reads as start-reads
 use Rattle.listing_sets.proofs.store.Reads as store-reads
-use Rattle.listing.proofs.+binary+compute+eval+fixpoint+rounds+unary.{statement}
-use Rattle.listing.proofs.+binary+compute+eval+fixpoint+rounds+unary.Tie.{close}
+use Rattle.listing.proofs.+binary+compute+eval+fixpoint+fixpoint_from+unary.{statement}
+use Rattle.listing.proofs.+binary+compute+eval+fixpoint+fixpoint_from+unary.Tie.{close}
 
 abbrev μ-binary : Measures 6 binary-kinds.ps ℕ
 μ-binary κs a = 4 * a .1 .1 .1 .1 .1 .1 .0
@@ -65,8 +65,8 @@ abbrev μ-eval : Measures 6 eval-kinds.ps ℕ
 abbrev μ-fixpoint : Measures 6 fixpoint-kinds.ps ℕ
 μ-fixpoint κs a = 4 * a .1 .1 .1 .1 .1 .1 .0 + 1
 
-abbrev μ-rounds : Measures 6 rounds-kinds.ps ℕ
-μ-rounds κs a = 4 * a .1 .1 .1 .1 .1 .1 .0
+abbrev μ-fixpoint-from : Measures 6 fixpoint-from-kinds.ps ℕ
+μ-fixpoint-from κs a = 4 * a .1 .1 .1 .1 .1 .1 .0
 
 abbrev μ-unary : Measures 6 unary-kinds.ps ℕ
 μ-unary κs a = 4 * a .1 .1 .1 .1 .1 .1 .0
@@ -96,11 +96,11 @@ abbrev fixpoint-below : ℕ → In 6 fixpoint-kinds.ps
 fixpoint-below t =
     and 6 fixpoint-kinds.ps (falls 6 fixpoint-kinds.ps _<_ μ-fixpoint t) fixpoint.Pre
 
-abbrev rounds-at : ℕ → In 6 rounds-kinds.ps
-rounds-at t = and 6 rounds-kinds.ps (is 6 rounds-kinds.ps μ-rounds t) rounds.Pre
+abbrev fixpoint-from-at : ℕ → In 6 fixpoint-from-kinds.ps
+fixpoint-from-at t = and 6 fixpoint-from-kinds.ps (is 6 fixpoint-from-kinds.ps μ-fixpoint-from t) fixpoint-from.Pre
 
-abbrev rounds-below : ℕ → In 6 rounds-kinds.ps
-rounds-below t = and 6 rounds-kinds.ps (falls 6 rounds-kinds.ps _<_ μ-rounds t) rounds.Pre
+abbrev fixpoint-from-below : ℕ → In 6 fixpoint-from-kinds.ps
+fixpoint-from-below t = and 6 fixpoint-from-kinds.ps (falls 6 fixpoint-from-kinds.ps _<_ μ-fixpoint-from t) fixpoint-from.Pre
 
 abbrev unary-at : ℕ → In 6 unary-kinds.ps
 unary-at t = and 6 unary-kinds.ps (is 6 unary-kinds.ps μ-unary t) unary.Pre
@@ -297,7 +297,7 @@ eval-returns :
 eval-returns t c = flagged (c .before .before .compute .ensures)
 
 abbrev fixpoint-calls : ℕ → fixpoint-lts.Claims
-fixpoint-calls t = (kind-reads.Asked, kind-reads.Learnt, start-reads.Asked, start-reads.Learnt, rounds-below t, rounds.Post)
+fixpoint-calls t = (kind-reads.Asked, kind-reads.Learnt, start-reads.Asked, start-reads.Learnt, fixpoint-from-below t, fixpoint-from.Post)
 
 fixpoint-kind-requires : (t : ℕ) → fixpoint-lts.Need-kind-requires (fixpoint-calls t) (fixpoint-at t) fixpoint.Post
 fixpoint-kind-requires t c κs = c .before .before .before .before .pre .1 .1 .0
@@ -305,150 +305,151 @@ fixpoint-kind-requires t c κs = c .before .before .before .before .pre .1 .1 .0
 fixpoint-start-requires : (t : ℕ) → fixpoint-lts.Need-start-requires (fixpoint-calls t) (fixpoint-at t) fixpoint.Post
 fixpoint-start-requires t c κs = tt
 
-fixpoint-rounds-requires : (t : ℕ) → fixpoint-lts.Need-rounds-requires (fixpoint-calls t) (fixpoint-at t) fixpoint.Post
-fixpoint-rounds-requires t c κs =
+fixpoint-fixpoint-from-requires : (t : ℕ) → fixpoint-lts.Need-fixpoint-from-requires (fixpoint-calls t) (fixpoint-at t) fixpoint.Post
+fixpoint-fixpoint-from-requires t c κs =
     let start = c .before .before .before .before .before .before .before .before .before .before in
     let k : ℕ = nodeAt (start .args .table .now) (start .args .i) .kind in
     let e : muNo ≡ k = omega (arith, c .before .before .before .before .before .kind .ensures, c .before .before .before .before .if1 .taken) in
     (omega (arith, start .pre), (start .pre .1 .0, (start .pre .1 .1 .0, (start .pre .1 .1 .1, subst (λ (n : ℕ). has (c .before .before .before .start .result) ≐ startOf n) e (c .before .before .before .start .ensures)))))
 
 fixpoint-same-length : (t : ℕ) → fixpoint-lts.Need-same-length (fixpoint-calls t) (fixpoint-at t) fixpoint.Post
-fixpoint-same-length t c = omega (arith, c .before .before .rounds .kept)
+fixpoint-same-length t c = omega (arith, c .before .before .fixpoint-from .kept)
 
 fixpoint-returns : (t : ℕ) → fixpoint-lts.Need-returns (fixpoint-calls t) (fixpoint-at t) fixpoint.Post
-fixpoint-returns t c = c .before .before .rounds .ensures
+fixpoint-returns t c = c .before .before .fixpoint-from .ensures
 
 fixpoint-start-requires-2 : (t : ℕ) → fixpoint-lts.Need-start-requires-2 (fixpoint-calls t) (fixpoint-at t) fixpoint.Post
 fixpoint-start-requires-2 t c κs = tt
 
-fixpoint-rounds-requires-2 : (t : ℕ) → fixpoint-lts.Need-rounds-requires-2 (fixpoint-calls t) (fixpoint-at t) fixpoint.Post
-fixpoint-rounds-requires-2 t c κs =
+fixpoint-fixpoint-from-requires-2 : (t : ℕ) → fixpoint-lts.Need-fixpoint-from-requires-2 (fixpoint-calls t) (fixpoint-at t) fixpoint.Post
+fixpoint-fixpoint-from-requires-2 t c κs =
     let start = c .before .before .before .before .before .before .before .before .before .before in
     let k : ℕ = nodeAt (start .args .table .now) (start .args .i) .kind in
     let e : nuNo ≡ k = omega (arith, start .pre, c .before .before .before .before .before .kind .ensures, c .before .before .before .before .if1 .left) in
     (omega (arith, start .pre), (start .pre .1 .0, (start .pre .1 .1 .0, (start .pre .1 .1 .1, subst (λ (n : ℕ). has (c .before .before .before .start2 .result) ≐ startOf n) e (c .before .before .before .start2 .ensures)))))
 
 fixpoint-same-length-2 : (t : ℕ) → fixpoint-lts.Need-same-length-2 (fixpoint-calls t) (fixpoint-at t) fixpoint.Post
-fixpoint-same-length-2 t c = omega (arith, c .before .before .rounds2 .kept)
+fixpoint-same-length-2 t c = omega (arith, c .before .before .fixpoint-from2 .kept)
 
 fixpoint-returns-2 : (t : ℕ) → fixpoint-lts.Need-returns-2 (fixpoint-calls t) (fixpoint-at t) fixpoint.Post
-fixpoint-returns-2 t c = c .before .before .rounds2 .ensures
+fixpoint-returns-2 t c = c .before .before .fixpoint-from2 .ensures
 
-abbrev rounds-calls : ℕ → rounds-lts.Claims
-rounds-calls t = (number-reads.Asked, number-reads.Learnt, left-child-reads.Asked, left-child-reads.Learnt, load-reads.Asked, load-reads.Learnt, assign-reads.Asked, assign-reads.Learnt, eval-below t, eval.Post, same-set-reads.Asked, same-set-reads.Learnt, store-reads.Asked, store-reads.Learnt)
+abbrev fixpoint-from-calls : ℕ → fixpoint-from-lts.Claims
+fixpoint-from-calls t = (number-reads.Asked, number-reads.Learnt, left-child-reads.Asked, left-child-reads.Learnt, load-reads.Asked, load-reads.Learnt, assign-reads.Asked, assign-reads.Learnt, eval-below t, eval.Post, same-set-reads.Asked, same-set-reads.Learnt, store-reads.Asked, store-reads.Learnt)
 
-abbrev rounds-Inv-loop : rounds-lts.InvT-loop
-rounds-Inv-loop site table free env₀ fresh₀ work₀ i x b n old set₀ turns₀ moved₀ env fresh work set turns moved = Rounds site table env₀ env fresh work (nodeAt table i .kind) x b set turns moved
+abbrev fixpoint-from-Inv-loop : fixpoint-from-lts.InvT-loop
+fixpoint-from-Inv-loop site table free env₀ fresh₀ work₀ i x b n old set₀ rounds₀ moved₀ env fresh work set rounds moved = Rounds site table env₀ env fresh work (nodeAt table i .kind) x b set rounds moved
 
-abbrev rounds-μ-loop : rounds-lts.MeasureT-loop
-rounds-μ-loop site table free env₀ fresh₀ work₀ i x b n old set₀ turns₀ moved₀ env fresh work set turns moved = setSlots - turns
+abbrev fixpoint-from-μ-loop : fixpoint-from-lts.MeasureT-loop
+fixpoint-from-μ-loop site table free env₀ fresh₀ work₀ i x b n old set₀ rounds₀ moved₀ env fresh work set rounds moved = setSlots - rounds
 
-rounds-number-requires : (t : ℕ) → rounds-lts.Need-number-requires (rounds-calls t) (rounds-at t) rounds.Post rounds-Inv-loop rounds-μ-loop
-rounds-number-requires t c κs =
+fixpoint-from-number-requires : (t : ℕ) → fixpoint-from-lts.Need-number-requires (fixpoint-from-calls t) (fixpoint-from-at t) fixpoint-from.Post fixpoint-from-Inv-loop fixpoint-from-μ-loop
+fixpoint-from-number-requires t c κs =
     let p = c .before .before .before .before .pre .1 in
     (p .0 .fits, p .1 .0)
 
-rounds-left-child-requires : (t : ℕ) → rounds-lts.Need-left-child-requires (rounds-calls t) (rounds-at t) rounds.Post rounds-Inv-loop rounds-μ-loop
-rounds-left-child-requires t c κs =
+fixpoint-from-left-child-requires : (t : ℕ) → fixpoint-from-lts.Need-left-child-requires (fixpoint-from-calls t) (fixpoint-from-at t) fixpoint-from.Post fixpoint-from-Inv-loop fixpoint-from-μ-loop
+fixpoint-from-left-child-requires t c κs =
     let p = c .before .before .before .before .before .pre .1 in
     (p .0 .fits, (p .1 .0, omega (arith, p .1 .1)))
 
-rounds-load-requires : (t : ℕ) → rounds-lts.Need-load-requires (rounds-calls t) (rounds-at t) rounds.Post rounds-Inv-loop rounds-μ-loop
-rounds-load-requires t c κs =
+fixpoint-from-load-requires : (t : ℕ) → fixpoint-from-lts.Need-load-requires (fixpoint-from-calls t) (fixpoint-from-at t) fixpoint-from.Post fixpoint-from-Inv-loop fixpoint-from-μ-loop
+fixpoint-from-load-requires t c κs =
     let start = c .before .before .before .before .before .before .before .before in
     omega (arith, start .pre, loop-variable (start .pre .1 .1 .1 .0) (c .before .before .before .number .ensures .1))
 
-rounds-loop-holds : (t : ℕ) → rounds-lts.Need-loop-holds (rounds-calls t) (rounds-at t) rounds.Post rounds-Inv-loop rounds-μ-loop
-rounds-loop-holds t c =
+fixpoint-from-loop-holds : (t : ℕ) → fixpoint-from-lts.Need-loop-holds (fixpoint-from-calls t) (fixpoint-from-at t) fixpoint-from.Post fixpoint-from-Inv-loop fixpoint-from-μ-loop
+fixpoint-from-loop-holds t c =
     let start = c .before .before .before .before .before .before .before .before .before in
     rounds-none (start .pre .1 .0) (start .pre .1 .1 .1 .1)
 
-rounds-assign-requires : (t : ℕ) → rounds-lts.Need-assign-requires (rounds-calls t) (rounds-at t) rounds.Post rounds-Inv-loop rounds-μ-loop
-rounds-assign-requires t c κs =
+fixpoint-from-assign-requires : (t : ℕ) → fixpoint-from-lts.Need-assign-requires (fixpoint-from-calls t) (fixpoint-from-at t) fixpoint-from.Post fixpoint-from-Inv-loop fixpoint-from-μ-loop
+fixpoint-from-assign-requires t c κs =
     let start = c .before .before .before .before .before .before .before .before .before .before .before .before .before .before in
     let the-number = c .before .before .before .before .before .before .before .before .before .number in
     omega (arith, start .pre, loop-variable (start .pre .1 .1 .1 .0) (the-number .ensures .1), c .before .before .before .before .loop .inv)
 
 -- the variable has the set
-rounds-assigned : (t : ℕ) (c : rounds-lts.After-assign (rounds-calls t) (rounds-at t) rounds.Post rounds-Inv-loop rounds-μ-loop)
+fixpoint-from-assigned : (t : ℕ) (c : fixpoint-from-lts.After-assign (fixpoint-from-calls t) (fixpoint-from-at t) fixpoint-from.Post fixpoint-from-Inv-loop fixpoint-from-μ-loop)
     → let a = c .before .before .before .before .before .before .before .before .before .before .before .before .before .before .before .args in
     Evaluable (a .site .now) (a .table .now) (a .free .now) (c .assign .last .1 .0) (c .assign .last .1 .1 .0) (c .before .before .before .before .before .loop .work)
-rounds-assigned t c =
+fixpoint-from-assigned t c =
     let start = c .before .before .before .before .before .before .before .before .before .before .before .before .before .before .before in
     let the-number = c .before .before .before .before .before .before .before .before .before .before .number in
     let p = start .pre .1 in
     assigned (c .before .before .before .before .before .loop .inv) (c .assign .ensures .0) (p .0) (loop-variable (p .1 .1 .0) (the-number .ensures .1)) (omega arith) (c .assign .kept .1 .0) (c .assign .ensures .1) (c .assign .kept .1 .1 .0)
 
-rounds-element-copy-out-if2 : (t : ℕ) → rounds-lts.Need-element-copy-out-if2 (rounds-calls t) (rounds-at t) rounds.Post rounds-Inv-loop rounds-μ-loop
-rounds-element-copy-out-if2 t c =
+fixpoint-from-element-copy-out-if2 : (t : ℕ) → fixpoint-from-lts.Need-element-copy-out-if2 (fixpoint-from-calls t) (fixpoint-from-at t) fixpoint-from.Post fixpoint-from-Inv-loop fixpoint-from-μ-loop
+fixpoint-from-element-copy-out-if2 t c =
     let start = c .before .before .before .before .before .before .before .before .before .before .before .before .before .before .before in
     let the-left-child = c .before .before .before .before .before .before .before .before .before .left-child in
     omega (arith, start .pre, the-left-child .ensures, c .before .before .before .before .before .loop .inv, c .assign .kept)
 
-rounds-eval-requires : (t : ℕ) → rounds-lts.Need-eval-requires (rounds-calls t) (rounds-at t) rounds.Post rounds-Inv-loop rounds-μ-loop
-rounds-eval-requires t c κs =
+fixpoint-from-eval-requires : (t : ℕ) → fixpoint-from-lts.Need-eval-requires (fixpoint-from-calls t) (fixpoint-from-at t) fixpoint-from.Post fixpoint-from-Inv-loop fixpoint-from-μ-loop
+fixpoint-from-eval-requires t c κs =
     let start = c .before .before .before .before .before .before .before .before .before .before .before .before .before .before .before .before .before .before .before .before in
     let the-left-child = c .before .before .before .before .before .before .before .before .before .before .before .before .before .before .left-child in
-    (omega (arith, start .pre, the-left-child .ensures), (rounds-assigned t (c .before .before .before .before .before), omega (arith, start .pre, the-left-child .ensures)))
+    (omega (arith, start .pre, the-left-child .ensures), (fixpoint-from-assigned t (c .before .before .before .before .before), omega (arith, start .pre, the-left-child .ensures)))
 
 -- the body's set is there
-rounds-body : (t : ℕ) (c : rounds-lts.Joined2 (rounds-calls t) (rounds-at t) rounds.Post rounds-Inv-loop rounds-μ-loop)
+fixpoint-from-body : (t : ℕ) (c : fixpoint-from-lts.Joined2 (fixpoint-from-calls t) (fixpoint-from-at t) fixpoint-from.Post fixpoint-from-Inv-loop fixpoint-from-μ-loop)
     → let a = c .before .before .before .before .before .before .before .before .before .before .before .before .before .before .before .before .before .args in
-    Done (a .site .now) (a .table .now) (c .before .before .assign .last .1 .0) (c .if2 .env) (c .if2 .fresh) (c .if2 .work) (c .before .before .before .before .before .before .before .before .before .before .before .left-child .result)
-rounds-body t c =
+    let b = c .before .before .before .before .before .before .before .before .before .before .before .left-child .result in
+    Done (a .site .now) (a .table .now) (c .before .before .assign .last .1 .0) (c .if2 .env) (c .if2 .fresh) (c .if2 .work) b
+fixpoint-from-body t c =
     let start = c .before .before .before .before .before .before .before .before .before .before .before .before .before .before .before .before .before in
     let the-left-child = c .before .before .before .before .before .before .before .before .before .before .before .left-child in
     either (c .if2 .came)
     (λ u. there (u .4 .ensures) (u .7) (u .8) (u .9))
-    (λ u. there (was-known (rounds-assigned t (c .before .before)) (omega (arith, start .pre, the-left-child .ensures)) (u .0 .left)) (u .1) (u .2) (u .3))
+    (λ u. there (was-known (fixpoint-from-assigned t (c .before .before)) (omega (arith, start .pre, the-left-child .ensures)) (u .0 .left)) (u .1) (u .2) (u .3))
 
-rounds-load-requires-2 : (t : ℕ) → rounds-lts.Need-load-requires-2 (rounds-calls t) (rounds-at t) rounds.Post rounds-Inv-loop rounds-μ-loop
-rounds-load-requires-2 t c κs =
+fixpoint-from-load-requires-2 : (t : ℕ) → fixpoint-from-lts.Need-load-requires-2 (fixpoint-from-calls t) (fixpoint-from-at t) fixpoint-from.Post fixpoint-from-Inv-loop fixpoint-from-μ-loop
+fixpoint-from-load-requires-2 t c κs =
     let start = c .before .before .before .before .before .before .before .before .before .before .before .before .before .before .before .before .before .before in
     let the-left-child = c .before .before .before .before .before .before .before .before .before .before .before .before .left-child in
-    omega (arith, start .pre, the-left-child .ensures, rounds-body t (c .before) .work-size)
+    omega (arith, start .pre, the-left-child .ensures, fixpoint-from-body t (c .before) .work-size)
 
-rounds-same-set-requires : (t : ℕ) → rounds-lts.Need-same-set-requires (rounds-calls t) (rounds-at t) rounds.Post rounds-Inv-loop rounds-μ-loop
-rounds-same-set-requires t c κs = tt
+fixpoint-from-same-set-requires : (t : ℕ) → fixpoint-from-lts.Need-same-set-requires (fixpoint-from-calls t) (fixpoint-from-at t) fixpoint-from.Post fixpoint-from-Inv-loop fixpoint-from-μ-loop
+fixpoint-from-same-set-requires t c κs = tt
 
-rounds-add-turns : (t : ℕ) → rounds-lts.Need-add-turns (rounds-calls t) (rounds-at t) rounds.Post rounds-Inv-loop rounds-μ-loop
-rounds-add-turns t c =
+fixpoint-from-add-rounds : (t : ℕ) → fixpoint-from-lts.Need-add-rounds (fixpoint-from-calls t) (fixpoint-from-at t) fixpoint-from.Post fixpoint-from-Inv-loop fixpoint-from-μ-loop
+fixpoint-from-add-rounds t c =
     let the-loop = c .before .before .before .before .before .before .before .before .before .before .loop in
     omega (arith, the-loop .inv)
 
-rounds-loop-less : (t : ℕ) → rounds-lts.Need-loop-less (rounds-calls t) (rounds-at t) rounds.Post rounds-Inv-loop rounds-μ-loop
-rounds-loop-less t c =
+fixpoint-from-loop-less : (t : ℕ) → fixpoint-from-lts.Need-loop-less (fixpoint-from-calls t) (fixpoint-from-at t) fixpoint-from.Post fixpoint-from-Inv-loop fixpoint-from-μ-loop
+fixpoint-from-loop-less t c =
     let the-loop = c .before .before .before .before .before .before .before .before .before .before .loop in
     let the-if1 = c .before .before .before .before .before .before .before .before .if1 in
-    omega (arith, the-loop .inv, ltb-true (the-loop .turns) setSlots (the-if1 .taken))
+    omega (arith, the-loop .inv, ltb-true (the-loop .rounds) setSlots (the-if1 .taken))
 
-rounds-loop-again : (t : ℕ) → rounds-lts.Need-loop-again (rounds-calls t) (rounds-at t) rounds.Post rounds-Inv-loop rounds-μ-loop
-rounds-loop-again t c =
+fixpoint-from-loop-again : (t : ℕ) → fixpoint-from-lts.Need-loop-again (fixpoint-from-calls t) (fixpoint-from-at t) fixpoint-from.Post fixpoint-from-Inv-loop fixpoint-from-μ-loop
+fixpoint-from-loop-again t c =
     let l = c .before .before .before .before .before .before .before .before .before .before .loop in
     let the-assign = c .before .before .before .before .before .assign in
     let the-if1 = c .before .before .before .before .before .before .before .before .if1 in
-    rounds-more (l .inv) (the-assign .ensures .0) (ltb-true (l .turns) setSlots (the-if1 .taken)) (rounds-body t (c .before .before .before)) (c .before .load2 .ensures) (c .same-set .ensures .0)
+    rounds-more (l .inv) (the-assign .ensures .0) (ltb-true (l .rounds) setSlots (the-if1 .taken)) (fixpoint-from-body t (c .before .before .before)) (c .before .load2 .ensures) (c .same-set .ensures .0)
 
-rounds-assign-requires-2 : (t : ℕ) → rounds-lts.Need-assign-requires-2 (rounds-calls t) (rounds-at t) rounds.Post rounds-Inv-loop rounds-μ-loop
-rounds-assign-requires-2 t c κs =
+fixpoint-from-assign-requires-2 : (t : ℕ) → fixpoint-from-lts.Need-assign-requires-2 (fixpoint-from-calls t) (fixpoint-from-at t) fixpoint-from.Post fixpoint-from-Inv-loop fixpoint-from-μ-loop
+fixpoint-from-assign-requires-2 t c κs =
     let start = c .before .before .before .before .before .before .before .before .before .before .before .before .before in
     let the-number = c .before .before .before .before .before .before .before .before .number in
     omega (arith, start .pre, loop-variable (start .pre .1 .1 .1 .0) (the-number .ensures .1), c .before .before .before .loop .inv)
 
-rounds-store-requires : (t : ℕ) → rounds-lts.Need-store-requires (rounds-calls t) (rounds-at t) rounds.Post rounds-Inv-loop rounds-μ-loop
-rounds-store-requires t c κs =
+fixpoint-from-store-requires : (t : ℕ) → fixpoint-from-lts.Need-store-requires (fixpoint-from-calls t) (fixpoint-from-at t) fixpoint-from.Post fixpoint-from-Inv-loop fixpoint-from-μ-loop
+fixpoint-from-store-requires t c κs =
     let start = c .before .before .before .before .before .before .before .before .before .before .before .before .before .before .before in
     let the-loop = c .before .before .before .before .before .loop in
     omega (arith, start .pre, the-loop .inv)
 
-rounds-same-length : (t : ℕ) → rounds-lts.Need-same-length (rounds-calls t) (rounds-at t) rounds.Post rounds-Inv-loop rounds-μ-loop
-rounds-same-length t c =
+fixpoint-from-same-length : (t : ℕ) → fixpoint-from-lts.Need-same-length (fixpoint-from-calls t) (fixpoint-from-at t) fixpoint-from.Post fixpoint-from-Inv-loop fixpoint-from-μ-loop
+fixpoint-from-same-length t c =
     let start = c .before .before .before .before .before .before .before .before .before .before .before .before .before .before .before .before .before .before in
     let the-loop = c .before .before .before .before .before .before .before .before .loop in
     omega (arith, start .pre, the-loop .inv, c .before .before .store .kept)
 
-rounds-returns : (t : ℕ) → rounds-lts.Need-returns (rounds-calls t) (rounds-at t) rounds.Post rounds-Inv-loop rounds-μ-loop
-rounds-returns t c =
+fixpoint-from-returns : (t : ℕ) → fixpoint-from-lts.Need-returns (fixpoint-from-calls t) (fixpoint-from-at t) fixpoint-from.Post fixpoint-from-Inv-loop fixpoint-from-μ-loop
+fixpoint-from-returns t c =
     let start = c .before .before .before .before .before .before .before .before .before .before .before .before .before .before .before .before .before .before in
     let the-number = c .before .before .before .before .before .before .before .before .before .before .before .before .before .number in
     let the-left-child = c .before .before .before .before .before .before .before .before .before .before .before .before .left-child in
@@ -460,7 +461,7 @@ rounds-returns t c =
     let S = a .table .now in
     let x : ℕ = the-number .result in
     let b : ℕ = the-left-child .result in
-    let out : (l .moved ≡ false) ⊎ (setSlots ≤ l .turns) = ⊎-elim (λ u. inr (ltb-false (l .turns) setSlots (u .1 .left))) (λ u. inl (u .left)) (the-loop-test .came) in
+    let out : (l .moved ≡ false) ⊎ (setSlots ≤ l .rounds) = ⊎-elim (λ u. inr (ltb-false (l .rounds) setSlots (u .1 .left))) (λ u. inl (u .left)) (the-loop-test .came) in
     let kept = restored (l .inv) (c .before .before .before .before .assign2 .ensures .0) (the-load .ensures) in
     let value = rounds-done (l .inv) out in
     finish (omega (arith, l .inv .env-size, c .before .before .before .before .assign2 .kept)) (omega (arith, l .inv .fresh-size, c .before .before .before .before .assign2 .kept)) (omega (arith, l .inv .work-size, c .before .before .store .kept)) kept
@@ -525,9 +526,9 @@ unary-returns t c =
     (is-unary S (p .0 .fits) (a .i) (p .1 .0) M (setAt (a .env .now)) P P
     (child d (c .before .before .before .before .load .ensures) (the-left-child .ensures .0)) (p .1 .1))
 
-pub +binary+compute+eval+fixpoint+rounds+unary-spec : {M : Type 1} → statement M
-+binary+compute+eval+fixpoint+rounds+unary-spec =
-    close μ-binary μ-compute μ-eval μ-fixpoint μ-rounds μ-unary (λ t. binary-lts.spec (binary-calls t)
+pub +binary+compute+eval+fixpoint+fixpoint-from+unary-spec : {M : Type 1} → statement M
++binary+compute+eval+fixpoint+fixpoint-from+unary-spec =
+    close μ-binary μ-compute μ-eval μ-fixpoint μ-fixpoint-from μ-unary (λ t. binary-lts.spec (binary-calls t)
     (binary-at t)
     binary.Post
     (binary-left-child-requires t)
@@ -570,34 +571,34 @@ pub +binary+compute+eval+fixpoint+rounds+unary-spec : {M : Type 1} → statement
     fixpoint.Post
     (fixpoint-kind-requires t)
     (fixpoint-start-requires t)
-    (fixpoint-rounds-requires t)
+    (fixpoint-fixpoint-from-requires t)
     (fixpoint-same-length t)
     (fixpoint-returns t)
     (fixpoint-start-requires-2 t)
-    (fixpoint-rounds-requires-2 t)
+    (fixpoint-fixpoint-from-requires-2 t)
     (fixpoint-same-length-2 t)
     (fixpoint-returns-2 t))
-    (λ t. rounds-lts.spec (rounds-calls t)
-    (rounds-at t)
-    rounds.Post
-    rounds-Inv-loop
-    rounds-μ-loop
-    (rounds-number-requires t)
-    (rounds-left-child-requires t)
-    (rounds-load-requires t)
-    (rounds-loop-holds t)
-    (rounds-assign-requires t)
-    (rounds-element-copy-out-if2 t)
-    (rounds-eval-requires t)
-    (rounds-load-requires-2 t)
-    (rounds-same-set-requires t)
-    (rounds-add-turns t)
-    (rounds-loop-less t)
-    (rounds-loop-again t)
-    (rounds-assign-requires-2 t)
-    (rounds-store-requires t)
-    (rounds-same-length t)
-    (rounds-returns t))
+    (λ t. fixpoint-from-lts.spec (fixpoint-from-calls t)
+    (fixpoint-from-at t)
+    fixpoint-from.Post
+    fixpoint-from-Inv-loop
+    fixpoint-from-μ-loop
+    (fixpoint-from-number-requires t)
+    (fixpoint-from-left-child-requires t)
+    (fixpoint-from-load-requires t)
+    (fixpoint-from-loop-holds t)
+    (fixpoint-from-assign-requires t)
+    (fixpoint-from-element-copy-out-if2 t)
+    (fixpoint-from-eval-requires t)
+    (fixpoint-from-load-requires-2 t)
+    (fixpoint-from-same-set-requires t)
+    (fixpoint-from-add-rounds t)
+    (fixpoint-from-loop-less t)
+    (fixpoint-from-loop-again t)
+    (fixpoint-from-assign-requires-2 t)
+    (fixpoint-from-store-requires t)
+    (fixpoint-from-same-length t)
+    (fixpoint-from-returns t))
     λ t. unary-lts.spec (unary-calls t)
     (unary-at t)
     unary.Post
