@@ -16,6 +16,7 @@ ghost use Rattle.classes.specs.Features.{namesFrom, features, feature, F
 use bitset::SET_BYTES;
 use bitset::SET_SLOTS;
 use neighbours::WAYS;
+use neighbours::WAYS_BYTES;
 use site::LABELS;
 use site::NAMES;
 use site::ROWS_BYTES;
@@ -149,7 +150,8 @@ pub fn refine(site: &[u8]) -> [u8; SET_SLOTS]
     requires { ⌜ length (now site) ≡ siteBytes ⌝ }
     ensures { λ r. ⌜ Classes (siteOf (now (site .entry))) r ⌝ }
 {
-    let ways = neighbours::of_site(site);
+    let mut ways = [0u8; WAYS_BYTES];
+    neighbours::of_site(site, &mut ways);
     let mut p = start(site);
     let mut rounds: usize = 0;
     while rounds < SET_SLOTS {

@@ -2,7 +2,7 @@
 ghost use mathlib.Core.Path.{_≡_};
 ghost use mathlib.Core.Bool.{true, _&&_, cond};
 ghost use Prim.Native.Nat.{ℕ, _+_, _/_, _%_, _^_, _≤_, _<_};
-ghost use lib.ListN.{length, getD};
+ghost use lib.ListN.{length, getD, replicate};
 ghost use Rattle.finite.specs.Tests.{same, any};
 ghost use Rattle.bitset.specs.Set.{setBytes, setSlots};
 ghost use Rattle.limits.specs.Limits.{links, generalLinks};
@@ -146,14 +146,12 @@ fn join_ends(site: &[u8], m: usize, ways: &mut [u8])
     }
 }
 
-// The neighbours by each way.
-pub fn of_site(site: &[u8]) -> [u8; WAYS_BYTES]
-    requires { ⌜ length (now site) ≡ siteBytes ⌝ }
-    ensures { λ r. ⌜ Neighbours (siteOf (now (site .entry))) r ⌝ }
+// Puts the neighbours by each way into rows that are empty.
+pub fn of_site(site: &[u8], ways: &mut [u8])
+    requires { ⌜ (length (now site) ≡ siteBytes) × (now ways ≡ replicate waysBytes 0) ⌝ }
+    ensures { λ _. ⌜ Neighbours (siteOf (now (site .entry))) (now (ways .exit)) ⌝ }
 {
-    let mut ways = [0u8; WAYS_BYTES];
     for m in 0..LINKS {
-        join_ends(site, m, &mut ways);
+        join_ends(site, m, ways);
     }
-    ways
 }

@@ -1,5 +1,5 @@
 -- p is the partition after as many rounds as were made.
-use mathlib.Core.Path.{_≡_, sym, _∙_}
+use mathlib.Core.Path.{_≡_, refl, sym, _∙_}
 use Prim.Native.Nat.{_-_, _≤_}
 use native.Mathlib.Omega.{arith}
 use borrow.Author.Needs.{needs}
@@ -8,24 +8,29 @@ use Rattle.bitset.specs.Set.{setSlots}
 use Rattle.site.specs.Site.{siteOf}
 use Rattle.semantics.specs.Laws.Refine.{bisimilarIn}
 use Rattle.partition.specs.Partition.{Partitions, Refines}
+use Rattle.partition.specs.Rows.{waysBytes, Neighbours}
 use Rattle.classes.specs.Laws.Refined.{refined-still, refined-last}
 use Rattle.classes.proofs.refine.Statement.{statement}
 use Rattle.classes.proofs.refine.Tie as tie
 
 abbrev Inv-loop : tie.InvT-loop
-Inv-loop site ways p₀ rounds₀ p rounds = (rounds ≤ setSlots) × (length p ≡ setSlots) × Partitions (bisimilarIn rounds (siteOf site) (siteOf site)) p
+Inv-loop site ways p₀ rounds₀ p rounds =
+    (rounds ≤ setSlots) × (length p ≡ setSlots) × Partitions (bisimilarIn rounds (siteOf site) (siteOf site)) p × (length ways ≡ waysBytes) × Neighbours (siteOf site) ways
 
 abbrev μ-loop : tie.MeasureT-loop
 μ-loop site ways p₀ rounds₀ p rounds = setSlots - rounds
 
+slice-aggregate-of-site : tie.Need-slice-aggregate-of-site Inv-loop μ-loop
+slice-aggregate-of-site c = search needs
+
 of-site-requires : tie.Need-of-site-requires Inv-loop μ-loop
-of-site-requires c κs = omega arith
+of-site-requires c κs = (omega arith, refl)
 
 start-requires : tie.Need-start-requires Inv-loop μ-loop
 start-requires c κs = omega arith
 
 loop-holds : tie.Need-loop-holds Inv-loop μ-loop
-loop-holds c = (omega arith, omega arith, c .start .ensures)
+loop-holds c = (omega arith, omega arith, c .start .ensures, omega arith, c .before .before .of-site .ensures)
 
 slice-aggregate-round : tie.Need-slice-aggregate-round Inv-loop μ-loop
 slice-aggregate-round c = search needs
@@ -38,11 +43,11 @@ same-partition-requires c κs = search needs
 
 returns : tie.Need-returns Inv-loop μ-loop
 returns c =
-    let start = c .before .before .before .before .before .before .before .before .before in
-    let ways = c .before .before .before .before .before .before .before .of-site in
-    let l = c .before .before .before .before .before .loop in
+    let l = c .before .before .before .before .before in
+    let i = l .loop .inv in
     let next = c .before .before .round in
-    refined-still (siteOf (start .args .site .now)) (l .rounds) (l .p) (l .inv .1) (l .inv .2) (ways .result) (next .result) (ways .ensures) (next .ensures) (sym (c .before .same-partition .ensures) ∙ c .if1 .taken)
+    refined-still (siteOf (l .before .before .before .before .before .before .args .site .now)) (l .loop .rounds) (l .loop .p) (i .1) (i .2) _ (next .result) (i .4) (next .ensures)
+    (sym (c .before .same-partition .ensures) ∙ c .if1 .taken)
 
 add-rounds : tie.Need-add-rounds Inv-loop μ-loop
 add-rounds c = omega arith
@@ -53,13 +58,15 @@ loop-less c = omega arith
 loop-again : tie.Need-loop-again Inv-loop μ-loop
 unfolding Refines
 loop-again c =
-    let start = c .before .before .before .before .before .before .before .before .before in
-    let ways = c .before .before .before .before .before .before .before .of-site in
-    let l = c .before .before .before .before .before .loop in
-    (omega arith, omega arith, c .before .before .round .ensures (siteOf (start .args .site .now)) (ways .ensures) (l .rounds) (l .inv .2))
+    let l = c .before .before .before .before .before in
+    let i = l .loop .inv in
+    let M = siteOf (l .before .before .before .before .before .before .args .site .now) in
+    (omega arith, omega arith, c .before .before .round .ensures M (i .4) (l .loop .rounds) (i .2), i .3, i .4)
 
 returns-2 : tie.Need-returns-2 Inv-loop μ-loop
-returns-2 c = let l = c .before .loop in refined-last (siteOf (c .before .before .before .before .before .args .site .now)) (l .rounds) (l .p) (l .inv .1) (l .inv .2) (omega arith)
+returns-2 c =
+    let l = c .before in
+    refined-last (siteOf (l .before .before .before .before .before .before .args .site .now)) (l .loop .rounds) (l .loop .p) (l .loop .inv .1) (l .loop .inv .2) (omega arith)
 
 pub refine-spec : {M : Type 1} → statement M
 refine-spec =
@@ -67,6 +74,7 @@ refine-spec =
     (tie.spec
     Inv-loop
     μ-loop
+    slice-aggregate-of-site
     of-site-requires
     start-requires
     loop-holds
