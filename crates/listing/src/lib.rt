@@ -135,8 +135,8 @@ fn same_set(a: [u8; SET_BYTES], b: [u8; SET_BYTES]) -> bool
     set_algebra::equal(&a, &b)
 }
 
-// Writes the set of node i, a mu or nu. Since there are two calls of `fixpoint_from`, the compiler leaves it a function of its own; put in place, it would
-// lengthen the frame of every node.
+// Writes the set of node i, a mu or nu. Since there are two calls of `fixpoint_from`, the compiler leaves it a function of its own; put in
+// place, it would lengthen the frame of every node.
 fn fixpoint(
     site: &[u8],
     table: &[u8],

@@ -97,7 +97,7 @@ fn add_targets_from(site: &[u8], m: usize, t: usize, set: &[u8], found: &mut [u8
 }
 
 // Adds the targets of those of the eight slots of byte i that are in `set`, and stops after the last of these. A loop of fixed length
-// would be unrolled, and each union done byte by byte.
+// would be unrolled, which was slower.
 fn add_byte(site: &[u8], m: usize, i: usize, set: &[u8], found: &mut [u8])
     requires { ⌜ (length (now site) ≡ siteBytes) × ((m < links) × ((i < setBytes) × ((length (now set) ≡ setBytes) × (length (now found) ≡ setBytes)))) ⌝ }
     ensures { λ _. ⌜ Is (now (found .exit)) (λ s. has (now (found .entry)) s || any 8 (λ j. siteOf (now (site .entry)) .link m (i * 8 + j) s && has (now (set .entry)) (i * 8 + j))) ⌝ }

@@ -1,6 +1,6 @@
 -- Laws of partitions and of rows, by topic.
 pub mod Gains
-pub mod Digits
+pub mod Others
 pub mod Puts
 pub mod Partitions
 pub mod Rows

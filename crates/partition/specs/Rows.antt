@@ -63,11 +63,11 @@ groupOthersInClass p O g c = all 8 (λ k. othersInClass p O (8 * g + k) c)
 unfoldable pub ownGroupPuts : List ℕ → List ℕ → List ℕ → ℕ → ℕ → ℕ → Bool
 ownGroupPuts R p O s g y = any 8 (λ k. ownBytePuts R p O s (8 * g + k) y)
 
--- the digits of w that are 1 are the slots of group g of row s that are not in O
+-- the set bits of w are the slots of group g of row s that are not in O
 unfoldable pub OtherSlots : List ℕ → List ℕ → ℕ → ℕ → ℕ → Type 0
 OtherSlots R O s g w = (j : ℕ) → j < 64 → bit w j ≡ (inRow R s (64 * g + j) && not (has O (64 * g + j)))
 
--- what those of the slots of group g whose digits in w are 1 put into row s
+-- what those of the slots of group g whose bits are set in w put into row s
 unfoldable pub wordPuts : List ℕ → ℕ → ℕ → ℕ → ℕ → Bool
 wordPuts p s g w y = any 64 (λ j. bit w j && same y (setSlots * s + getD p (64 * g + j) 0))
 

@@ -126,7 +126,7 @@ fn other_classes(p: &[u8], own: &[u8]) -> [u16; GROUPS]
     classes
 }
 
-// The slots of group g of row s that are not in `own`, as the digits of a word.
+// The slots of group g of row s that are not in `own`, as the set bits of a word.
 fn others_of(rows: &[u8], own: &[u8], s: usize, g: usize) -> u64
     requires { ⌜ (length (now rows) ≡ rowsBytes) × ((length (now own) ≡ setBytes) × ((s < setSlots) × (g < 4))) ⌝ }
     ensures { λ r. ⌜ OtherSlots (now (rows .entry)) (now (own .entry)) s g r ⌝ }
@@ -134,7 +134,7 @@ fn others_of(rows: &[u8], own: &[u8], s: usize, g: usize) -> u64
     words::get(rows, SET_BYTES * s + 8 * g) & !words::get(own, 8 * g)
 }
 
-// The slots of group g whose digits in w are 1 put their classes into row s of the signatures, from one digit that is 1 to the next.
+// The slots of group g whose bits are set in w put their classes into row s of the signatures, from one set bit to the next.
 fn put_word(p: &[u8], s: usize, g: usize, w: u64, sig: &mut [u8])
     requires { ⌜ (length (now p) ≡ setSlots) × ((s < setSlots) × ((g < 4) × (length (now sig) ≡ rowsBytes))) ⌝ }
     ensures { λ _. ⌜ Gains (wordPuts (now (p .entry)) s g w) (now (sig .entry)) (now (sig .exit)) ⌝ }

@@ -2,3 +2,4 @@
 pub mod Bytes
 pub mod Eight
 pub mod Bits
+pub mod Lowest

@@ -1,5 +1,5 @@
-// Eight bytes as a word, low byte first. The compiler makes one load, or one store, of the eight, and does so early enough to put what is built on
-// them in place of its calls, since they are put together from halves and not by a loop.
+// Eight bytes as a word, low byte first. They are put together from halves and not by a loop: so the compiler sees one load, or one store, before
+// it decides which calls to put in place.
 ghost use mathlib.Core.Path.{_≡_};
 ghost use Prim.Native.Nat.{_+_, _^_, _≤_, _<_};
 ghost use lib.ListN.{length, drop};
@@ -12,7 +12,9 @@ fn get_two(s: &[u8], at: usize) -> u64
     requires { ⌜ at + 2 ≤ length (now s) ⌝ }
     ensures { λ r. ⌜ (r ≡ word 2 (drop at (now (s .entry)))) × (r < 256 ^ 2) ⌝ }
 {
-    (s[at + 1] as u64) * 256 + (s[at] as u64)
+    let low = s[at] as u64;
+    let high = s[at + 1] as u64;
+    high * 256 + low
 }
 
 fn get_four(s: &[u8], at: usize) -> u64
@@ -34,8 +36,10 @@ fn put_two(d: &mut [u8], at: usize, w: u64)
     requires { ⌜ at + 2 ≤ length (now d) ⌝ }
     ensures { λ _. ⌜ now (d .exit) ≡ putAt (now (d .entry)) at (bytes 2 w) ⌝ }
 {
-    d[at] = (w % 256) as u8;
-    d[at + 1] = (w / 256 % 256) as u8;
+    let low = (w % 256) as u8;
+    let high = (w / 256 % 256) as u8;
+    d[at] = low;
+    d[at + 1] = high;
 }
 
 fn put_four(d: &mut [u8], at: usize, w: u64)

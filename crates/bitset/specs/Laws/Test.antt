@@ -6,7 +6,7 @@ use Prim.Native.Nat.{ℕ, zero, suc, _+_, _-_, _*_, _^_, _≤_, _<_}
 use native.Mathlib.Omega.{arith}
 use lib.Dec.{eqb}
 use lib.ListN.{getD, drop}
-use lib.Bits.{bitAnd, bitOr, and-lt, and-le-r, or-zero-l, or-add-and}
+use lib.Bits.{bitAnd, bitOr, and-lt, and-le-l, and-le-r, or-zero-l, or-add-and}
 use borrow.Author.Tests.{ne-eqb}
 use Rattle.finite.specs.Tests.{bit, any, all}
 use Rattle.finite.specs.Bytes.{Bytes}
@@ -23,7 +23,7 @@ use Rattle.bitset.specs.Laws.Bytes.{has-byte}
 use Rattle.bitset.specs.Laws.Words.{has-word}
 
 -- a number of n binary digits is 0 where it has none
-pub zero-bits : (n v : ℕ) → v < 2 ^ n → eqb v 0 ≡ all n (λ k. not (bit v k))
+zero-bits : (n v : ℕ) → v < 2 ^ n → eqb v 0 ≡ all n (λ k. not (bit v k))
 zero-bits n v h =
     either
     (equal? v 0)
@@ -31,9 +31,12 @@ zero-bits n v h =
     (λ ne. ne-eqb v 0 ne ∙ sym (no-true (λ p. ne (no-bits n v h (λ k l. no-true (not-out (bit v k) (all-out n (λ j. not (bit v j)) p k l)))))))
 
 -- a union is 0 where both are
+pub or-none : (v w : ℕ) → bitOr v w ≡ 0 → (v ≡ 0) × (w ≡ 0)
+or-none v w e = (omega (arith, or-add-and v w, and-le-l v w, and-le-r v w), omega (arith, or-add-and v w, and-le-l v w, and-le-r v w))
+
 or-zero : (v w : ℕ) → eqb (bitOr v w) 0 ≡ (eqb v 0 && eqb w 0)
 or-zero zero w = rw (or-zero-l w)
-or-zero (suc n) w = rw (ne-eqb (suc n) 0 (λ e. omega arith)) (ne-eqb (bitOr (suc n) w) 0 (λ e. omega (arith, or-add-and (suc n) w, and-le-r (suc n) w)))
+or-zero (suc n) w = rw (ne-eqb (suc n) 0 (λ e. omega arith)) (ne-eqb (bitOr (suc n) w) 0 (λ e. let z = or-none (suc n) w e .0 in omega arith))
 
 -- the slots of the first i bytes pass where v is 0
 pub record Tested (p : ℕ → Bool) (i v : ℕ) : Type 0 where
@@ -46,7 +49,7 @@ module _ (p : ℕ → Bool) where
   test-none = record { upto = omega arith; passed = refl }
 
   -- those of the next m bytes pass where w is 0
-  pub test-more : (m i j v w : ℕ) → j ≡ i + m → j ≤ setBytes → w < 2 ^ (m * 8) → ((k : ℕ) → k < m * 8 → p (i * 8 + k) ≡ not (bit w k)) → Tested p i v → Tested p j (bitOr v w)
+  test-more : (m i j v w : ℕ) → j ≡ i + m → j ≤ setBytes → w < 2 ^ (m * 8) → ((k : ℕ) → k < m * 8 → p (i * 8 + k) ≡ not (bit w k)) → Tested p i v → Tested p j (bitOr v w)
   test-more m i j v w e h hw law t = record {
     upto = h;
     passed = rw (let q : j * 8 ≡ i * 8 + m * 8 = omega arith in q, all-add (i * 8) (m * 8) p, t .passed, here, or-zero v w);

@@ -20,7 +20,7 @@ use Rattle.finite.specs.Laws.Count.{count-le}
 use Rattle.words.specs.Word.{word, bytes, putAt, pairwise}
 use Rattle.words.specs.Laws.Bytes.{drop-bytes, word-lt, bytes-of-word}
 use Rattle.words.specs.Laws.Eight.{eight}
-use Rattle.words.specs.Laws.Bits.{word-digit}
+use Rattle.words.specs.Laws.Bits.{word-bits}
 use Rattle.bitset.specs.Set.{setBytes, has}
 use Rattle.bitset.specs.Laws.Count.{count-byte}
 use Rattle.bitset.specs.Laws.Update.{Updated, update-more}
@@ -126,7 +126,7 @@ word-same a b i j ba bb fa fb hw hv same below hj k h =
 -- the slots of a word
 pub has-word : (S : List ℕ) (i k : ℕ) → Bytes S → k < 64 → has S (i * 8 + k) ≡ bit (word 8 (drop i S)) k
 unfolding has
-has-word S i k b h = sym (word-digit 8 S i k b h ∙ ap₂ (λ (x y : ℕ). bit (getD S x 0) y) (omega arith) (omega arith))
+has-word S i k b h = sym (word-bits 8 S i k b h ∙ ap₂ (λ (x y : ℕ). bit (getD S x 0) y) (omega arith) (omega arith))
 
 -- the ones of a word are those of its bytes
 count-bytes : (n i : ℕ) (S : List ℕ) → i + n ≤ length S → Bytes S → count ((i + n) * 8) (has S) ≡ count (i * 8) (has S) + ones (word n (drop i S))

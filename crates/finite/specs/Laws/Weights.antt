@@ -16,7 +16,7 @@ pub bit-zero : (k : ℕ) → bit 0 k ≡ false
 unfolding bit
 bit-zero k = rw (zero-div (2 ^ k)) refl
 
-same-suc : (j k : ℕ) → same j k ≡ same (suc j) (suc k)
+pub same-suc : (j k : ℕ) → same j k ≡ same (suc j) (suc k)
 same-suc j k =
     both
     (λ e. eq-same (ap suc (same-eq e)))

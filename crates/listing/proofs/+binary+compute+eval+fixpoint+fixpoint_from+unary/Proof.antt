@@ -18,7 +18,7 @@ use Rattle.listing_sets.specs.Nodes.{nodeMakes, startOf}
 use Rattle.listing_sets.specs.Offsets.{setAt}
 use Rattle.listing.specs.State.{Evaluable, Done}
 use Rattle.listing.specs.Laws.Rounds.{Rounds, rounds-none, assigned, rounds-more, rounds-done, restored}
-use Rattle.listing.specs.Laws.Memo.{flags-moved, finish, was-known, leaf-done, flagged, again, there, since, child}
+use Rattle.listing.specs.Laws.Memo.{flags-moved, finish, was-known, leaf-done, flagged, again, done-same, since, child}
 use Rattle.listing.specs.Laws.Kinds.{unary-left, modal-in, loop-variable}
 use Rattle.listing.proofs.binary.Reads as binary
 use Rattle.listing.proofs.binary.Kinds as binary-kinds
@@ -132,8 +132,8 @@ binary-left : (t : ℕ) (c : binary-lts.Joined1 (binary-calls t) (binary-at t) b
 binary-left t c =
     let p = c .before .before .before .before .before .before .before .pre .1 in
     either (c .if1 .came)
-    (λ u. there (u .4 .ensures) (u .7) (u .8) (u .9))
-    (λ u. there (was-known (p .0) (omega (arith, p .1 .0, c .before .before .left-child .ensures)) (u .0 .left)) (u .1) (u .2) (u .3))
+    (λ u. done-same (u .4 .ensures) (u .7) (u .8) (u .9))
+    (λ u. done-same (was-known (p .0) (omega (arith, p .1 .0, c .before .before .left-child .ensures)) (u .0 .left)) (u .1) (u .2) (u .3))
 
 binary-load-requires : (t : ℕ) → binary-lts.Need-load-requires (binary-calls t) (binary-at t) binary.Post
 binary-load-requires t c κs =
@@ -167,8 +167,8 @@ binary-right t c =
     let d = binary-left t (c .before .before .before .before .before) in
     since d
     (either (c .if2 .came)
-    (λ u. there (u .4 .ensures) (u .7) (u .8) (u .9))
-    (λ u. there (was-known (again (p .0) d) (omega (arith, p .1 .0, c .before .before .right-child .ensures)) (u .0 .left)) (u .1) (u .2) (u .3)))
+    (λ u. done-same (u .4 .ensures) (u .7) (u .8) (u .9))
+    (λ u. done-same (was-known (again (p .0) d) (omega (arith, p .1 .0, c .before .before .right-child .ensures)) (u .0 .left)) (u .1) (u .2) (u .3)))
 
 binary-load-requires-2 : (t : ℕ) → binary-lts.Need-load-requires-2 (binary-calls t) (binary-at t) binary.Post
 binary-load-requires-2 t c κs =
@@ -400,8 +400,8 @@ fixpoint-from-body t c =
     let start = c .before .before .before .before .before .before .before .before .before .before .before .before .before .before .before .before .before in
     let the-left-child = c .before .before .before .before .before .before .before .before .before .before .before .left-child in
     either (c .if2 .came)
-    (λ u. there (u .4 .ensures) (u .7) (u .8) (u .9))
-    (λ u. there (was-known (fixpoint-from-assigned t (c .before .before)) (omega (arith, start .pre, the-left-child .ensures)) (u .0 .left)) (u .1) (u .2) (u .3))
+    (λ u. done-same (u .4 .ensures) (u .7) (u .8) (u .9))
+    (λ u. done-same (was-known (fixpoint-from-assigned t (c .before .before)) (omega (arith, start .pre, the-left-child .ensures)) (u .0 .left)) (u .1) (u .2) (u .3))
 
 fixpoint-from-load-requires-2 : (t : ℕ) → fixpoint-from-lts.Need-load-requires-2 (fixpoint-from-calls t) (fixpoint-from-at t) fixpoint-from.Post fixpoint-from-Inv-loop fixpoint-from-μ-loop
 fixpoint-from-load-requires-2 t c κs =
@@ -493,8 +493,8 @@ unary-child : (t : ℕ) (c : unary-lts.Joined1 (unary-calls t) (unary-at t) unar
 unary-child t c =
     let p = c .before .before .before .before .before .before .before .pre .1 in
     either (c .if1 .came)
-    (λ u. there (u .4 .ensures) (u .7) (u .8) (u .9))
-    (λ u. there (was-known (p .0) (omega (arith, p .1 .0, c .before .before .left-child .ensures)) (u .0 .left)) (u .1) (u .2) (u .3))
+    (λ u. done-same (u .4 .ensures) (u .7) (u .8) (u .9))
+    (λ u. done-same (was-known (p .0) (omega (arith, p .1 .0, c .before .before .left-child .ensures)) (u .0 .left)) (u .1) (u .2) (u .3))
 
 unary-load-requires : (t : ℕ) → unary-lts.Need-load-requires (unary-calls t) (unary-at t) unary.Post
 unary-load-requires t c κs =

@@ -118,10 +118,10 @@ again r d =
       flags-right = d .flags-right;
     }
 
--- what a call has left is still there where its branch meets the other one
-pub there : {site S env env₁ env₂ fresh₁ fresh₂ work₁ work₂ : List ℕ} {i : ℕ} → Done site S env env₁ fresh₁ work₁ i
+-- what a call has left, under the names that its buffers have behind the branch
+pub done-same : {site S env env₁ env₂ fresh₁ fresh₂ work₁ work₂ : List ℕ} {i : ℕ} → Done site S env env₁ fresh₁ work₁ i
     → env₂ ≡ env₁ → fresh₂ ≡ fresh₁ → work₂ ≡ work₁ → Done site S env env₂ fresh₂ work₂ i
-there d e f w = rw (e, f, w) d
+done-same d e f w = rw (e, f, w) d
 
 -- what the second of two calls leaves holds from the first call on
 pub since : {site S env env₁ env₂ fresh₁ fresh₂ work₁ work₂ : List ℕ} {i j : ℕ} → Done site S env env₁ fresh₁ work₁ i

@@ -1,7 +1,7 @@
 -- The steps of loops that join slots, and the neighbours that they make.
 use mathlib.Core.Path.{_≡_, refl, sym, _∙_}
 use mathlib.Core.Logic.{_≢_}
-use mathlib.Core.Bool.{Bool, true, false, not, _&&_, _||_, cond}
+use mathlib.Core.Bool.{Bool, true, false, not, _&&_, _||_, cond, and-false}
 use mathlib.Core.List.{List}
 use Prim.Native.Nat.{ℕ, zero, suc, _+_, _-_, _*_, _/_, _%_, _^_, _≤_, _<_}
 use native.Mathlib.Omega.{arith}
@@ -36,11 +36,7 @@ pub weighed : (put : Bool) {b : List ℕ} (x w : ℕ) → w ≡ cond put (2 ^ (x
     → Gains (λ y. put && same y x) b (set b (x / 8) (bitOr (getD b (x / 8) 0) w))
 unfolding inserted has
 weighed true x w e h = gains-put x (rw e) h
-weighed false x w e h = gains-map (λ y. rw (e, bit-zero (y % 8)) (never (same (y / 8) (x / 8)))) (gains-byte (x / 8) w h)
-  where
-    never : (t : Bool) → (t && false) ≡ false
-    never true = refl
-    never false = refl
+weighed false x w e h = gains-map (λ y. rw (e, bit-zero (y % 8)) (and-false (same (y / 8) (x / 8)))) (gains-byte (x / 8) w h)
 
 -- some number passes one of two tests
 any-or : (n : ℕ) (f g h : ℕ → Bool) → (any n (λ k. f k && g k) || any n (λ k. f k && h k)) ≡ any n (λ k. f k && (g k || h k))

@@ -5,7 +5,7 @@ use mathlib.Core.Bool.{Bool, true, false, not, _&&_, _||_, or-false, or-assoc}
 use mathlib.Core.List.{List}
 use Prim.Native.Nat.{ℕ, _+_, _-_, _*_, _/_, _%_, _^_, _<_}
 use native.Mathlib.Omega.{arith}
-use lib.Bits.{bitAnd, bitOr, or-add-and, and-le-l, and-le-r}
+use lib.Bits.{bitAnd, bitOr}
 use lib.Count.{trailingZeros}
 use lib.ListN.{length, getD, set, replicate}
 use lib.Seq.{getD-set-same, getD-set-other}
@@ -14,15 +14,17 @@ use Rattle.finite.specs.Laws.Bools.{either, look, and-in, and-l, and-r, or-l, o
 use Rattle.finite.specs.Laws.Below.{equal?, same-eq, same-refl, eq-same, any-in, any-out, any-none, all-out, none-any}
 use Rattle.finite.specs.Laws.Bits.{bit-and}
 use Rattle.finite.specs.Laws.Weights.{bit-zero, no-bits}
+use Rattle.words.specs.Laws.Lowest.{lowest}
 use Rattle.bitset.specs.Set.{setBytes, setSlots, has, Is, inserted}
 use Rattle.bitset.specs.Laws.Bytes.{has-byte}
 use Rattle.partition.specs.Gains.{Gains}
 use Rattle.partition.specs.Rows.{inRow, slotPuts, bytePuts, groupPuts, owns, othersInClass, ownBytePuts, groupOthersInClass, ownGroupPuts, OtherSlots, wordPuts, ClassOfOthers}
 use Rattle.partition.specs.Laws.Gains.{gains-byte, gains-none, gains-put, gains-map, gains-join, gains-zeros}
-use Rattle.partition.specs.Laws.Digits.{lowest}
 
-pub or-zero : (a b : ℕ) → bitOr a b ≡ 0 → (a ≡ 0) × (b ≡ 0)
-or-zero a b e = (omega (arith, or-add-and a b, and-le-l a b, and-le-r a b), omega (arith, or-add-and a b, and-le-l a b, and-le-r a b))
+-- where no bit is set, nothing is put in
+word-none : (p : List ℕ) (s g y : ℕ) → wordPuts p s g 0 y ≡ false
+unfolding wordPuts
+word-none p s g y = none-any 64 _ (λ j h. rw (bit-zero j))
 
 -- slot 8 * i + j of row s is bit j of its byte i
 row-bit : (R : List ℕ) (s i j : ℕ) → j < 8 → inRow R s (8 * i + j) ≡ bit (getD R (32 * s + i) 0) j
@@ -70,7 +72,7 @@ module _ (R p : List ℕ) (s i : ℕ) (O : List ℕ) (o : Is O (owns p)) (h : i 
 
 -- a group of eight bytes: its slots of O, and the others by a word
 module _ (R p : List ℕ) (s g : ℕ) (O : List ℕ) where
-  -- where the digits of w are the slots that are not in O, these and those of O are all
+  -- where the bits of w are the slots that are not in O, these and those of O are all
   group-puts : (w : ℕ) → OtherSlots R O s g w → (y : ℕ) → (ownGroupPuts R p O s g y || wordPuts p s g w y) ≡ groupPuts R p s g y
   unfolding OtherSlots wordPuts ownGroupPuts ownBytePuts groupPuts bytePuts slotPuts
   group-puts w o y = both
@@ -102,11 +104,7 @@ module _ (R p : List ℕ) (s g : ℕ) (O : List ℕ) where
           let z : slotPuts R p s (64 * g + j .0) y ≡ true = and-in x (and-r (bit w (j .0)) _ (j .2)) in
           any-in 8 _ (j .0 / 8) (omega (arith, j .1)) (any-in 8 _ (j .0 % 8) (omega arith) (rw e z))
 
-  -- where no digit is 1, nothing is put in; where those that are 1 are in one class, that class is
-  word-none : (y : ℕ) → wordPuts p s g 0 y ≡ false
-  unfolding wordPuts
-  word-none y = none-any 64 _ (λ j h. rw (bit-zero j))
-
+  -- where the slots of the set bits are in one class, that class is put in
   word-class : (w c : ℕ) → w < 2 ^ 64 → w ≢ 0 → OtherSlots R O s g w → groupOthersInClass p O g c ≡ true → (y : ℕ) → wordPuts p s g w y ≡ same y (setSlots * s + c)
   unfolding OtherSlots wordPuts groupOthersInClass othersInClass
   word-class w c h n o f y =
@@ -135,7 +133,7 @@ module _ (R p : List ℕ) (s g : ℕ) (O : List ℕ) where
     group-all k = gains-map (group-puts w o) (gains-join t k)
 
     pub group-own : w ≡ 0 → Gains (groupPuts R p s g) b a
-    group-own z = group-all (gains-none (λ y. rw z (word-none y)))
+    group-own z = group-all (gains-none (λ y. rw z (word-none p s g y)))
 
     pub group-one : {d : List ℕ} (c : ℕ) → w < 2 ^ 64 → w ≢ 0 → groupOthersInClass p O g c ≡ true → d ≡ inserted a (setSlots * s + c)
         → (setSlots * s + c) / 8 < length a → Gains (groupPuts R p s g) b d
@@ -146,7 +144,7 @@ pub record Lacks (f g : ℕ → Bool) (b a : List ℕ) : Type 0 where
   pub long : length a ≡ length b
   pub holds : (y : ℕ) → (has a y || g y) ≡ (has b y || f y)
 
--- the lowest digit that is 1 is put in, and those without it are left
+-- the slot of the lowest set bit is put in, and those of the others are left
 module _ (p : List ℕ) (s g : ℕ) where
   puts-lowest : (w : ℕ) → w < 2 ^ 64 → w ≢ 0
       → (y : ℕ) → wordPuts p s g w y ≡ (same y (setSlots * s + getD p (64 * g + trailingZeros 64 w) 0) || wordPuts p s g (bitAnd w (w - 1)) y)
@@ -191,7 +189,7 @@ module _ (p : List ℕ) (s g : ℕ) where
   unfolding wordPuts
   word-done w {a = a} z k = record {
     long = k .long;
-    holds = λ y. sym (or-false (has a y)) ∙ ap (λ (x : Bool). has a y || x) (sym (none-any 64 _ (λ j h. rw (z, bit-zero j)))) ∙ k .holds y;
+    holds = λ y. sym (or-false (has a y)) ∙ ap (λ (x : Bool). has a y || x) (sym (rw z (word-none p s g y))) ∙ k .holds y;
   }
 
 -- one more group has the class of its slots that are not in O

@@ -14,12 +14,12 @@ use Rattle.finite.specs.Laws.Below.{same-eq, equal?, same-refl, eq-same, ne-sam
 use Rattle.finite.specs.Laws.Weights.{bit-zero}
 use Rattle.bitset.specs.Set.{setBytes, setSlots, has}
 use Rattle.bitset.specs.Laws.Bytes.{same-slots}
+use Rattle.bitset.specs.Laws.Test.{or-none}
 use Rattle.bitset.specs.Laws.Part.{has-part}
 use Rattle.partition.specs.Gains.{Gains}
 use Rattle.site.specs.Layout.{rowsBytes}
 use Rattle.partition.specs.Rows.{inRow, sameRow, sees, seeSame, Signed, slotPuts, bytePuts, groupPuts}
 use Rattle.partition.specs.Partition.{together, Partition, Partitions, byRow, bySeen}
-use Rattle.partition.specs.Laws.Puts.{or-zero}
 use Rattle.partition.specs.Laws.Gains.{gains-zeros}
 use Rattle.partition.specs.Laws.Partitions.{partitions-of, partitions-map}
 
@@ -150,5 +150,5 @@ unseen-partition R p q z n = record {
 -- the loop that gathers all bytes: what it has is 0 where those below k are
 pub empty-more : (f : ℕ → ℕ) (k v : ℕ) → (v ≡ 0 → (j : ℕ) → j < k → f j ≡ 0) → bitOr v (f k) ≡ 0 → (j : ℕ) → j < k + 1 → f j ≡ 0
 empty-more f k v g e j h =
-    let a = or-zero v (f k) e in
+    let a = or-none v (f k) e in
     either (equal? j k) (λ q. rw q (a .1)) (λ n. g (a .0) j (omega arith))

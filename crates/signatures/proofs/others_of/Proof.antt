@@ -1,6 +1,6 @@
--- The digits of a word are the bits of its bytes.
+-- The bits of a word are those of its bytes.
 use native.Mathlib.Omega.{arith}
-use Rattle.partition.specs.Laws.Digits.{other-slots}
+use Rattle.partition.specs.Laws.Others.{other-slots}
 use Rattle.signatures.proofs.others_of.Statement.{statement}
 use Rattle.signatures.proofs.others_of.Tie as tie
 

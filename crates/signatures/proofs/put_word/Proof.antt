@@ -1,11 +1,11 @@
--- Each pass puts in the slot of the lowest digit that is 1; those of `left` are to be put in.
+-- Each pass puts in the slot of the lowest set bit; those of `left` are to be put in.
 use Prim.Native.Nat.{_-_, _^_, _<_}
 use native.Mathlib.Omega.{arith}
 use borrow.Author.Needs.{needs}
 use lib.Bits.{and-le-r}
 use lib.Count.{trailing-le}
 use Rattle.partition.specs.Rows.{wordPuts}
-use Rattle.partition.specs.Laws.Digits.{lowest}
+use Rattle.words.specs.Laws.Lowest.{lowest}
 use Rattle.partition.specs.Laws.Puts.{Lacks, word-start, word-more, word-done}
 use Rattle.signatures.proofs.put_word.Statement.{statement}
 use Rattle.signatures.proofs.put_word.Tie as tie

@@ -6,14 +6,14 @@ use Rattle.words.specs.Word.{bytes}
 use Rattle.words.proofs.put_two.Statement.{statement}
 use Rattle.words.proofs.put_two.Tie as tie
 
-cast-d : tie.Need-cast-d
-cast-d c = omega arith
+cast-low : tie.Need-cast-low
+cast-low c = omega arith
+
+cast-high : tie.Need-cast-high
+cast-high c = omega arith
 
 slice-write-d : tie.Need-slice-write-d
 slice-write-d c = omega arith
-
-cast-d-2 : tie.Need-cast-d-2
-cast-d-2 c = omega arith
 
 add-d : tie.Need-add-d
 add-d c = omega arith
@@ -30,4 +30,4 @@ returns c = rw add-one
 
 pub put-two-spec : {M : Type 1} → statement M
 put-two-spec =
-    tie.close (tie.spec cast-d slice-write-d cast-d-2 add-d slice-write-d-2 same-length returns)
+    tie.close (tie.spec cast-low cast-high slice-write-d add-d slice-write-d-2 same-length returns)
