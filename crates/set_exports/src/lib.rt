@@ -21,29 +21,29 @@ pub extern "C" fn set_union(dst: &mut [u8], src: &[u8])
     set_algebra::union_with(dst, src)
 }
 
-// The slots of both sets, into `dst`.
+// The slots of both sets; `into` gets them.
 #[no_mangle]
-pub extern "C" fn set_meet(dst: &mut [u8], src: &[u8])
-    ensures { λ _. ⌜ IfSet (now (dst .entry)) (IfSet (now (src .entry)) (Is (now (dst .exit)) (λ s. has (now (dst .entry)) s && has (now (src .entry)) s)) (now (dst .exit) ≡ now (dst .entry))) (now (dst .exit) ≡ now (dst .entry)) ⌝ }
+pub extern "C" fn set_meet(into: &mut [u8], other: &[u8])
+    ensures { λ _. ⌜ IfSet (now (into .entry)) (IfSet (now (other .entry)) (Is (now (into .exit)) (λ s. has (now (into .entry)) s && has (now (other .entry)) s)) (now (into .exit) ≡ now (into .entry))) (now (into .exit) ≡ now (into .entry)) ⌝ }
 {
-    if dst.len() != SET_BYTES {
+    if into.len() != SET_BYTES {
         return;
     }
-    if src.len() != SET_BYTES {
+    if other.len() != SET_BYTES {
         return;
     }
-    set_algebra::meet_with(dst, src)
+    set_algebra::meet_with(into, other)
 }
 
 // The slots that were not in the set.
 #[no_mangle]
-pub extern "C" fn set_complement(set: &mut [u8])
-    ensures { λ _. ⌜ IfSet (now (set .entry)) (Is (now (set .exit)) (λ s. not (has (now (set .entry)) s))) (now (set .exit) ≡ now (set .entry)) ⌝ }
+pub extern "C" fn set_complement(slots: &mut [u8])
+    ensures { λ _. ⌜ IfSet (now (slots .entry)) (Is (now (slots .exit)) (λ s. not (has (now (slots .entry)) s))) (now (slots .exit) ≡ now (slots .entry)) ⌝ }
 {
-    if set.len() != SET_BYTES {
+    if slots.len() != SET_BYTES {
         return;
     }
-    set_algebra::complement(set)
+    set_algebra::complement(slots)
 }
 
 // Do the two sets have the same slots?

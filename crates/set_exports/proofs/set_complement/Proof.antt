@@ -2,7 +2,7 @@
 use mathlib.Core.Path.{refl}
 use native.Mathlib.Omega.{arith}
 use borrow.Author.Needs.{needs}
-use Rattle.set_exports.specs.Length.{is-set, not-set}
+use Rattle.set_exports.specs.Laws.Length.{is-set, not-set}
 use Rattle.set_exports.proofs.set_complement.Statement.{statement}
 use Rattle.set_exports.proofs.set_complement.Tie as tie
 

@@ -1,7 +1,7 @@
 -- The length is tested first.
 use mathlib.Core.Path.{refl}
 use native.Mathlib.Omega.{arith}
-use Rattle.set_exports.specs.Length.{is-set, not-set}
+use Rattle.set_exports.specs.Laws.Length.{is-set, not-set}
 use Rattle.set_exports.proofs.set_count.Statement.{statement}
 use Rattle.set_exports.proofs.set_count.Tie as tie
 

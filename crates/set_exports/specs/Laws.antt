@@ -1,0 +1,2 @@
+-- Laws of the exports, by topic.
+pub mod Length
