@@ -219,7 +219,7 @@ def by_name():
 
 
 def sixteens():
-    """Sixteen slots at a time, next to each other and one in each sixteen. All but 255 are not the last in one of the two."""
+    """Sixteen slots at a time, next to each other and one in each sixteen. Every slot but 255 is, in one of the two, not the last."""
     for k in range(16):
         yield range(16 * k, 16 * k + 16)
         yield range(k, SLOTS, 16)
