@@ -1,6 +1,6 @@
 //! The operations on sets one by one, in nanoseconds: by the byte, as the library had them before they went by the word; as it has them now
-//! (libset_exports.a); and on sets of four words in the benchmark's Rust. With `--cfg before_sets` an earlier build of libset_exports.a stands
-//! in the place of the loops over bytes (bench/beside).
+//! (libset_exports.a); and on sets of four words in the benchmark's Rust, which tests no lengths. With `--cfg before_sets` an earlier build of
+//! libset_exports.a stands in the place of the loops over bytes (bench/beside).
 
 use crate::desk::{Set, SET};
 use crate::inputs::Random;
@@ -84,7 +84,7 @@ const BEFORE: Operations = library!(before_union before_meet before_complement b
 #[cfg(not(before_sets))]
 const BEFORE: Operations = operations!(bytes_union bytes_meet bytes_complement bytes_equal bytes_count);
 
-// In the Rust as in the others the functions are called and not put in place.
+// In the Rust as in the others the functions are called and not put in place. Its sets are four words by their type, so it tests no lengths.
 const RUST: Operations = Operations {
     union: pass!(|a: &mut Bytes, b: &Bytes| { rust_union(a.words_mut(), b.words()); 0u32 }),
     meet: pass!(|a: &mut Bytes, b: &Bytes| { rust_meet(a.words_mut(), b.words()); 0u32 }),
@@ -118,8 +118,9 @@ fn rust_count(set: &Set) -> u32 {
     set.count()
 }
 
-// What the library had: loops over bytes without a test of the index, not told that the sets do not overlap. The machine code is that of the
-// build before the change, instruction for instruction. It is `no_mangle` so that the test of the length stays.
+// What the library had: loops over bytes without a test of the index, not told that the sets do not overlap. With the rustc that this was checked
+// with (1.95, LLVM 22) the machine code is that of the build before the change, instruction for instruction; another may make something else of the
+// loops. They are `no_mangle` so that the tests of the lengths stay.
 #[cfg(not(before_sets))]
 mod bytes {
     use super::SET;
@@ -207,16 +208,32 @@ fn other(random: &mut Random, mut set: Bytes, byte: usize) -> Bytes {
     set
 }
 
-fn measure(what: &str, ring: Ring, pass: fn(&Operations) -> Pass) {
-    let passes = [NOW, BEFORE, RUST].map(|side| pass(&side));
-    let mut rings = vec![ring; passes.len()];
-    let answers: Vec<u32> = passes.iter().zip(&mut rings).map(|(pass, ring)| pass(ring)).collect();
+/// A pass of each side. The answers and the sets have to be the same.
+fn compare(what: &str, passes: &[Pass], rings: &mut [Ring]) -> u32 {
+    let answers: Vec<u32> = passes.iter().zip(&mut *rings).map(|(pass, ring)| pass(ring)).collect();
     assert!(answers.iter().all(|&answer| answer == answers[0]), "{what}: the answers differ, {answers:?}");
     assert!(rings.iter().all(|ring| *ring == rings[0]), "{what}: the sets differ");
+    answers[0]
+}
+
+/// Times the passes of the sides, and compares their results before and after. Returns the first answer.
+fn measure(what: &str, ring: Ring, pass: fn(&Operations) -> Pass) -> u32 {
+    let passes = [NOW, BEFORE, RUST].map(|side| pass(&side));
+    let mut rings = vec![ring; passes.len()];
+    let answer = compare(what, &passes, &mut rings);
     let mut sample = |side: usize, turns| time(turns, || _ = black_box(passes[side](&mut rings[side])));
+    // Ten is even, so the complements of these turns leave the sets as they were.
     let turns = (SAMPLE.as_secs_f64() / sample(0, 10)).max(1.0) as u32;
     let times = samples(SAMPLES, passes.len(), |side| sample(side, turns) * 1e9 / PAIRS as f64);
+    compare(what, &passes, &mut rings);
     println!("{what:44} {}", columns(&times));
+    answer
+}
+
+/// Times equality, which has to hold of so many pairs.
+fn equality(what: &str, ring: Ring, equal: usize) {
+    let answer = measure(&format!("equal: {what}"), ring, |side| side.equal);
+    assert_eq!(answer as usize, equal, "equal: {what}");
 }
 
 pub fn show() {
@@ -224,18 +241,18 @@ pub fn show() {
     println!("\nSets: one call; before is {before}");
     println!("{:44} {}", "operation", times_title("ns", true));
     let random = || ring(|random, _| any(random));
-    let differ = |byte: usize| ring(move |random, set| other(random, set, byte));
     measure("union", random(), |side| side.union);
     measure("meet", random(), |side| side.meet);
     measure("complement", random(), |side| side.complement);
-    measure("equal: the same slots", ring(|_, set| set), |side| side.equal);
-    measure("equal: other slots in byte 0", differ(0), |side| side.equal);
-    measure("equal: other slots in byte 15", differ(15), |side| side.equal);
-    measure("equal: other slots in byte 31", differ(31), |side| side.equal);
+    equality("the same slots", ring(|_, set| set), PAIRS);
+    for byte in [0, 15, 31] {
+        let differ = ring(|random, set| other(random, set, byte));
+        equality(&format!("other slots in byte {byte}"), differ, 0);
+    }
     let one = ring(|random, set| {
         let byte = random.below(SET);
         other(random, set, byte)
     });
-    measure("equal: other slots in any one byte", one, |side| side.equal);
+    equality("other slots in any one byte", one, 0);
     measure("count", random(), |side| side.count);
 }
