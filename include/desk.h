@@ -15,9 +15,9 @@
  * By function:
  *
  *   desk_apply     under 1 KB for any input
- *   desk_classes   265 KB for any site
- *   desk_list      24 KB, plus 430 bytes for each node on the longest path of the condition, or 810 if the node is a mu or nu:
- *                  0.9 MB for a line of 2,048 nodes, 1.7 MB for 2,047 nested loops
+ *   desk_classes   142 KB for any site
+ *   desk_list      24 KB, plus 250 bytes for each node on the longest path of the condition, or 560 if the node is a mu or nu:
+ *                  0.6 MB for a line of 2,048 nodes, 1.2 MB for 2,047 nested loops
  *   desk_rewrite   45 KB, plus 110 bytes for each node on the longest path of the condition; at most 0.12 MB was measured, for a line of
  *                  2,048 nodes
  *   desk_job       the largest of the above, plus 5 KB. It lists two tables, the condition and the REWRITTEN one, and the
