@@ -1223,6 +1223,46 @@ static void try_apart(void)
         }
 }
 
+enum { LEAVES = 6, LOW_JOINED = 10, JOINED = 40, LEAF = JOINED + LEAVES + 1 };
+
+/* Leaves with a label each; then slots with a link to all leaves but one, and a slot with a link to all. */
+static void build_leaves(const int *leaves, int joined)
+{
+    for (int k = 0; k < LEAVES; k++)
+        put_slot(site.at + label_at(k), leaves[k]);
+    for (int j = 0; j <= LEAVES; j++)
+        for (int k = 0; k < LEAVES; k++)
+            if (j != k)
+                put_slot(site.at + row_at(1, joined + j), leaves[k]);
+}
+
+static void expect_copies(const int *low, const int *leaves)
+{
+    static uint8_t classes[DESK_CLASSES_BYTES];
+    desk_classes(site.at, site.length, classes, sizeof classes);
+    for (int k = 0; k < LEAVES; k++)
+        expect(classes[leaves[k]] == low[k], "a leaf of the second copy");
+    for (int j = 0; j <= LEAVES; j++)
+        expect(classes[JOINED + j] == LOW_JOINED + j, "a slot with links to the leaves of the second copy");
+    try_entry(CLASSES, entries[CLASSES].lengths);
+}
+
+/* The same twice, so that no slot of the second is the lowest of its class: each of its leaves counts, wherever they stand in their words. */
+static void try_copies(void)
+{
+    static const int low[LEAVES] = {1, 2, 3, 4, 5, 6};
+    const int places = SLOTS - LEAF;
+    for (int n = 0; n < 2 * places; n++) {
+        int leaves[LEAVES];
+        for (int k = 0; k < LEAVES; k++)
+            leaves[k] = LEAF + (n / 2 + (n % 2 ? 37 : 1) * k) % places;
+        build_bare();
+        build_leaves(low, LOW_JOINED);
+        build_leaves(leaves, JOINED);
+        expect_copies(low, leaves);
+    }
+}
+
 static void try_every_slot(void)
 {
     try_single_slots();
@@ -1230,6 +1270,7 @@ static void try_every_slot(void)
     try_quarters();
     try_absent_slots();
     try_apart();
+    try_copies();
 }
 
 static void *try_known_answers(void *unused)

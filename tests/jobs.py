@@ -337,6 +337,32 @@ def at_edges():
         yield with_bytes(apart(s, (1, 0)), (NAMES_AT + 1, s)), seen, sheet((8, 1))
 
 
+LEAVES = 6
+
+
+def copies(*leaves):
+    """Twice the same: leaves with a label each, slots with a link to all leaves but one, and one with a link to all. The second time these leaves
+    are taken, so none of its slots is the lowest of its class; some are next to each other in one word."""
+    site = pieces.bare_site()
+    for leaf, joined in ((range(1, 1 + LEAVES), range(10, 11 + LEAVES)), (leaves, range(40, 41 + LEAVES))):
+        for k, slot in enumerate(leaf):
+            pieces.put(site, label_at(k), slot)
+        for j, slot in enumerate(joined):
+            for k, target in enumerate(leaf):
+                if j != k:
+                    pieces.put(site, row_at(1, slot), target)
+    return site
+
+
+def by_copies():
+    """Every slot that is not the lowest of its class counts; and once a link is gone the copies differ."""
+    one = pieces.table((2, 2, 0, 0), (8, 1, 0, 0))
+    for leaves in range(30, 36), range(58, 64), range(61, 67), range(128, 134), range(250, 256), (20, 63, 64, 130, 200, 255):
+        site = copies(*leaves)
+        yield site, one, sheet()
+        yield with_bytes(site, (NAMES_AT + 1, 40 + LEAVES), (NAMES_AT + 2, leaves[1])), one, sheet((5, 1, 1, 2), (0, 1, 0), (0, 2, 0))
+
+
 def largest():
     """The longest job that is not refused: as many nodes as a table has, before and after, and as many edits as a sheet has."""
     nodes = [(3, n, 0, 0) for n in HIGH]
@@ -351,7 +377,7 @@ def cases(rng):
     yield J
     yield largest()
     yield from files()
-    for make in (by_hand, refusals, limits, collisions, classing, many_names, at_edges):
+    for make in (by_hand, refusals, limits, collisions, classing, many_names, at_edges, by_copies):
         for three in make():
             yield job(*three)
     for _ in range(60):
