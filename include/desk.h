@@ -51,7 +51,7 @@ extern "C" {
 #define DESK_GENERAL_LINKS 4
 #define DESK_FUNCTIONAL_LINKS (DESK_LINK_COUNT - DESK_GENERAL_LINKS)
 
-/* Slot 0 is "off-site". Name 0 is always at it, and a slot without a target by a functional link has 0 in the target's byte. */
+/* Slot 0 is "off-site". Name 0 is always at it, it has no label, and a slot without a target by a functional link has 0 in the target's byte. */
 #define DESK_NIL 0
 
 /* ---- sets of slots: slot s is the bit DESK_SET_WEIGHT(s) of byte DESK_SET_BYTE(s) */
@@ -117,7 +117,7 @@ enum desk_kind {
 enum desk_operation {
     DESK_OP_CN1 = 0,            /* n1 n2     n1, not 0, moves to @n2 */
     DESK_OP_CN2 = 1,            /* n1 n2 f   n1, not 0, moves to the f-target of @n2, or to nil */
-    DESK_OP_AP = 2,             /* n p       @n gains label p */
+    DESK_OP_AP = 2,             /* n p       @n gains label p, unless it is nil */
     DESK_OP_DP = 3,             /* n p       @n loses label p */
     DESK_OP_AT = 4,             /* m n1 n2   a link m from @n1 to @n2 is added; neither is nil; for m 4 to 7, @n1 has no m-target or has @n2 */
     DESK_OP_DT1 = 5,            /* m n1 n2   that link is removed, if it is there */
@@ -153,7 +153,7 @@ enum desk_reason {
                                  * the file's length less 12 */
     DESK_SITE_LENGTH = 3,       /* the site does not have DESK_SITE_BYTES bytes */
     DESK_NAMES = 4,             /* slot 0 is absent, name 0 is not at slot 0, or a name is at an absent slot */
-    DESK_LABELS = 5,            /* a label is on an absent slot */
+    DESK_LABELS = 5,            /* a label is on slot 0 or on an absent slot */
     DESK_LINKS = 6,             /* a link starts or ends at slot 0 or at an absent slot */
     DESK_CONDITION_LENGTH = 7,  /* the condition's length is not a multiple of 6 from 6 to 12,288 */
     DESK_NODE = 8,              /* a node has an unknown kind, a parameter out of range, a child that is not lower than the node, or an

@@ -51,8 +51,21 @@ const TEXT_15: [u16; TEXT_GROUPS] = [
     0x602a,
 ];
 
-// AP, label p: w a |
-const TEXT_16: [u16; TEXT_GROUPS] = [0x0003, 0x2100, 0x3200, 0x6012, 0, 0, 0, 0, 0, 0, 0, 0];
+// AP, label p: w a nil ! & |
+const TEXT_16: [u16; TEXT_GROUPS] = [
+    0x0006,
+    0x2100,
+    0x3200,
+    0x3000,
+    0x5030,
+    0x7024,
+    0x6015,
+    0,
+    0,
+    0,
+    0,
+    0,
+];
 
 // DP and DS, label: w a ! &
 const TEXT_17: [u16; TEXT_GROUPS] = [0x0004, 0x2100, 0x3200, 0x5020, 0x7013, 0, 0, 0, 0, 0, 0, 0];

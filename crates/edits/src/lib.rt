@@ -100,12 +100,15 @@ fn move_to_target(site: &mut [u8], n1: u8, n2: u8, f: u8)
     put_name(site, n1 as usize, t);
 }
 
-// AP: label p is put where name n is.
+// AP: label p is put where name n is. Nil gets no label.
 fn add_label(site: &mut [u8], n: u8, p: u8)
     requires { ⌜ (length (now site) ≡ siteBytes) × (legal (AP n p) ≡ true) ⌝ }
     ensures { λ _. ⌜ siteOf (now (site .exit)) ≡ edit (AP n p) (siteOf (now (site .entry))) ⌝ }
 {
     let s = site::place(site, n as usize);
+    if s == 0 {
+        return;
+    }
     put_label(site, p as usize, s);
 }
 

@@ -9,3 +9,4 @@ pub mod Refused
 pub mod Said
 pub mod Doubled
 pub mod Names
+pub mod OffSite

@@ -8,5 +8,7 @@ pub mod Said
 pub mod Doubled
 -- names 0 to 47
 pub mod Names
+-- no labels off-site
+pub mod OffSite
 -- what is proved of them
 pub mod Laws

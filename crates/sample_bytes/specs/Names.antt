@@ -22,18 +22,8 @@ use Rattle.condition.specs.Refusal.{conditionVerdict}
 use Rattle.sheet.specs.Bytes as sheet
 use Rattle.sheet.specs.Bytes.{editsOf}
 use Rattle.sheet.specs.Refusal.{sheetVerdict}
-use Rattle.trailer.specs.Refusal.{trailerVerdict}
-use Rattle.trailer.specs.Pieces.{siteIn}
 use Rattle.demands.specs.Demands.{ApplyCall, RewriteCall, ListCall, ClassCall, rewrittenTable, Going, Runnable}
-use Rattle.demands.specs.Job.{JobCall}
-use Rattle.sample_bytes.specs.Refused.{NotListed, NotApplied, NotClassed, NotRun}
-
--- each call that is given the site is refused with the item
-pub record SiteRefused (site : List ℕ) (item : ℕ) : Type 0 where
-  pub listing : (table : List ℕ) (call : ListCall site table) → NotListed call item 0
-  pub applying : (sheet : List ℕ) (call : ApplyCall site sheet) → NotApplied call item 0
-  pub classes : (call : ClassCall site) → NotClassed call item 0
-  pub job : (file : List ℕ) → trailerVerdict file ≡ Accepted → siteIn file ≡ site → (call : JobCall file) → NotRun call item 0
+use Rattle.sample_bytes.specs.Refused.{SiteRefused}
 
 -- the operands of an edit that are names
 unfoldable pub namesOf : Edit → List ℕ

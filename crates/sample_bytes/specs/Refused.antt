@@ -6,6 +6,9 @@ use lib.ListN.{replicate}
 use Rattle.bitset.specs.Set.{setBytes}
 use Rattle.site.specs.Layout.{siteBytes}
 use Rattle.limits.specs.Limits.{tableBytes}
+use Rattle.verdict.specs.declared.Verdict.the-variants.{Accepted}
+use Rattle.trailer.specs.Refusal.{trailerVerdict}
+use Rattle.trailer.specs.Pieces.{siteIn}
 use Rattle.classes_entry.specs.Refusal.{classesBytes}
 use Rattle.demands.specs.Demand1.{ZeroJob}
 use Rattle.demands.specs.Demands.{ApplyCall, RewriteCall, ListCall, ClassCall}
@@ -37,3 +40,10 @@ NotClassed call = NoAnswer (call .reason) (call .fault) (call .count) classesByt
 pub record NotRun {file : List ℕ} (call : JobCall file) (item w : ℕ) : Type 0 where
   pub refused : RefusedWith (call .reason) (call .fault) item w
   pub zeros : ZeroJob (call .lent) (call .lent′) (call .after) (call .today) (call .nodes) (call .classes)
+
+-- each call that is given the site is refused with the item
+pub record SiteRefused (site : List ℕ) (item : ℕ) : Type 0 where
+  pub listing : (table : List ℕ) (call : ListCall site table) → NotListed call item 0
+  pub applying : (sheet : List ℕ) (call : ApplyCall site sheet) → NotApplied call item 0
+  pub classes : (call : ClassCall site) → NotClassed call item 0
+  pub job : (file : List ℕ) → trailerVerdict file ≡ Accepted → siteIn file ≡ site → (call : JobCall file) → NotRun call item 0

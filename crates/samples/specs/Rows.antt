@@ -4,7 +4,7 @@ use mathlib.Core.Bool.{Bool, not}
 use Prim.Native.Nat.{ℕ}
 use Rattle.finite.specs.Tests.{same}
 use Rattle.semantics.specs.Table.{Node, node}
-use Rattle.semantics.specs.Edit.{Edit, CN1, CN2, AT, DT2, AS, DS}
+use Rattle.semantics.specs.Edit.{Edit, CN1, CN2, AP, AT, DT2, AS, DS}
 use Rattle.samples.specs.Site.{some, Small, siteA, ring, crowded}
 
 -- a set of slots: these only, or all but these
@@ -44,6 +44,13 @@ tableName n = node 3 n 0 0 ∷ []
 unfoldable pub tableLoop : ℕ → List Node
 tableLoop k = node 4 0 0 0 ∷ node 8 4 0 0 ∷ node k 0 1 0 ∷ []
 
+-- label p; and some slot has it
+unfoldable pub tableLabel : ℕ → List Node
+tableLabel p = node 2 p 0 0 ∷ []
+
+unfoldable pub tableSome : ℕ → List Node
+tableSome p = node 2 p 0 0 ∷ node 8 16 0 0 ∷ []
+
 unfoldable pub rows : List Row
 rows =
     -- A lists R at {1, 2, 3}
@@ -82,4 +89,8 @@ rows =
     ∷ row crowded (AT 5 2 47 ∷ []) (node 3 47 0 0 ∷ node 8 5 0 0 ∷ []) (lists (only (3 ∷ [])) 1 8)
     -- DS 47: name 8 goes to 0 as well
     ∷ row crowded (DS 47 ∷ []) (tableName 8) (lists (only (0 ∷ [])) 1 11)
+    -- AP 1 7: some slot has label 7. After CN1 1 0, name 1 is at nil: none has, and the label's own block of 6 nodes lists none
+    ∷ row siteA (AP 1 7 ∷ []) (tableSome 7) (lists (allBut []) 256 7)
+    ∷ row siteA (CN1 1 0 ∷ AP 1 7 ∷ []) (tableSome 7) (lists (only []) 0 7)
+    ∷ row siteA (CN1 1 0 ∷ AP 1 7 ∷ []) (tableLabel 7) (lists (only []) 0 6)
     ∷ []

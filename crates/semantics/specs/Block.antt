@@ -109,8 +109,9 @@ blockBox (cutFrom n) w T = nm n or (⟦ w ⟧ T)
 blockBox (cutTo n) w T = ⟦ w ⟧ (nm n or T)
 blockBox (cutOff n) w T = nm n or (⟦ w ⟧ (nm n or T))
 
--- the block of a node with no child. CN1: name n1 is n2. CN2: name n1 is n2 <f-> nil n2 t <f> & <E> ! & |. AP, DP: label p is p n |
--- and p n ! &. AS: name n is k, here is h k |. DS: here is h n ! &, a label p n ! &, a name y other than 0 y n ! & nil n y & <E> & |
+-- the block of a node with no child. CN1: name n1 is n2. CN2: name n1 is n2 <f-> nil n2 t <f> & <E> ! & |. AP: label p is
+-- p n nil ! & |. DP: it is p n ! &. AS: name n is k, here is h k |. DS: here is h n ! &, a label p n ! &, a name y other than 0
+-- y n ! & nil n y & <E> & |
 unfoldable pub blockLeaf : Edit → Leaf → ℕ → Block
 blockLeaf e kTrue p = end kTrue p
 blockLeaf (CN1 n1 n2) kHere p = end kHere p
@@ -124,7 +125,7 @@ blockLeaf (AS n k) kHere p = end kHere p or end kSlot k
 blockLeaf (DS n) kHere p = end kHere p & no! (nm n)
 blockLeaf (CN1 n1 n2) kLabel p = end kLabel p
 blockLeaf (CN2 n1 n2 f) kLabel p = end kLabel p
-blockLeaf (AP n q) kLabel p = cond (same p q) (end kLabel p or nm n) (end kLabel p)
+blockLeaf (AP n q) kLabel p = cond (same p q) (end kLabel p or (nm n & no! (nm 0))) (end kLabel p)
 blockLeaf (DP n q) kLabel p = cond (same p q) (end kLabel p & no! (nm n)) (end kLabel p)
 blockLeaf (AT m n1 n2) kLabel p = end kLabel p
 blockLeaf (DT1 m n1 n2) kLabel p = end kLabel p

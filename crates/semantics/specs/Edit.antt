@@ -46,11 +46,12 @@ setPlace M P = record { present = M .present; marked = M .marked; place = P; lin
 abbrev pub setLink : Model → (ℕ → ℕ → Set) → Model
 setLink M L = record { present = M .present; marked = M .marked; place = M .place; link = L }
 
--- the effect of an edit. It reads the site before the edit; `M .place n` is "@n"
+-- the effect of an edit. It reads the site before the edit; `M .place n` is "@n". Nil gets no label
 unfoldable pub edit : Edit → Model → Model
 edit (CN1 n1 n2) M = setPlace M (λ y. cond (same y n1) (M .place n2) (M .place y))
 edit (CN2 n1 n2 f) M = setPlace M (λ y. cond (same y n1) (target M f (M .place n2)) (M .place y))
-edit (AP n p) M = setMarked M (λ q s. cond (same q p) (M .marked q s || same s (M .place n)) (M .marked q s))
+edit (AP n p) M =
+    setMarked M (λ q s. cond (same q p) (M .marked q s || (same s (M .place n) && not (same s 0))) (M .marked q s))
 edit (DP n p) M = setMarked M (λ q s. cond (same q p) (M .marked q s && not (same s (M .place n))) (M .marked q s))
 edit (AT m n1 n2) M =
     setLink M (λ l s t. cond (same l m) (M .link l s t || (same s (M .place n1) && same t (M .place n2))) (M .link l s t))
@@ -91,14 +92,14 @@ goes (DT2 f n) M = true
 goes (AS n k) M = not (M .present k)
 goes (DS n) M = not (same (M .place n) 0)
 
--- a valid site: slot 0 is present and has name 0; names, labels and link ends are at present slots; no link touches slot 0;
+-- a valid site: slot 0 is present and has name 0; names, labels and link ends are at present slots; slot 0 has no label, and no link touches it;
 -- and, as its bytes have it, only slots are present and a functional link has one target
 pub record Valid (M : Model) : Type 0 where
   pub small : (s : ℕ) → M .present s ≡ true → s < slots
   pub nil-present : M .present 0 ≡ true
   pub nil-named : M .place 0 ≡ 0
   pub named : (n : ℕ) → M .present (M .place n) ≡ true
-  pub labelled : (p s : ℕ) → M .marked p s ≡ true → M .present s ≡ true
+  pub labelled : (p s : ℕ) → M .marked p s ≡ true → (M .present s ≡ true) × (s ≢ 0)
   pub from : (m s t : ℕ) → M .link m s t ≡ true → (M .present s ≡ true) × (s ≢ 0)
   pub to : (m s t : ℕ) → M .link m s t ≡ true → (M .present t ≡ true) × (t ≢ 0)
   pub one : (m s t u : ℕ) → functional m ≡ true → M .link m s t ≡ true → M .link m s u ≡ true → t ≡ u

@@ -15,13 +15,13 @@ use Rattle.site.specs.Site.{siteOf}
 unfoldable pub item4 : Model → Bool
 item4 M = not (M .present 0) || (not (same (M .place 0) 0) || any names (λ n. not (M .present (M .place n))))
 
--- 5: a label is on an absent slot
-unfoldable pub item5 : Model → Bool
-item5 M = any labels (λ p. any slots (λ s. M .marked p s && not (M .present s)))
-
--- slot s is slot 0 or absent: no link may touch it
+-- slot s is slot 0 or absent: no label may be on it, and no link may touch it
 unfoldable pub barred : Model → ℕ → Bool
 barred M s = same s 0 || not (M .present s)
+
+-- 5: a label is on slot 0 or on an absent slot
+unfoldable pub item5 : Model → Bool
+item5 M = any labels (λ p. any slots (λ s. M .marked p s && barred M s))
 
 -- link m touches slot 0 or an absent slot
 unfoldable pub touches : Model → ℕ → Bool

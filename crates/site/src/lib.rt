@@ -108,74 +108,73 @@ fn part_inside(site: &[u8], b: usize, set: &[u8]) -> bool
     set_algebra::subset(&site[b..e], set)
 }
 
-// Item 5 is not met: each label's set lies inside the present slots.
-fn labels_fit(site: &[u8]) -> bool
+// The slots that labels and links may be at: those present, but for slot 0.
+fn onsite_slots(site: &[u8]) -> [u8; SET_BYTES]
     requires { ⌜ length (now site) ≡ siteBytes ⌝ }
+    ensures { λ r. ⌜ Is r (λ s. not (barred (siteOf (now (site .entry))) s)) ⌝ }
+{
+    let mut onsite = [0u8; SET_BYTES];
+    set_algebra::union_with(&mut onsite, &site[0..SET_BYTES]);
+    bitset::remove(&mut onsite, 0);
+    onsite
+}
+
+// Item 5 is not met: each label's set lies inside `onsite`.
+fn labels_fit(site: &[u8], onsite: &[u8]) -> bool
+    requires { ⌜ (length (now site) ≡ siteBytes) × ((length (now onsite) ≡ setBytes) × Is (now onsite) (λ s. not (barred (siteOf (now site)) s))) ⌝ }
     ensures { λ r. ⌜ r ≡ not (item5 (siteOf (now (site .entry)))) ⌝ }
 {
-    let here = &site[0..SET_BYTES];
     for p in 0..LABELS {
-        if !part_inside(site, LABELS_AT + SET_BYTES * p, here) {
+        if !part_inside(site, LABELS_AT + SET_BYTES * p, onsite) {
             return false;
         }
     }
     true
 }
 
-// The slots that a link may touch: those present, but for slot 0.
-fn link_ends(site: &[u8]) -> [u8; SET_BYTES]
-    requires { ⌜ length (now site) ≡ siteBytes ⌝ }
-    ensures { λ r. ⌜ Is r (λ s. not (barred (siteOf (now (site .entry))) s)) ⌝ }
+// Does the set at byte b, the targets of slot s, lie inside `onsite`, and is it empty where s is not in `onsite`?
+fn row_fits(site: &[u8], b: usize, s: usize, onsite: &[u8]) -> bool
+    requires { ⌜ (b + setBytes ≤ length (now site)) × ((s < setSlots) × (length (now onsite) ≡ setBytes)) ⌝ }
+    ensures { λ r. ⌜ r ≡ rowInside (now (site .entry)) b (now (onsite .entry)) s ⌝ }
 {
-    let mut ends = [0u8; SET_BYTES];
-    set_algebra::union_with(&mut ends, &site[0..SET_BYTES]);
-    bitset::remove(&mut ends, 0);
-    ends
-}
-
-// Does the set at byte b, the targets of slot s, lie inside `ends`, and is it empty where s is not in `ends`?
-fn row_fits(site: &[u8], b: usize, s: usize, ends: &[u8]) -> bool
-    requires { ⌜ (b + setBytes ≤ length (now site)) × ((s < setSlots) × (length (now ends) ≡ setBytes)) ⌝ }
-    ensures { λ r. ⌜ r ≡ rowInside (now (site .entry)) b (now (ends .entry)) s ⌝ }
-{
-    if bitset::member(ends, s) {
-        return part_inside(site, b, ends);
+    if bitset::member(onsite, s) {
+        return part_inside(site, b, onsite);
     }
     let none = [0u8; SET_BYTES];
     part_inside(site, b, &none)
 }
 
-// Does every row of the general link m fit? Its targets are in `ends`, and it is empty where its slot is not.
-fn rows_fit(site: &[u8], m: usize, ends: &[u8]) -> bool
-    requires { ⌜ (length (now site) ≡ siteBytes) × ((m < generalLinks) × (length (now ends) ≡ setBytes)) ⌝ }
-    ensures { λ r. ⌜ r ≡ all setSlots (λ s. rowInside (now (site .entry)) (rowAt m s) (now (ends .entry)) s) ⌝ }
+// Does every row of the general link m fit? Its targets are in `onsite`, and it is empty where its slot is not.
+fn rows_fit(site: &[u8], m: usize, onsite: &[u8]) -> bool
+    requires { ⌜ (length (now site) ≡ siteBytes) × ((m < generalLinks) × (length (now onsite) ≡ setBytes)) ⌝ }
+    ensures { λ r. ⌜ r ≡ all setSlots (λ s. rowInside (now (site .entry)) (rowAt m s) (now (onsite .entry)) s) ⌝ }
 {
     for s in 0..SET_SLOTS {
-        if !row_fits(site, ROWS_AT + ROWS_BYTES * m + SET_BYTES * s, s, ends) {
+        if !row_fits(site, ROWS_AT + ROWS_BYTES * m + SET_BYTES * s, s, onsite) {
             return false;
         }
     }
     true
 }
 
-// Is the target t of slot s none, or are both in `ends`?
-fn target_fits(s: usize, t: usize, ends: &[u8]) -> bool
-    requires { ⌜ (s < setSlots) × ((t < setSlots) × (length (now ends) ≡ setBytes)) ⌝ }
-    ensures { λ r. ⌜ r ≡ targetInside (now (ends .entry)) s t ⌝ }
+// Is the target t of slot s none, or are both in `onsite`?
+fn target_fits(s: usize, t: usize, onsite: &[u8]) -> bool
+    requires { ⌜ (s < setSlots) × ((t < setSlots) × (length (now onsite) ≡ setBytes)) ⌝ }
+    ensures { λ r. ⌜ r ≡ targetInside (now (onsite .entry)) s t ⌝ }
 {
     if t == 0 {
         return true;
     }
-    if !bitset::member(ends, s) {
+    if !bitset::member(onsite, s) {
         return false;
     }
-    bitset::member(ends, t)
+    bitset::member(onsite, t)
 }
 
 // Do the targets of the 32 slots from 32 * k on fit, by the functional link f? If all of them are none, one look tells.
-fn targets_fit_from(site: &[u8], f: usize, k: usize, ends: &[u8]) -> bool
-    requires { ⌜ (length (now site) ≡ siteBytes) × ((generalLinks ≤ f) × ((f < links) × ((setBytes * k < setSlots) × (length (now ends) ≡ setBytes)))) ⌝ }
-    ensures { λ r. ⌜ r ≡ all setBytes (λ j. targetInside (now (ends .entry)) (setBytes * k + j) (getD (now (site .entry)) (targetAt f (setBytes * k + j)) 0)) ⌝ }
+fn targets_fit_from(site: &[u8], f: usize, k: usize, onsite: &[u8]) -> bool
+    requires { ⌜ (length (now site) ≡ siteBytes) × ((generalLinks ≤ f) × ((f < links) × ((setBytes * k < setSlots) × (length (now onsite) ≡ setBytes)))) ⌝ }
+    ensures { λ r. ⌜ r ≡ all setBytes (λ j. targetInside (now (onsite .entry)) (setBytes * k + j) (getD (now (site .entry)) (targetAt f (setBytes * k + j)) 0)) ⌝ }
 {
     let b = TARGETS_AT + SET_SLOTS * (f - GENERAL_LINKS) + SET_BYTES * k;
     let none = [0u8; SET_BYTES];
@@ -185,46 +184,45 @@ fn targets_fit_from(site: &[u8], f: usize, k: usize, ends: &[u8]) -> bool
     for j in 0..SET_BYTES {
         let s = SET_BYTES * k + j;
         let t = target(site, f, s);
-        if !target_fits(s, t, ends) {
+        if !target_fits(s, t, onsite) {
             return false;
         }
     }
     true
 }
 
-// Does every target of the functional link f fit? It is none, or both ends of the link are in `ends`.
-fn targets_fit(site: &[u8], f: usize, ends: &[u8]) -> bool
-    requires { ⌜ (length (now site) ≡ siteBytes) × ((generalLinks ≤ f) × ((f < links) × (length (now ends) ≡ setBytes))) ⌝ }
-    ensures { λ r. ⌜ r ≡ all setSlots (λ s. targetInside (now (ends .entry)) s (getD (now (site .entry)) (targetAt f s) 0)) ⌝ }
+// Does every target of the functional link f fit? It is none, or both onsite of the link are in `onsite`.
+fn targets_fit(site: &[u8], f: usize, onsite: &[u8]) -> bool
+    requires { ⌜ (length (now site) ≡ siteBytes) × ((generalLinks ≤ f) × ((f < links) × (length (now onsite) ≡ setBytes))) ⌝ }
+    ensures { λ r. ⌜ r ≡ all setSlots (λ s. targetInside (now (onsite .entry)) s (getD (now (site .entry)) (targetAt f s) 0)) ⌝ }
 {
     for k in 0..SET_SLOTS / SET_BYTES {
-        if !targets_fit_from(site, f, k, ends) {
+        if !targets_fit_from(site, f, k, onsite) {
             return false;
         }
     }
     true
 }
 
-// Does link m touch the slots of `ends` alone?
-fn link_fits(site: &[u8], m: usize, ends: &[u8]) -> bool
-    requires { ⌜ (length (now site) ≡ siteBytes) × ((m < links) × ((length (now ends) ≡ setBytes) × Is (now ends) (λ s. not (barred (siteOf (now site)) s)))) ⌝ }
+// Does link m touch the slots of `onsite` alone?
+fn link_fits(site: &[u8], m: usize, onsite: &[u8]) -> bool
+    requires { ⌜ (length (now site) ≡ siteBytes) × ((m < links) × ((length (now onsite) ≡ setBytes) × Is (now onsite) (λ s. not (barred (siteOf (now site)) s)))) ⌝ }
     ensures { λ r. ⌜ r ≡ not (touches (siteOf (now (site .entry))) m) ⌝ }
 {
     if m < GENERAL_LINKS {
-        rows_fit(site, m, ends)
+        rows_fit(site, m, onsite)
     } else {
-        targets_fit(site, m, ends)
+        targets_fit(site, m, onsite)
     }
 }
 
-// Item 6 is not met: each link touches present slots other than 0 alone.
-fn links_fit(site: &[u8]) -> bool
-    requires { ⌜ length (now site) ≡ siteBytes ⌝ }
+// Item 6 is not met: each link touches the slots of `onsite` alone.
+fn links_fit(site: &[u8], onsite: &[u8]) -> bool
+    requires { ⌜ (length (now site) ≡ siteBytes) × ((length (now onsite) ≡ setBytes) × Is (now onsite) (λ s. not (barred (siteOf (now site)) s))) ⌝ }
     ensures { λ r. ⌜ r ≡ not (item6 (siteOf (now (site .entry)))) ⌝ }
 {
-    let ends = link_ends(site);
     for m in 0..LINKS {
-        if !link_fits(site, m, &ends) {
+        if !link_fits(site, m, onsite) {
             return false;
         }
     }
@@ -241,10 +239,11 @@ pub fn check(site: &[u8]) -> Verdict
     if !names_fit(site) {
         return Verdict::Refused(4, 0);
     }
-    if !labels_fit(site) {
+    let onsite = onsite_slots(site);
+    if !labels_fit(site, &onsite) {
         return Verdict::Refused(5, 0);
     }
-    if !links_fit(site) {
+    if !links_fit(site, &onsite) {
         return Verdict::Refused(6, 0);
     }
     Verdict::Accepted

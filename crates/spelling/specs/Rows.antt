@@ -21,7 +21,7 @@ rows w a b v e T =
     -- 15, CN2: the name n1
     ∷ ((⟨ v ⟩ nm a) or (nm 0 & no! (⟨ e ⟩ (nm a & (⟨ b ⟩ end kTrue 0)))))
     -- 16, AP: the label p
-    ∷ (end kLabel w or nm a)
+    ∷ (end kLabel w or (nm a & no! (nm 0)))
     -- 17, DP: the label p; DS: a label
     ∷ (end kLabel w & no! (nm a))
     -- 18, AS: here

@@ -74,10 +74,10 @@ module _ {site sheet : List ℕ} (j : Going site sheet) where
           goes = j .goes-through;
         })
 
-    apply-reason : c .reason ≡ 0
+    pub apply-reason : c .reason ≡ 0
     apply-reason = reason-none apply-goes (c .returned)
 
-    left : SiteWritten site sheet (c .result′)
+    pub left : SiteWritten site sheet (c .result′)
     unfolding SiteAfter
     left = rw apply-goes at (c .returned .left)
 

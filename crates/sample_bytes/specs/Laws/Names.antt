@@ -22,7 +22,6 @@ use Rattle.semantics.specs.Block.{rewriteSheet}
 use Rattle.semantics.specs.Laws.FixedPoint.{none}
 use Rattle.samples.specs.Site.{each}
 use Rattle.samples.specs.Rows.{tableName}
-use Rattle.site.specs.Layout.{siteBytes}
 use Rattle.site.specs.Site.{siteOf}
 use Rattle.site.specs.Refusal.{siteVerdict}
 use Rattle.site.specs.Laws.Read.{place-is}
@@ -37,35 +36,13 @@ use Rattle.sheet.specs.Refusal.{sheetVerdict}
 use Rattle.sheet.specs.Laws.Accepted.{sheet-accepted, one-refused}
 use Rattle.going.specs.Laws.Ranges.{legal-CN1, legal-CN2, legal-AP, legal-DP, legal-AT, legal-DT1, legal-DT2, legal-AS, legal-DS}
 use Rattle.classes.specs.Classes.{Classes}
-use Rattle.refusals.specs.Laws.Items.{buffer-in}
-use Rattle.list_entry.specs.Refusal.{listVerdict}
-use Rattle.apply_entry.specs.Refusal.{applyVerdict}
-use Rattle.classes_entry.specs.Refusal.{classesVerdict}
 use Rattle.classes_entry.specs.Classing.{ClassesAfter}
-use Rattle.job_run.specs.Refusal.{piecesVerdict}
-use Rattle.job_entry.specs.Refusal.{jobVerdict}
-use Rattle.job_entry.specs.Laws.Refusal.{sized-in}
 use Rattle.demands.specs.Demands.{ApplyCall, RewriteCall, ListCall, ClassCall, rewrittenTable, Going, Runnable, Demand2, Demand3}
 use Rattle.demands.specs.Laws.Accepted.{classes-accepted}
 use Rattle.demands.specs.Laws.Demands.{demand-2, demand-3}
-use Rattle.sample_bytes.specs.Names.{SiteRefused, namesOf, everyOperand, nameBytes, Names}
-use Rattle.sample_bytes.specs.Laws.Refused.{not-listed, not-applied, not-classed, not-run}
+use Rattle.sample_bytes.specs.Names.{namesOf, everyOperand, nameBytes, Names}
+use Rattle.sample_bytes.specs.Laws.Refused.{site-refused}
 use Rattle.sample_bytes.specs.Laws.Judged.{table-accepted}
-
--- ---- a site of another length
-
-module _ (site : List ℕ) (other : length site ≢ siteBytes) where
-  item-3 : siteVerdict site ≡ Refused 3 0
-  item-3 = wrong-length site other
-
-  site-refused : SiteRefused site 3
-  unfolding listVerdict applyVerdict classesVerdict jobVerdict piecesVerdict
-  site-refused = record {
-    listing = λ table c. not-listed c 3 0 (rw (buffer-in (c .set-size), buffer-in (c .work-size), item-3));
-    applying = λ sheet c. not-applied c 3 0 (rw (buffer-in (c .result-size), item-3));
-    classes = λ c. not-classed c 3 0 (rw (buffer-in (c .classes-size), item-3));
-    job = λ file t e c. not-run c 3 0 (omega arith) (rw (sized-in (c .lent) (c .sized), t, e, item-3));
-  }
 
 -- ---- the limit in conditions
 
@@ -170,7 +147,7 @@ forty-eight = record {
   targets-at = refl;
   rows-at = refl;
   site-length = refl;
-  old-site = λ site e. site-refused site (λ q. absurd (omega arith));
+  old-site = λ site e. site-refused site 3 (omega arith) (wrong-length site (λ q. absurd (omega arith)));
   node-accepted = λ n h. name-accepted n (omega arith);
   node-refused = λ n h. name-refused n (omega arith);
   edits-accepted = λ n p h. edits-accepted n p (omega arith);

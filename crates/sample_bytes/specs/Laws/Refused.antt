@@ -7,6 +7,8 @@ use lib.ListN.{length, replicate}
 use Rattle.verdict.specs.Verdict.{reasonOf, faultOf}
 use Rattle.verdict.specs.declared.Verdict.{Verdict}
 use Rattle.verdict.specs.declared.Verdict.the-variants.{Refused}
+use Rattle.site.specs.Refusal.{siteVerdict}
+use Rattle.refusals.specs.Laws.Items.{buffer-in}
 use Rattle.list_entry.specs.Refusal.{listVerdict}
 use Rattle.list_entry.specs.Listing.{SetAfter}
 use Rattle.apply_entry.specs.Refusal.{applyVerdict}
@@ -15,13 +17,15 @@ use Rattle.rewrite_entry.specs.Refusal.{rewriteVerdict}
 use Rattle.rewriting.specs.Rewriting.{TableAfter}
 use Rattle.classes_entry.specs.Refusal.{classesVerdict}
 use Rattle.classes_entry.specs.Classing.{ClassesAfter}
+use Rattle.job_run.specs.Refusal.{piecesVerdict}
 use Rattle.job_entry.specs.Refusal.{jobVerdict}
+use Rattle.job_entry.specs.Laws.Refusal.{sized-in}
 use Rattle.desk.specs.Returned.{Returned}
 use Rattle.demands.specs.Demand1.{Demand1Job}
 use Rattle.demands.specs.Demands.{ApplyCall, RewriteCall, ListCall, ClassCall}
 use Rattle.demands.specs.Job.{JobCall}
 use Rattle.demands.specs.Laws.Demand1.{demand-1}
-use Rattle.sample_bytes.specs.Refused.{RefusedWith, NoAnswer, NotApplied, NotRewritten, NotListed, NotClassed, NotRun}
+use Rattle.sample_bytes.specs.Refused.{RefusedWith, NoAnswer, NotApplied, NotRewritten, NotListed, NotClassed, NotRun, SiteRefused}
 
 refused-with : {due : Verdict} {After : Verdict → Type 0} {reason fault item w : ℕ} → due ≡ Refused item w → Returned due After reason fault
     → RefusedWith reason fault item w
@@ -61,3 +65,13 @@ not-run {file} call item w h v =
       zeros = demand-1 .job file (call .lent) (call .lent′) (call .reason) (call .fault) (call .after) (call .today) (call .nodes) (call .classes)
           (call .returned) .sent-back (λ e. absurd (omega (arith, r .reason-is)));
     }
+
+-- a site that meets an item, in each call that is given it
+pub site-refused : (site : List ℕ) (item : ℕ) → 0 < item → siteVerdict site ≡ Refused item 0 → SiteRefused site item
+unfolding listVerdict applyVerdict classesVerdict jobVerdict piecesVerdict
+site-refused site item h v = record {
+  listing = λ table c. not-listed c item 0 (rw (buffer-in (c .set-size), buffer-in (c .work-size), v));
+  applying = λ sheet c. not-applied c item 0 (rw (buffer-in (c .result-size), v));
+  classes = λ c. not-classed c item 0 (rw (buffer-in (c .classes-size), v));
+  job = λ file t e c. not-run c item 0 h (rw (sized-in (c .lent) (c .sized), t, e, v));
+}

@@ -11,7 +11,7 @@ use Rattle.finite.specs.Laws.Bools.{either, look, and-l, and-r}
 use Rattle.finite.specs.Laws.Below.{same-eq, below-out}
 use Rattle.limits.specs.Limits.{labels, names, links, tableNodes}
 use Rattle.samples.specs.Site.{each, Small, nameAt, model, siteA, ring, namesTogether, crowded}
-use Rattle.samples.specs.Rows.{Expected, lists, stuckAt, oddAt, Row, tableR, tableName, tableLoop, rows}
+use Rattle.samples.specs.Rows.{Expected, lists, stuckAt, oddAt, Row, tableR, tableName, tableLoop, tableLabel, tableSome, rows}
 use Rattle.samples.specs.Laws.Site.{some-each}
 use Rattle.condition.specs.Bytes as condition
 use Rattle.sheet.specs.Bytes as sheet
@@ -41,7 +41,7 @@ rowFits r =
     && ((below (length (r .table)) (suc tableNodes) && below (length (r .edits)) 65) && expectedFits (r .expected))
 
 pub rows-fit : each rowFits rows ≡ true
-unfolding each rowFits inRange bytes expectedFits below rows siteA ring namesTogether crowded tableR tableName tableLoop condition.bytesOf condition.nodeBytes sheet.bytesOf sheet.editBytes
+unfolding each rowFits inRange bytes expectedFits below rows siteA ring namesTogether crowded tableR tableName tableLoop tableLabel tableSome condition.bytesOf condition.nodeBytes sheet.bytesOf sheet.editBytes
 rows-fit = refl
 
 -- ---- what they say

@@ -199,7 +199,7 @@ module _ (M : Model) (v : Valid M) where
       present-same = presents-are (bytesOf M) (M .present) present-back (v .small);
       marked-same = marks-are (bytesOf M) (M .marked)
           (λ p s hp hs. set-has M (labelAt p) (M .marked p) (omega arith) (λ i hi. label-byte M p i hp hi) s hs)
-          (λ p s h. (few .labels-few p s h, v .small s (v .labelled p s h)));
+          (λ p s h. (few .labels-few p s h, v .small s (v .labelled p s h .0)));
       place-same = place-back;
       link-same = links-are (bytesOf M) (M .link)
           (λ m s t hm hs ht. set-has M (rowAt m s) (M .link m s) (omega arith) (λ i hi. row-byte M m s i hm hs hi) t ht)

@@ -41,7 +41,7 @@ linkHere a x = (onSite a (x .1) && onSite a (x .2)) && each (agree x) (a .links-
 unfoldable pub validSmall : Small → Bool
 validSmall a =
     (slotsHere a && namesHere a)
-    && (each (λ x. model a .present (x .1)) (a .labels-on) && each (linkHere a) (a .links-of))
+    && (each (λ x. onSite a (x .1)) (a .labels-on) && each (linkHere a) (a .links-of))
 
 module _ (a : Small) (ok : validSmall a ≡ true) where
   slots-ok : slotsHere a ≡ true
@@ -52,13 +52,13 @@ module _ (a : Small) (ok : validSmall a ≡ true) where
   unfolding validSmall
   names-ok = and-r (slotsHere a) _ (and-l _ _ ok)
 
-  labels-ok : each (λ x. model a .present (x .1)) (a .labels-on) ≡ true
+  labels-ok : each (λ x. onSite a (x .1)) (a .labels-on) ≡ true
   unfolding validSmall
   labels-ok = and-l _ _ (and-r (slotsHere a && namesHere a) _ ok)
 
   links-ok : each (linkHere a) (a .links-of) ≡ true
   unfolding validSmall
-  links-ok = and-r (each (λ x. model a .present (x .1)) (a .labels-on)) _ (and-r (slotsHere a && namesHere a) _ ok)
+  links-ok = and-r (each (λ x. onSite a (x .1)) (a .labels-on)) _ (and-r (slotsHere a && namesHere a) _ ok)
 
   named-in : (xs : List (ℕ × ℕ)) → each (λ x. model a .present (x .1)) xs ≡ true → (n : ℕ) → model a .present (nameAt xs n) ≡ true
   unfolding each nameAt slotsHere
@@ -105,7 +105,7 @@ module _ (a : Small) (ok : validSmall a ≡ true) where
     named = named-in (a .names-at) (and-r (same (nameAt (a .names-at) 0) 0) _ names-ok);
     labelled = λ p s h.
         let r = some-each _ _ (a .labels-on) h labels-ok in
-        subst (λ t. model a .present t ≡ true) (sym (same-eq (and-r (same p (r .0 .0)) _ (r .1)))) (r .2);
+        on-out s (r .0 .1) (same-eq (and-r (same p (r .0 .0)) _ (r .1))) (r .2);
     from = λ m s t h.
         let r = linked m s t (linkHere a) links-ok h in
         on-out s (r .0 .1) (r .2) (and-l _ _ (and-l _ _ (r .4)));

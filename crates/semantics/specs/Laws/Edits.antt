@@ -121,7 +121,7 @@ module _ (M : Model) (v : Valid M) where
     one = v .one;
   }
 
-  relabelled : (marked : ℕ → Set) → ((p s : ℕ) → marked p s ≡ true → M .present s ≡ true)
+  relabelled : (marked : ℕ → Set) → ((p s : ℕ) → marked p s ≡ true → (M .present s ≡ true) × (s ≢ 0))
       → Valid (record { present = M .present; marked = marked; place = M .place; link = M .link })
   relabelled marked h = record {
     small = v .small;
@@ -163,7 +163,12 @@ module _ (M : Model) (v : Valid M) where
       renamed _ (rw (ne-same {m = 0} {n = n1} (λ q. l .0 (sym q))) (v .nil-named))
       (λ n. either (look (same n n1)) (λ e. rw e (target-present f (M .place n2))) (λ e. rw e (v .named n)))
   valid-after (AP n p) l g =
-      relabelled _ (λ q s h. either (cond-comes _||_ or-out _ (same q p) _ h) (λ x. v .labelled q s x) (λ x. let e : s ≡ M .place n = same-eq (x .1) in rw e (v .named n)))
+      relabelled _ (λ q s h. either (cond-comes _||_ or-out _ (same q p) _ h)
+      (λ x. v .labelled q s x)
+      (λ x.
+      let at : s ≡ M .place n = same-eq (and-l _ _ (x .1)) in
+      let off = not-out (same s 0) (and-r (same s (M .place n)) _ (x .1)) in
+      (subst (λ z. M .present z ≡ true) (sym at) (v .named n), λ z. off (eq-same z))))
   valid-after (DP n p) l g = relabelled _ (λ q s h. v .labelled q s (cond-was _ (same q p) _ h))
   valid-after (AT m n1 n2) l g =
       relinked _
@@ -194,7 +199,7 @@ module _ (M : Model) (v : Valid M) where
     nil-present = or-l _ _ (v .nil-present);
     nil-named = rw (ne-same {m = 0} {n = n} (λ q. l .0 (sym q))) (v .nil-named);
     named = λ y. either (look (same y n)) (λ e. rw e (or-r (M .present j) _ (eq-same refl))) (λ e. rw e (or-l _ _ (v .named y)));
-    labelled = λ p s h. or-l _ _ (v .labelled p s h);
+    labelled = λ p s h. (or-l _ _ (v .labelled p s h .0), v .labelled p s h .1);
     from = λ m s t h. (or-l _ _ (v .from m s t h .0), v .from m s t h .1);
     to = λ m s t h. (or-l _ _ (v .to m s t h .0), v .to m s t h .1);
     one = v .one;
@@ -206,7 +211,7 @@ module _ (M : Model) (v : Valid M) where
         nil-present = nil;
         nil-named = either (look (same (M .place 0) (M .place n))) (λ e. rw e) (λ e. rw e (v .nil-named));
         named = λ y. either (look (same (M .place y) (M .place n))) (λ e. rw e nil) (λ e. rw e (and-in (v .named y) (ap not e)));
-        labelled = λ p s h. and-in (v .labelled p s (and-l _ _ h)) (and-r (M .marked p s) _ h);
+        labelled = λ p s h. let r = v .labelled p s (and-l _ _ h) in (and-in (r .0) (and-r (M .marked p s) _ h), r .1);
         from = λ m s t h.
             let r = v .from m s t (and-l _ _ h) in
             let off = not-out (same s (M .place n) || same t (M .place n)) (and-r (M .link m s t) _ h) in

@@ -252,6 +252,10 @@ nil-fits : below 0 names ≡ true
 unfolding below
 nil-fits = refl
 
+-- the block "nil" is at slot 0
+nil-iff : (M : Model) → Valid M → (s : ℕ) → (same s 0 ≡ true) ↔ (s ≡ M .place 0)
+nil-iff M v s = (λ p. same-eq p ∙ sym (v .nil-named), λ p. eq-same (p ∙ v .nil-named))
+
 leaf-right : (e : Edit) → Legal e → (ts : List Form) (k : Leaf) (p : ℕ) → leafFits k p ≡ true → BlockRight e ts (blockLeaf e k p) (atom k p)
 unfolding Legal Goes Holds edit blockLeaf fill atom one two makes blockFits leafFits unaryFits evenBlock even occ
 leaf-right e l ts kTrue p f = copied kTrue p f (λ M v g ρ s j. Iff·rfl)
@@ -268,7 +272,9 @@ leaf-right (CN1 n1 n2) l ts kLabel p f = copied kLabel p f (λ M v g ρ s j. Iff
 leaf-right (CN2 n1 n2 h) l ts kLabel p f = copied kLabel p f (λ M v g ρ s j. Iff·rfl)
 leaf-right (AP n q) l ts kLabel p f =
     either (look (same p q))
-    (λ c. rw c (is-right refl (λ _. refl) (λ b v. refl) (λ M v g ρ s j. rw c (or-iff _ _ Iff·rfl (same-iff s _))) (and-in f l)))
+    (λ c. rw c (is-right refl (λ _. refl) (λ b v. refl)
+    (λ M v g ρ s j. rw c (or-iff _ _ Iff·rfl (and-iff _ _ (same-iff s _) (not-iff _ (nil-iff M v s)))))
+    (and-in f (and-in l (no-fits nil-fits)))))
     (λ c. rw c (copied kLabel p f (λ M v g ρ s j. rw c Iff·rfl)))
 leaf-right (DP n q) l ts kLabel p f =
     either (look (same p q))

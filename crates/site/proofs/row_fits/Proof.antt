@@ -1,4 +1,4 @@
--- By cases: s is in `ends`, or it is not and its row has to be empty.
+-- By cases: s is in `onsite`, or it is not and its row has to be empty.
 use mathlib.Core.Path.{sym, _∙_}
 use borrow.Author.Needs.{needs}
 use Rattle.site.specs.Laws.Fits.{row-none}
@@ -21,7 +21,7 @@ part-inside-requires-2 : tie.Need-part-inside-requires-2
 part-inside-requires-2 c κs = search needs
 
 returns-2 : tie.Need-returns-2
-returns-2 c = c .part-inside2 .ensures ∙ row-none (c .before .before .before .before .before .before .args .site .now) (c .before .before .before .before .before .before .args .ends .now) (c .before .before .before .before .before .before .args .b) (c .before .before .before .before .before .before .args .s) (sym (c .before .before .before .member .ensures) ∙ c .before .before .if1 .left)
+returns-2 c = c .part-inside2 .ensures ∙ row-none (c .before .before .before .before .before .before .args .site .now) (c .before .before .before .before .before .before .args .onsite .now) (c .before .before .before .before .before .before .args .b) (c .before .before .before .before .before .before .args .s) (sym (c .before .before .before .member .ensures) ∙ c .before .before .if1 .left)
 
 pub row-fits-spec : {M : Type 1} → statement M
 row-fits-spec =

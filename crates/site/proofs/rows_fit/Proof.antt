@@ -13,10 +13,10 @@ use Rattle.site.proofs.rows_fit.Statement.{statement}
 use Rattle.site.proofs.rows_fit.Tie as tie
 
 abbrev Inv-loop : tie.InvT-loop
-Inv-loop site m ends s₀ s = (s ≤ setSlots) × (all s (λ k. rowInside site (rowAt m k) ends k) ≡ true)
+Inv-loop site m onsite s₀ s = (s ≤ setSlots) × (all s (λ k. rowInside site (rowAt m k) onsite k) ≡ true)
 
 abbrev μ-loop : tie.MeasureT-loop
-μ-loop site m ends s₀ s = setSlots - s
+μ-loop site m onsite s₀ s = setSlots - s
 
 loop-holds : tie.Need-loop-holds Inv-loop μ-loop
 loop-holds c = (omega arith, all-none _)

@@ -1,4 +1,4 @@
--- By the three tests: no target, s in `ends`, and t in `ends`.
+-- By the three tests: no target, s in `onsite`, and t in `onsite`.
 use mathlib.Core.Path.{sym, _∙_}
 use native.Mathlib.Omega.{arith}
 use borrow.Author.Tests.{not-true, not-false}

@@ -14,10 +14,10 @@ use Rattle.site.proofs.targets_fit.Statement.{statement}
 use Rattle.site.proofs.targets_fit.Tie as tie
 
 abbrev Inv-loop : tie.InvT-loop
-Inv-loop site f ends k₀ k = (setBytes * k ≤ setSlots) × (all (setBytes * k) (λ s. targetInside ends s (getD site (targetAt f s) 0)) ≡ true)
+Inv-loop site f onsite k₀ k = (setBytes * k ≤ setSlots) × (all (setBytes * k) (λ s. targetInside onsite s (getD site (targetAt f s) 0)) ≡ true)
 
 abbrev μ-loop : tie.MeasureT-loop
-μ-loop site f ends k₀ k = setSlots - k
+μ-loop site f onsite k₀ k = setSlots - k
 
 loop-holds : tie.Need-loop-holds Inv-loop μ-loop
 loop-holds c = (omega arith, all-none _)

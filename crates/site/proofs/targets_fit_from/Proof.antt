@@ -16,12 +16,12 @@ use Rattle.site.proofs.targets_fit_from.Statement.{statement}
 use Rattle.site.proofs.targets_fit_from.Tie as tie
 
 abbrev Inv-loop : tie.InvT-loop
-Inv-loop site f k ends b j₀ j =
+Inv-loop site f k onsite b j₀ j =
     (j ≤ setBytes)
-    × (all j (λ i. targetInside ends (setBytes * k + i) (getD site (targetAt f (setBytes * k + i)) 0)) ≡ true)
+    × (all j (λ i. targetInside onsite (setBytes * k + i) (getD site (targetAt f (setBytes * k + i)) 0)) ≡ true)
 
 abbrev μ-loop : tie.MeasureT-loop
-μ-loop site f k ends b j₀ j = setBytes - j
+μ-loop site f k onsite b j₀ j = setBytes - j
 
 sub-b : tie.Need-sub-b Inv-loop μ-loop
 sub-b c = omega arith
@@ -48,7 +48,7 @@ returns : tie.Need-returns Inv-loop μ-loop
 returns c =
     let known = c .before .before .before .before in
     let start = known .before in
-    sym (none-fit (start .args .site .now) (start .args .ends .now) (start .args .f) (start .args .k) _ (omega arith) (λ i. known .shared-slice-known .given i .fits) (sym (c .before .part-inside .ensures) ∙ c .if1 .taken))
+    sym (none-fit (start .args .site .now) (start .args .onsite .now) (start .args .f) (start .args .k) _ (omega arith) (λ i. known .shared-slice-known .given i .fits) (sym (c .before .part-inside .ensures) ∙ c .if1 .taken))
 
 loop-holds : tie.Need-loop-holds Inv-loop μ-loop
 loop-holds c = (omega arith, all-none _)
@@ -71,7 +71,7 @@ returns-2 c =
     let at = call .before .before in
     let start = at .before .before .before .before .before .before in
     let s = setBytes * start .args .k + at .loop .j in
-    sym (all-not setBytes _ (at .loop .j) (call .before .loop-test .taken) (ap (targetInside (start .args .ends .now) s) (sym (call .target .ensures .1 .0)) ∙ sym (c .before .target-fits .ensures) ∙ not-true _ (c .if2 .taken)))
+    sym (all-not setBytes _ (at .loop .j) (call .before .loop-test .taken) (ap (targetInside (start .args .onsite .now) s) (sym (call .target .ensures .1 .0)) ∙ sym (c .before .target-fits .ensures) ∙ not-true _ (c .if2 .taken)))
 
 add-j : tie.Need-add-j Inv-loop μ-loop
 add-j c = omega arith
@@ -85,7 +85,7 @@ loop-again c =
     let at = call .before .before in
     let start = at .before .before .before .before .before .before in
     let s = setBytes * start .args .k + at .loop .j in
-    (omega arith, all-more _ _ (at .loop .inv .1) (ap (targetInside (start .args .ends .now) s) (sym (call .target .ensures .1 .0)) ∙ sym (c .before .target-fits .ensures) ∙ not-false _ (c .if2 .left)))
+    (omega arith, all-more _ _ (at .loop .inv .1) (ap (targetInside (start .args .onsite .now) s) (sym (call .target .ensures .1 .0)) ∙ sym (c .before .target-fits .ensures) ∙ not-false _ (c .if2 .left)))
 
 returns-3 : tie.Need-returns-3 Inv-loop μ-loop
 returns-3 c = sym (all-done setBytes _ _ (c .before .loop .inv .1) (omega arith) (omega arith))

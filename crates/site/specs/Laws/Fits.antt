@@ -45,25 +45,15 @@ names-present M p e =
 -- ---- item 5
 
 -- the present slots are the first set
-pub has-first : (S : List ℕ) (s : ℕ) → s < slots → has (take setBytes S) s ≡ siteOf S .present s
+has-first : (S : List ℕ) (s : ℕ) → s < slots → has (take setBytes S) s ≡ siteOf S .present s
 unfolding slots
 has-first S s h = has-part S 0 setBytes s h ∙ ap (has S) (zero-add s) ∙ sym (present-is S s h)
 
-pub labels-inside : (S : List ℕ) → all labels (λ p. inside S (labelAt p) (take setBytes S)) ≡ not (item5 (siteOf S))
-unfolding item5 slots
-labels-inside S = sym (none-all labels _ ∙ all-cong labels _ _ (λ p hp. none-all slots _ ∙ all-cong slots _ _ (λ s hs. point p s hp hs)))
-  where
-    point : (p s : ℕ) → p < labels → s < slots
-        → not (siteOf S .marked p s && not (siteOf S .present s)) ≡ (not (has S (labelAt p * 8 + s)) || has (take setBytes S) s)
-    point p s hp hs = rw (has-first S s hs, ← (marked-is S p s hp hs)) (sym (imp-and (siteOf S .marked p s) (siteOf S .present s)))
-
--- ---- item 6
-
--- the slots that a link may touch
-pub ends-are : (S X Y : List ℕ) → length X ≡ setBytes → Is X (λ s. has (replicate setBytes 0) s || has (take setBytes S) s) → Y ≡ removed X 0
+-- the slots that labels and links may be at
+pub onsite-are : (S X Y : List ℕ) → length X ≡ setBytes → Is X (λ s. has (replicate setBytes 0) s || has (take setBytes S) s) → Y ≡ removed X 0
     → Is Y (λ s. not (barred (siteOf S) s))
 unfolding barred slots
-ends-are S X Y l h e s hs =
+onsite-are S X Y l h e s hs =
     rw (e, has-removed X 0 s (omega arith), h s hs, has-empty s hs, has-first S s hs) (swap (siteOf S .present s) (same s 0))
   where
     swap : (a b : Bool) → (a && not b) ≡ not (b || not a)
@@ -71,6 +61,19 @@ ends-are S X Y l h e s hs =
     swap true false = refl
     swap false true = refl
     swap false false = refl
+
+pub labels-inside : (S E : List ℕ) → Is E (λ s. not (barred (siteOf S) s)) → all labels (λ p. inside S (labelAt p) E) ≡ not (item5 (siteOf S))
+unfolding item5 slots
+labels-inside S E i = sym (none-all labels _ ∙ all-cong labels _ _ (λ p hp. none-all slots _ ∙ all-cong slots _ _ (λ s hs. point p s hp hs)))
+  where
+    point : (p s : ℕ) → p < labels → s < slots
+        → not (siteOf S .marked p s && barred (siteOf S) s) ≡ (not (has S (labelAt p * 8 + s)) || has E s)
+    point p s hp hs =
+        let b : Bool = barred (siteOf S) s in
+        rw (i s hs, ← (marked-is S p s hp hs))
+        (ap (λ x. not (siteOf S .marked p s && x)) (sym (Bool·not-not b)) ∙ sym (imp-and (siteOf S .marked p s) (not b)))
+
+-- ---- item 6
 
 pub part-inside : (S A : List ℕ) (b k : ℕ) → k ≡ setBytes → all setSlots (λ t. not (has (take k (drop b S)) t) || has A t) ≡ inside S b A
 part-inside S A b k e = all-cong setSlots _ _ (λ t h. rw (e, has-part S b setBytes t h))

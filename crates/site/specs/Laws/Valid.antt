@@ -9,8 +9,8 @@ use native.Mathlib.Decide.{decLt}
 use lib.ListN.{length, getD}
 use borrow.Author.Tests.{not-false}
 use Rattle.finite.specs.Tests.{same, any}
-use Rattle.finite.specs.Laws.Bools.{clash, no-true, and-l, and-r, or-none}
-use Rattle.finite.specs.Laws.Below.{same-eq, eq-same, ne-same, any-none, none-any}
+use Rattle.finite.specs.Laws.Bools.{clash, no-true, and-in, and-l, and-r, or-l, or-none}
+use Rattle.finite.specs.Laws.Below.{same-eq, eq-same, ne-same, same-refl, any-in, any-none, none-any}
 use Rattle.limits.specs.Limits.{slots, labels, names, links}
 use Rattle.semantics.specs.Holds.{Model}
 use Rattle.semantics.specs.Edit.{functional, Valid}
@@ -52,6 +52,15 @@ pub accepted-in : (S : List ℕ) → length S ≡ siteBytes → Passes (siteOf S
 unfolding siteVerdict
 accepted-in S l h = rw (eq-same l, h .names-pass, h .labels-pass, h .links-pass)
 
+-- a label on slot 0 meets item 5
+pub nil-labelled : (S : List ℕ) → length S ≡ siteBytes → item4 (siteOf S) ≡ false → (p : ℕ) → siteOf S .marked p 0 ≡ true → siteVerdict S ≡ Refused 5 0
+unfolding siteVerdict item5 barred slots
+nil-labelled S l h p m =
+    let on : any slots (λ s. siteOf S .marked p s && barred (siteOf S) s) ≡ true =
+    any-in slots _ 0 (omega arith) (and-in m (or-l (same 0 0) _ (same-refl 0))) in
+    let met : item5 (siteOf S) ≡ true = any-in labels _ p (marked-in S p 0 m .0) on in
+    rw (eq-same l, h, met)
+
 -- ---- a valid site meets none of the items
 
 barred-not : (M : Model) (s : ℕ) → M .present s ≡ true → s ≢ 0 → barred M s ≡ false
@@ -67,8 +76,9 @@ module _ (M : Model) (v : Valid M) where
   valid-labels : item5 M ≡ false
   unfolding item5
   valid-labels =
-      none-any labels _ (λ p hp. none-any slots (λ s. M .marked p s && not (M .present s)) (λ s hs. no-true (λ e.
-      clash (and-r (M .marked p s) _ e) (ap not (v .labelled p s (and-l (M .marked p s) _ e))))))
+      none-any labels _ (λ p hp. none-any slots (λ s. M .marked p s && barred M s) (λ s hs. no-true (λ e.
+      let r = v .labelled p s (and-l (M .marked p s) _ e) in
+      clash (and-r (M .marked p s) _ e) (barred-not M s (r .0) (r .1)))))
 
   valid-links : item6 M ≡ false
   unfolding item6 touches
@@ -114,11 +124,11 @@ module _ (S : List ℕ) (h : Passes (siteOf S)) where
       go (yes l) = not-false _ (any-none names (λ n. not (M .present (M .place n))) (nil .1 .1) n l)
       go (no l) = rw (place-out S n (omega arith)) (nil .0)
 
-  label-at : (p s : ℕ) → M .marked p s ≡ true → M .present s ≡ true
+  label-at : (p s : ℕ) → M .marked p s ≡ true → (M .present s ≡ true) × (s ≢ 0)
   unfolding item5
   label-at p s e =
       let r = marked-in S p s e in
-      not-false _ (and-none (M .marked p s) _ (any-none slots (λ s. M .marked p s && not (M .present s)) (any-none labels _ (h .labels-pass) p (r .0)) s (r .1)) e)
+      barred-none M s (and-none (M .marked p s) _ (any-none slots (λ s. M .marked p s && barred M s) (any-none labels _ (h .labels-pass) p (r .0)) s (r .1)) e)
 
   ends : (m s t : ℕ) → M .link m s t ≡ true → (barred M s ≡ false) × (barred M t ≡ false)
   unfolding item6 touches

@@ -20,7 +20,7 @@ none-below : (q : ℕ) → below q 0 ≡ false
 none-below q = below-not q 0 (omega arith)
 
 -- models that differ in the labels, names or links alone
-marked-only : {M N : Model} → M .present ≡ N .present → M .place ≡ N .place → M .link ≡ N .link → ((p s : ℕ) → M .marked p s ≡ N .marked p s) → M ≡ N
+pub marked-only : {M N : Model} → M .present ≡ N .present → M .place ≡ N .place → M .link ≡ N .link → ((p s : ℕ) → M .marked p s ≡ N .marked p s) → M ≡ N
 marked-only a b c h = same-fields (record { present-same = λ s. ap (λ f. f s) a; marked-same = h; place-same = λ n. ap (λ f. f n) b; link-same = λ m s t. ap (λ f. f m s t) c })
 
 place-only : {M N : Model} → M .present ≡ N .present → M .marked ≡ N .marked → M .link ≡ N .link → ((n : ℕ) → M .place n ≡ N .place n) → M ≡ N

@@ -1,9 +1,16 @@
 -- The edits, row by row: each as changes at slots.
-use mathlib.Core.Path.{_≡_, _∙_, ap, ap₂}
+use mathlib.Core.Path.{_≡_, refl, sym, _∙_, ap, ap₂}
+use mathlib.Core.Logic.{_≢_}
+use mathlib.Core.Bool.{Bool, false, not, _&&_, _||_, cond, or-false}
 use Prim.Native.Nat.{ℕ}
+use Rattle.finite.specs.Tests.{same}
+use Rattle.finite.specs.Laws.Bools.{either, look}
+use Rattle.finite.specs.Laws.Below.{same-eq, ne-same}
 use Rattle.semantics.specs.Holds.{Model}
 use Rattle.semantics.specs.Edit.{CN1, CN2, AP, DP, AT, DT1, DT2, AS, DS, target, edit}
 use Rattle.site_changes.specs.Change.{withName, withSlot, withoutSlot, withLabel, withoutLabel, withLink, withoutLink, withoutTarget, withoutLabels, withoutNames, withoutLinks}
+use Rattle.site_changes.specs.Laws.Cases.{cond-same}
+use Rattle.site_changes.specs.Laws.Loops.{marked-only}
 
 -- an edit is its changes, at the places that its names have before it
 module _ (M : Model) {M′ : Model} where
@@ -15,9 +22,28 @@ module _ (M : Model) {M′ : Model} where
   unfolding edit withName
   row-CN2 n1 n2 f e g h = h ∙ ap (λ (z : ℕ). withName M n1 z) (g ∙ ap (target M f) e)
 
-  pub row-AP : (n p : ℕ) {x : ℕ} → x ≡ M .place n → M′ ≡ withLabel M p x → M′ ≡ edit (AP n p) M
+  pub row-AP : (n p : ℕ) {x : ℕ} → x ≡ M .place n → x ≢ 0 → M′ ≡ withLabel M p x → M′ ≡ edit (AP n p) M
   unfolding edit withLabel
-  row-AP n p e h = h ∙ ap (λ (z : ℕ). withLabel M p z) e
+  row-AP n p {x} e off h =
+      h ∙ marked-only refl refl refl (λ q s. ap (λ (b : Bool). cond (same q p) (M .marked q s || b) (M .marked q s)) (here s))
+    where
+      here : (s : ℕ) → same s x ≡ (same s (M .place n) && not (same s 0))
+      here s =
+          ap (same s) e
+          ∙ either (look (same s (M .place n)))
+          (λ a. rw (a, ne-same (λ z. off (e ∙ sym (same-eq a) ∙ z))))
+          (λ a. rw a)
+
+  pub row-AP-nil : (n p : ℕ) {x : ℕ} → x ≡ M .place n → x ≡ 0 → M′ ≡ M → M′ ≡ edit (AP n p) M
+  unfolding edit
+  row-AP-nil n p e nil h =
+      h ∙ marked-only refl refl refl (λ q s. sym
+      (ap (λ (b : Bool). cond (same q p) (M .marked q s || b) (M .marked q s)) (nowhere s)
+      ∙ ap (λ (b : Bool). cond (same q p) b (M .marked q s)) (or-false (M .marked q s))
+      ∙ cond-same (same q p) (M .marked q s)))
+    where
+      nowhere : (s : ℕ) → (same s (M .place n) && not (same s 0)) ≡ false
+      nowhere s = rw (sym e ∙ nil) (either (look (same s 0)) (λ a. rw a) (λ a. rw a))
 
   pub row-DP : (n p : ℕ) {x : ℕ} → x ≡ M .place n → M′ ≡ withoutLabel M p x → M′ ≡ edit (DP n p) M
   unfolding edit withoutLabel

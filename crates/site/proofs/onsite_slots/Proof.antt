@@ -1,8 +1,8 @@
 -- The empty set, with the present slots put in and slot 0 taken out.
 use borrow.Author.Needs.{needs}
-use Rattle.site.specs.Laws.Fits.{ends-are}
-use Rattle.site.proofs.link_ends.Statement.{statement}
-use Rattle.site.proofs.link_ends.Tie as tie
+use Rattle.site.specs.Laws.Fits.{onsite-are}
+use Rattle.site.proofs.onsite_slots.Statement.{statement}
+use Rattle.site.proofs.onsite_slots.Tie as tie
 
 slice-aggregate-union-with : tie.Need-slice-aggregate-union-with
 slice-aggregate-union-with c = search needs
@@ -26,10 +26,10 @@ remove-requires : tie.Need-remove-requires
 remove-requires c κs = search needs
 
 returns : tie.Need-returns
-returns c = ends-are (c .before .before .before .before .before .before .before .before .args .site .now) (c .before .before .before .before .union-with .last .0) _ (c .before .before .before .before .union-with .kept .0) (c .before .before .before .before .union-with .ensures) (c .before .remove .ensures)
+returns c = onsite-are (c .before .before .before .before .before .before .before .before .args .site .now) (c .before .before .before .before .union-with .last .0) _ (c .before .before .before .before .union-with .kept .0) (c .before .before .before .before .union-with .ensures) (c .before .remove .ensures)
 
-pub link-ends-spec : {M : Type 1} → statement M
-link-ends-spec =
+pub onsite-slots-spec : {M : Type 1} → statement M
+onsite-slots-spec =
     tie.close
     (tie.spec
     slice-aggregate-union-with
