@@ -199,12 +199,12 @@ impl<'a> Site<'a> {
         if !present.has(0) || site.name(0) != 0 || !(0..NAMES).all(|n| present.has(site.name(n))) {
             item(4)?;
         }
-        if !(0..LABELS).all(|p| site.label(p).inside(present)) {
+        let on_site = present & !Set::only(0);
+        if !(0..LABELS).all(|p| site.label(p).inside(on_site)) {
             item(5)?;
         }
-        let ends = present & !Set::only(0);
-        let row_fits = |m, s| site.row(m, s).inside(if ends.has(s) { ends } else { Set::NONE });
-        let target_fits = |s, t: usize| t == 0 || ends.has(s) && ends.has(t);
+        let row_fits = |m, s| site.row(m, s).inside(if on_site.has(s) { on_site } else { Set::NONE });
+        let target_fits = |s, t: usize| t == 0 || on_site.has(s) && on_site.has(t);
         let general = (0..GENERAL).all(|m| (0..SLOTS).all(|s| row_fits(m, s)));
         let functional = (GENERAL..LINKS).all(|f| site.targets(f).iter().enumerate().all(|(s, &t)| target_fits(s, t as usize)));
         if !general || !functional {
@@ -454,7 +454,9 @@ fn apply_edit(site: &mut [u8], edit: Edit) -> bool {
         Edit::Cn2(n1, n2, f) => site[name(n1)] = site[target(f, at(site, n2))],
         Edit::Ap(n, p) => {
             let s = at(site, n);
-            site[label(p, s)] |= bit(s);
+            if s != 0 {
+                site[label(p, s)] |= bit(s);
+            }
         }
         Edit::Dp(n, p) => {
             let s = at(site, n);
@@ -599,6 +601,14 @@ impl Table {
         self.and(old, other)
     }
 
+    /// `p n nil ! & |`
+    fn marked(&mut self, p: u8, n: u8) -> u16 {
+        let label = self.push(2, p, 0, 0);
+        let n = self.name(n);
+        let on_site = self.except(n, 0);
+        self.or(label, on_site)
+    }
+
     fn moved_name(&mut self, n2: u8, f: u8) -> u16 {
         let from = self.name(n2);
         let reached = self.diamond(f + LINKS as u8, from);
@@ -637,11 +647,7 @@ impl Table {
                 let here = self.push(1, 0, 0, 0);
                 self.except(here, n)
             }
-            (2, Edit::Ap(n, q)) if p == q => {
-                let label = self.push(2, p, 0, 0);
-                let n = self.name(n);
-                self.or(label, n)
-            }
+            (2, Edit::Ap(n, q)) if p == q => self.marked(p, n),
             (2, Edit::Dp(n, q)) if p == q => {
                 let label = self.push(2, p, 0, 0);
                 self.except(label, n)

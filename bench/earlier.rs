@@ -1,7 +1,8 @@
 //! The earlier build that bench/beside times may have sites of 16 names. It then gets and gives sites without the bytes of the other names.
+//! Its AP may make three nodes of a label, and not six. Rewriting through AP is then timed without it.
 
-use crate::desk::{NAMES, NAMES_AT, SITE, SLOTS, TARGETS_AT};
-use crate::{library, Buffers, Call};
+use crate::desk::{NAMES, NAMES_AT, SITE, SLOTS, TABLE, TARGETS_AT};
+use crate::{library, Buffers, Call, Desk};
 use std::sync::OnceLock;
 
 const OLD_NAMES: usize = 16;
@@ -13,6 +14,16 @@ pub fn names() -> usize {
     *ASKED.get_or_init(|| {
         let refused = (library::BEFORE.classes)(&[0; SITE], &mut [0; SLOTS]);
         if refused.reason == 3 { OLD_NAMES } else { NAMES }
+    })
+}
+
+/// Whether its AP makes as many nodes of a label as the present one's; it is asked once.
+pub fn same_labels() -> bool {
+    static ASKED: OnceLock<bool> = OnceLock::new();
+    *ASKED.get_or_init(|| {
+        let (label, ap) = ([2, 0, 0, 0, 0, 0], [2, 1, 0, 0]);
+        let nodes = |desk: &Desk| (desk.rewrite)(&label, &ap, &mut [0; TABLE]).nodes;
+        nodes(&library::BEFORE) == nodes(&library::NOW)
     })
 }
 

@@ -228,9 +228,9 @@ fn other_name(k: usize) -> u8 {
     1 + (k % (names() - 1)) as u8
 }
 
-/// AP: name 1 gains label 0, again and again.
-pub fn labels(n: usize) -> Vec<u8> {
-    [2, 1, 0, 0].repeat(n)
+/// AP: name 1 gains the label, again and again.
+pub fn labels(n: usize, label: u8) -> Vec<u8> {
+    [2, 1, label, 0].repeat(n)
 }
 
 /// DT1: link 0 from name 1 to names 1, 2, ..

@@ -6,7 +6,7 @@
 //! With `--cfg before` an earlier build of the library is timed too (bench/beside). A line then gives the times of the earlier build, of the
 //! present one and of the Rust, the ratio of present to earlier, in how many samples the present was slower, and the ratio to the Rust. With
 //! `--cfg before_through` the earlier build has `through` too; without it those lines are of the present library and the Rust. So are lines
-//! with names that the earlier build does not have.
+//! with names that the earlier build does not have, and those of labels that its AP rewrites to other nodes.
 //!
 //! The part `sets` has tables of its own kind (sets.rs).
 
@@ -295,6 +295,11 @@ fn all_names() -> bool {
     cfg!(before) && earlier::names() == NAMES
 }
 
+/// Whether there is an earlier build, whose AP makes the same nodes of a label.
+fn same_labels() -> bool {
+    cfg!(before) && earlier::same_labels()
+}
+
 fn listing() {
     let (sparse, dense) = (inputs::random(SLOTS, 2), inputs::full(SLOTS));
     title("Listing: nodes, on a sparse and on a dense site");
@@ -340,8 +345,7 @@ fn rewriting() {
     for n in [64, 128, 256, 512, 1024, NODES - 1] {
         measure("no edit", Call::Rewrite(inputs::mixed(n, E + 1), Vec::new()));
         if n < 1500 {
-            measure("AP, one label", Call::Rewrite(inputs::mixed(n, E + 1), inputs::labels(1)));
-            measure("AP 64 times, one label", Call::Rewrite(inputs::mixed(n, E + 1), inputs::labels(64)));
+            measure("AP 64 times, another label", Call::Rewrite(inputs::mixed(n, E + 1), inputs::labels(64, 1)));
             measure("DT1 of link 0, one way in 17", Call::Rewrite(inputs::mixed(n, E + 1), inputs::cuts(1)));
         }
         if n < 600 {
@@ -349,11 +353,18 @@ fn rewriting() {
         }
     }
     title("Rewriting: edits, 64 nodes");
-    for k in [1, 4, 16, 64] {
-        measure("AP, one label", Call::Rewrite(inputs::mixed(64, E + 1), inputs::labels(k)));
-    }
     for k in [1, 2, 3, 4] {
         measure("DT1 of link 0, one way in 17", Call::Rewrite(inputs::mixed(64, E + 1), inputs::cuts(k)));
+    }
+    let measure = |what, n, edits| measure_of(what, Call::Rewrite(inputs::mixed(n, E + 1), inputs::labels(edits, 0)), same_labels());
+    title_of("Rewriting: nodes, AP", same_labels());
+    for n in [64, 128, 256, 512, 1024] {
+        measure("AP, one label", n, 1);
+        measure("AP 64 times, one label", n, 64);
+    }
+    title_of("Rewriting: edits, AP, 64 nodes", same_labels());
+    for k in [1, 4, 16, 64] {
+        measure("AP, one label", 64, k);
     }
 }
 
@@ -400,14 +411,19 @@ fn classing() {
 }
 
 fn jobs() {
-    title("Jobs");
     let sites = [("16 slots", inputs::random(16, 2)), ("sparse", inputs::random(SLOTS, 2)), ("dense", inputs::full(SLOTS))];
-    for (what, site) in sites {
+    title("Jobs");
+    for (what, site) in &sites {
         let job = |cond, sheet| Call::job(site.clone(), cond, sheet);
         measure(&format!("R, DT1; {what}"), job(inputs::reach(4), inputs::cuts(1)));
-        measure(&format!("R, 16 edits; {what}"), job(inputs::reach(4), inputs::small_edits(16)));
         measure(&format!("512 nodes, DS; {what}"), job(inputs::mixed(512, E), inputs::slots_gone(1)));
-        measure(&format!("1,024 nodes, 64 AP; {what}"), job(inputs::mixed(1024, E + 1), inputs::labels(64)));
+        measure(&format!("1,024 nodes, 64 AP, another label; {what}"), job(inputs::mixed(1024, E + 1), inputs::labels(64, 1)));
+    }
+    title_of("Jobs: AP, of a label that the condition has", same_labels());
+    for (what, site) in &sites {
+        let measure = |name, cond, sheet| measure_of(&format!("{name}; {what}"), Call::job(site.clone(), cond, sheet), same_labels());
+        measure("R, 16 edits", inputs::reach(4), inputs::small_edits(16));
+        measure("1,024 nodes, 64 AP", inputs::mixed(1024, E + 1), inputs::labels(64, 0));
     }
 }
 

@@ -65,12 +65,12 @@ pub fn show() {
         ("listing, one node", Call::List(dense.clone(), inputs::shared(1))),
         ("applying, 64 edits", Call::Apply(dense.clone(), inputs::slots_gone(64))),
         ("rewriting, to 1,792 nodes", Call::Rewrite(mixed.clone(), sheet.clone())),
-        ("rewriting, a line of 2,048 nodes", Call::Rewrite(inputs::line(NODES), inputs::labels(0))),
+        ("rewriting, a line of 2,048 nodes", Call::Rewrite(inputs::line(NODES), Vec::new())),
         ("going through, 31 AT, to 2,036 nodes", Call::Through(inputs::links(31, GENERAL))),
         ("going through, 42 AS, to 1,975 nodes", Call::Through(inputs::slots_added(42))),
         ("going through, a path of 249 nodes", Call::Through(inputs::long_paths())),
         ("classes", Call::Classes(dense.clone())),
-        ("the job, 2,047 nested loops", Call::job(dense, loops, inputs::labels(0))),
+        ("the job, 2,047 nested loops", Call::job(dense, loops, Vec::new())),
     ] {
         println!("{what:40} {:>9}", used(Some(&call)) - base);
     }

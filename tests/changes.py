@@ -67,7 +67,7 @@ def change(site, edit):
         new.names[x] = at[y]
     elif op == 1:
         new.names[x] = site.target(z, at[y])
-    elif op == 2:
+    elif op == 2 and at[x] != 0:
         new.labels.add((y, at[x]))
     elif op == 3:
         new.labels.discard((y, at[x]))
@@ -111,7 +111,7 @@ def leaf_text(edit, kind, param):
     if op == 1 and kind == 3 and param == x:
         return "n2 <f-> nil n2 t <f> & <E> ! & |", {"n2": y, "f": z, "f-": z + LINKS}
     if op in (2, 3) and kind == 2 and param == y:
-        return "p n |" if op == 2 else "p n ! &", {"p": y, "n": x}
+        return "p n nil ! & |" if op == 2 else "p n ! &", {"p": y, "n": x}
     if op == 7 and kind == 3 and param == x:
         return "k", {"k": y}
     if op == 7 and kind == 1:
@@ -372,7 +372,6 @@ def dense_site():
         for p in range(LABELS):
             if (s + p) % 3:
                 pieces.put(site, label_at(p), s)
-    pieces.put(site, LABELS_AT, 0)
     site[NAMES_AT + 3], site[NAMES_AT + NAMES - 1] = 2, 3
     return site
 
@@ -394,6 +393,7 @@ def order():
     absent, labelled, full = bytearray(A), bytearray(A), pieces.full_table(2)
     absent[0] = 14
     pieces.put(labelled, label_at(1), 9)
+    at_nil = pieces.labelled_nil(1)
     yield A[:-1], R[:-1], sheet((9,))
     yield A, R[:-1], sheet((9,))
     yield absent, R, sheet(DT2)
@@ -413,6 +413,12 @@ def order():
     yield A[:-1], R, sheet(DT2)
     yield labelled, R, sheet(DT2)
     yield pieces.old_site(A), R, sheet(DT2)
+    # a label on slot 0, which no edit takes away in time
+    yield at_nil, R, sheet(DT2)
+    yield at_nil, R, sheet((3, 0, 1))
+    yield at_nil, R, sheet((9,))
+    yield at_nil, R[:-1], sheet((8, 0))
+    yield pieces.old_site(at_nil), R, sheet(DT2)
 
 
 def going():
@@ -544,11 +550,126 @@ def many_names():
         yield A, R, sheet(DT2, pieces.with_operand(op, at, NAMES))
 
 
+# ---- cases with labels and names at nil
+
+MARK = (2, 1, 7)  # of site A, where no slot has label 7
+
+
+def some(p):
+    """Some slot has the label."""
+    return pieces.table((2, p, 0, 0), (8, EVERYWHERE, 0, 0))
+
+
+def label_conditions(p):
+    """Conditions that would list another set if slot 0 had the label: it, its not, some slot has it, none has it, slot 0 has it, and loops."""
+    label, x = (2, p, 0, 0), (4, 0, 0, 0)
+    yield pieces.table(label)
+    yield pieces.table(label, (5, 0, 0, 0))
+    yield some(p)
+    yield pieces.table(label, (5, 0, 0, 0), (9, EVERYWHERE, 1, 0))
+    yield pieces.table(label, (3, 0, 0, 0), (7, 0, 0, 1))
+    yield pieces.table(label, x, (8, EVERYWHERE, 1, 0), (3, 1, 0, 0), (7, 0, 2, 3), (6, 0, 0, 4), (10, 0, 5, 0))
+    yield pieces.table(label, (5, 0, 0, 0), x, (9, EVERYWHERE, 2, 0), (7, 0, 1, 3), (11, 0, 4, 0))
+
+
+def to_nil():
+    """How name 1 of site A comes to nil: to name 0, to a name that is there, as a target where there is none, and when its slot goes, by this name
+    or by another."""
+    yield [(0, 1, 0)]
+    yield [(0, 1, 3)]
+    yield [(1, 1, 2, 5)]
+    yield [(1, 1, 3, 4)]
+    yield [(1, 1, 1, 4)] * 2
+    yield [(8, 1)]
+    yield [(0, 3, 1), (8, 3)]
+
+
+def gone_and_back():
+    """AP with a name that has come to nil; DP before it and behind it; and with the name back, or nearly so: its new target may be gone."""
+    label = pieces.table((2, MARK[2], 0, 0))
+    for condition in label_conditions(MARK[2]):
+        yield condition, [(0, 1, 0), MARK]
+        yield condition, [(8, 1), MARK]
+    for edits in to_nil():
+        yield some(MARK[2]), [*edits, MARK]
+        yield pieces.table((2, 0, 0, 0)), [*edits, (2, 1, 0)]
+        yield label, [*edits, MARK, (3, *MARK[1:])]
+        yield label, [*edits, (3, *MARK[1:]), MARK]
+        for back in (0, 1, 2), (1, 1, 2, 4), (7, 1, 9):
+            yield label, [*edits, MARK, back]
+            yield label, [*edits, MARK, back, MARK]
+
+
+def long_marks():
+    """As many AP as a sheet has: one with a name at nil and the others not, the other way round, all at nil; and a name that comes and goes."""
+    on_site, at_nil, label = (2, 2, 7), (2, 3, 7), pieces.table((2, 7, 0, 0))
+    for most, one in (on_site, at_nil), (at_nil, on_site):
+        for at in (0, EDITS // 2, EDITS - 1):
+            yield label, [one if k == at else most for k in range(EDITS)]
+    yield some(7), [at_nil] * EDITS
+    yield pieces.joined(6, ((2, 7, 0, 0), (2, 8, 0, 0))), [(0, 1, 0), MARK, (0, 1, 2), (2, 1, 8)] * (EDITS // 4)
+
+
+def long_ways():
+    """The longest sheets in which name 1 comes to nil, in each way: many AP there, and as many once it is back on site."""
+    for edits in to_nil():
+        start = [*edits, *[MARK] * 30, (7, 1, 9)]
+        yield some(MARK[2]), start + [MARK] * (EDITS - len(start))
+
+
+def every_mark():
+    """Each label, with names that have never left nil; each name, at nil or not; and a label that every slot but 0 has."""
+    for n in (0, 3, HIGH[0], NAMES - 1):
+        yield A, LABELS_JOINED, [(2, n, p) for p in range(LABELS)]
+    for p in range(LABELS):
+        yield A, some(p), [(2, NAMES - 1, p)]
+    for site in (A, pieces.spread_site(), pieces.crowded_site()):
+        yield site, LABELS_JOINED, [(2, n, n % LABELS) for n in range(NAMES)]
+    for p in (0, LABELS - 1):
+        for condition in label_conditions(p):
+            yield pieces.labelled_site(p, *range(1, SLOTS)), condition, [(2, 3, p)]
+
+
+def full_marks():
+    """AP makes six nodes of its label: tables that come to 2,048 nodes, and to one more. CN2 makes eleven nodes of the name in the block. Another
+    label is copied."""
+    ap = (2, 1, 0)
+    for make, edits, more in (
+        (pieces.label_last, [ap], 5), (pieces.label_first, [ap] * 2, 10), (pieces.label_last, [(2, 3, 0)] * EDITS, 5 * EDITS),
+        (pieces.label_first, [(1, 1, 2, 4), ap], 15),
+    ):
+        yield make(0, NODES - more + 1), edits
+        yield make(0, NODES - more), edits
+    yield pieces.label_first(1, NODES), [ap] * EDITS
+
+
+def labels_and_nil():
+    """What a planner tried: name 1 goes to nil and gets a label there, and no slot has it; without going, one has. Then all of the above, and edits
+    that rewrite AP's block."""
+    yield A, some(7), sheet((0, 1, 0), MARK)
+    yield A, some(7), sheet(MARK)
+    # of full tables the first alone: what is printed is limited, and jobs.py has them all
+    for condition, edits in (*gone_and_back(), *long_marks(), *list(full_marks())[:2]):
+        yield A, condition, sheet(*edits)
+    for site, condition, edits in every_mark():
+        yield site, condition, sheet(*edits)
+    for edit in ((0, 1, 2), (1, 1, 2, 4), (2, 2, 7), (3, 1, 7), (7, 1, 4), (8, 1), (8, 2), (8, 0)):
+        yield A, some(7), sheet(edit, MARK)
+
+
+def random_marks(rng):
+    """Names that come and go, and the labels that they get."""
+    for _ in range(40):
+        site, conditions = lists.random_site(rng, rng.choice((0, 30))), list(label_conditions(rng.randrange(1, 4)))
+        yield site, rng.choice(conditions), random_sheet(rng, site, rng.choice((2, 4, 8, 16)), (0, 1, 2, 2, 2, 2, 3, 7, 8))
+
+
 def cases(rng):
     yield from by_hand()
     for edits in (*going(), *long_going()):
         yield A, named(1), sheet(*edits)
     yield from many_names()
+    yield from labels_and_nil()
     site, condition = dense_site(), every_kind()
     for edit in every_edit():
         yield site, condition, sheet(edit)
@@ -562,6 +683,7 @@ def cases(rng):
     for _ in range(60):
         site = lists.random_site(rng, rng.choice((0, 30, 120)))
         yield site, named(1), random_sheet(rng, site, rng.choice((1, 2, 3, 4, 6)), (0, 1, 4, 4, 4, 5, 6, 7, 8), 0.1)
+    yield from random_marks(rng)
 
 
 def main():

@@ -109,8 +109,10 @@ static void check_numbers(const char *function, const void *one, const void *oth
 
 enum { LIST, APPLY, REWRITE, CLASSES, JOB, THROUGH, ENTRIES };
 enum { BUFFERS = 12 };
-enum { AT_NIL, ALONE, SHARED, PLACES }; /* where a name is: at nil, at a slot of its own, with other names */
-enum { HIGH = LABELS };                 /* the first name whose number no label has, nor a variable: there are as many */
+enum { AT_NIL, ALONE, SHARED, PLACES };    /* where a name is: at nil, at a slot of its own, with other names */
+enum { HIGH = LABELS };                    /* the first name whose number no label has, nor a variable: there are as many */
+enum { MARKED, UNMARKED, ASKED, EFFECTS }; /* AP: the name is on site; it is at nil; and then the condition has the label, too */
+enum { NIL_ALONE, ABSENT, STRAYS };        /* where labels are that may not be: on slot 0 alone, or on absent slots */
 
 static struct {
     unsigned long reasons[ENTRIES][REASONS];
@@ -120,6 +122,8 @@ static struct {
     unsigned long places[PLACES];                            /* accepted sites with a name from 16 on there */
     unsigned long rewritten[OPERATIONS];                     /* edits that an accepted condition was rewritten through */
     unsigned long through[OPERATIONS], stuck[OPERATIONS];    /* edits that went through, and that did not */
+    unsigned long effects[EFFECTS];                          /* AP of sheets that went through */
+    unsigned long strays[STRAYS];                            /* sites refused for a label */
     unsigned long shorter[BUFFERS], longer[BUFFERS];         /* calls with this buffer a byte short, a byte long */
     unsigned long listed;                                    /* lists that are not empty */
     unsigned long works[2];                                  /* sheets whose condition listed no slot, and every slot */
@@ -182,6 +186,39 @@ static void meet_places(void)
         met.places[k] += there[k];
 }
 
+static bool has_label(int label)
+{
+    for (size_t k = 0; k + 1 < cond.length; k += DESK_NODE_BYTES)
+        if (cond.at[k] == LABEL && cond.at[k + 1] == label)
+            return true;
+    return false;
+}
+
+/* From edit to edit, since names move. */
+static void meet_effects(void)
+{
+    static struct model model;
+    model_read(&model, site.at);
+    for (size_t k = 0; k < sheet.length; k += DESK_EDIT_BYTES) {
+        const uint8_t *edit = sheet.at + k;
+        if (edit[0] == AP && model.name[edit[1]] == DESK_NIL) {
+            met.effects[UNMARKED]++;
+            met.effects[ASKED] += has_label(edit[2]);
+        } else if (edit[0] == AP) {
+            met.effects[MARKED]++;
+        }
+        model_edit(&model, edit);
+    }
+}
+
+static void meet_strays(void)
+{
+    bool absent = false;
+    for (int k = 0; k < LABELS * DESK_SET_BYTES; k++)
+        absent |= (site.at[LABELS_AT + k] & ~site.at[k % DESK_SET_BYTES]) != 0;
+    met.strays[absent ? ABSENT : NIL_ALONE]++;
+}
+
 /* ---- the calls: each gives its reason */
 
 #define BUFFER(k) buffers[k].at, buffers[k].length
@@ -218,6 +255,7 @@ static uint32_t try_apply(const size_t *lengths)
     if (other.reason == DESK_OK) {
         meet_edits(met.through, sheet.length / DESK_EDIT_BYTES);
         meet_operands();
+        meet_effects();
     }
     if (other.reason == DESK_NOT_THROUGH)
         met.stuck[sheet.at[DESK_EDIT_BYTES * other.where]]++;
@@ -262,6 +300,8 @@ static uint32_t try_classes(const size_t *lengths)
     check_input("desk_classes", a);
     if (other.reason == DESK_OK)
         meet_places();
+    if (other.reason == DESK_LABELS)
+        meet_strays();
     return other.reason;
 }
 
@@ -535,15 +575,21 @@ static void try_doubles(void)
     }
 }
 
-/* AP makes three nodes of one: a rewritten table of 2,048 nodes, and one of 2,049. */
+/* AP makes six nodes of its label, each time: rewritten tables of 2,048 nodes, and of 2,049. Another label is copied. */
 static void try_full_tables(void)
 {
-    build_sheet(AP, 1, 0, 0);
-    for (int more = 0; more <= 1; more++) {
-        build_chain(NOT, 0, DESK_NODES_MAX - 2 + more);
+    static const int times[] = {1, 2, DESK_EDITS_MAX};
+    for (int k = 0; k < 6; k++) {
+        const int more = k % 2;
+        sheet.length = 0;
+        add_edits(times[k / 2], AP, 1, 0, 0);
+        build_chain(NOT, 0, DESK_NODES_MAX - 5 * times[k / 2] + more);
         expect_rewrite(more ? DESK_TABLE_FULL : DESK_OK, more ? 0 : DESK_NODES_MAX, "a full table");
         try_entry(REWRITE, entries[REWRITE].lengths);
     }
+    build_sheet(AP, 1, 1, 0);
+    build_chain(NOT, 0, DESK_NODES_MAX);
+    expect_rewrite(DESK_OK, DESK_NODES_MAX, "a full table without the label");
 }
 
 /* A functional link onto the target that is there, onto another one, and from a slot to itself. */
@@ -928,7 +974,7 @@ static void try_single_names(void)
 }
 
 /* The reason of each function that has the site among its inputs. */
-static void expect_site_refused(uint32_t reason, const char *what)
+static void expect_site(uint32_t reason, const char *what)
 {
     static const int with_site[] = {LIST, APPLY, CLASSES, JOB};
     build_file();
@@ -944,7 +990,7 @@ static void try_absent_names(void)
     for (int n = 1; n < NAMES; n++) {
         build_a();
         site.at[NAMES_AT + n] = 9;
-        expect_site_refused(DESK_NAMES, "a name at an absent slot");
+        expect_site(DESK_NAMES, "a name at an absent slot");
     }
 }
 
@@ -956,7 +1002,7 @@ static void try_old_site(void)
     site.length = 34352;
     build_r();
     build_sheet(DT2, 4, 1, 0);
-    expect_site_refused(DESK_SITE_LENGTH, "a site of the length that 16 names give");
+    expect_site(DESK_SITE_LENGTH, "a site of the length that 16 names give");
     expect(file.length == 34398, "the length of the job with it");
     expect_rewrite(DESK_OK, 8, "the condition beside such a site");
 }
@@ -1060,12 +1106,19 @@ static void build_bare(void)
     memset(site.at, 0xff, DESK_SET_BYTES);
 }
 
-/* Nodes 0 and 1: one slot, and all but it. Nodes 2 and 3: the same of another slot. Each of them once by a label and once by a not. */
+/* The label is on every slot but 0, which has none. */
+static void label_all(int label)
+{
+    memset(site.at + label_at(label), 0xff, DESK_SET_BYTES);
+    flip(site.at + label_at(label), DESK_NIL);
+}
+
+/* Nodes 0 and 1: one slot, and all but it. Nodes 3 and 2: another slot and nil, and all but these. Each of them once by a label and once by a not. */
 static void build_singles(int slot, int other)
 {
     build_bare();
     put_slot(site.at + label_at(0), slot);
-    memset(site.at + label_at(1), 0xff, DESK_SET_BYTES);
+    label_all(1);
     flip(site.at + label_at(1), other);
     cond.length = 0;
     add_node(LABEL, 0, 0, 0);
@@ -1080,14 +1133,14 @@ static void try_single_slots(void)
     static const struct {
         int kind, left, right;
         bool in;
-        int count; /* how many of the two slots */
+        int count; /* how many of the three slots */
     } joins[] = {
-        {OR, 0, 0, true, 1}, {AND, 1, 1, false, 1}, {OR, 0, 3, true, 2}, {OR, 3, 0, true, 2}, {AND, 1, 2, false, 2}, {AND, 2, 1, false, 2},
+        {OR, 0, 0, true, 1}, {AND, 1, 1, false, 1}, {OR, 0, 3, true, 3}, {OR, 3, 0, true, 3}, {AND, 1, 2, false, 3}, {AND, 2, 1, false, 3},
         {AND, 0, 2, true, 1}, {AND, 2, 0, true, 1}, {OR, 1, 3, false, 1}, {OR, 3, 1, false, 1}, {AND, 0, 3, true, 0}, {OR, 1, 2, false, 0},
     };
-    for (int s = 0; s < SLOTS; s++)
+    for (int s = 1; s < SLOTS; s++)
         for (size_t k = 0; k < sizeof joins / sizeof *joins; k++) {
-            const int slots[] = {s, s ^ 1 << s % 8};
+            const int slots[] = {s, s ^ 1 << s % 8, DESK_NIL};
             build_singles(slots[0], slots[1]);
             add_node(joins[k].kind, 0, joins[k].left, joins[k].right);
             expect_set(joins[k].in, joins[k].count, slots, "an or or an and of sets with one slot, or all but one");
@@ -1155,7 +1208,7 @@ static void try_quarters(void)
     }
 }
 
-/* One slot is absent: a label there, a link to it or from it is refused, and the same with all other slots is not. */
+/* One slot is absent: a label there or on slot 0, a link to either or from it is refused, and the same with all other slots is not. */
 static void try_absent_slots(void)
 {
     cond.length = 0;
@@ -1166,15 +1219,16 @@ static void try_absent_slots(void)
             int at, slot;
             uint32_t reason;
         } faults[] = {
-            {label_at(9), s, DESK_LABELS}, {row_at(1, from), s, DESK_LINKS}, {row_at(2, s), from, DESK_LINKS}, {row_at(1, from), DESK_NIL, DESK_LINKS},
+            {label_at(9), s, DESK_LABELS},    {label_at(9), DESK_NIL, DESK_LABELS},    {row_at(1, from), s, DESK_LINKS},
+            {row_at(2, s), from, DESK_LINKS}, {row_at(1, from), DESK_NIL, DESK_LINKS},
         };
         for (size_t k = 0; k < sizeof faults / sizeof *faults; k++)
             for (int fault = 0; fault <= 1; fault++) {
                 build_bare();
                 flip(site.at, s);
-                memcpy(site.at + label_at(9), site.at, DESK_SET_BYTES);
-                memcpy(site.at + row_at(1, from), site.at, DESK_SET_BYTES);
-                flip(site.at + row_at(1, from), DESK_NIL);
+                label_all(9);
+                flip(site.at + label_at(9), s);
+                memcpy(site.at + row_at(1, from), site.at + label_at(9), DESK_SET_BYTES);
                 if (fault)
                     flip(site.at + faults[k].at, faults[k].slot);
                 expect(try_entry(LIST, entries[LIST].lengths) == (fault ? faults[k].reason : DESK_OK), "a site with an absent slot");
@@ -1273,6 +1327,186 @@ static void try_every_slot(void)
     try_copies();
 }
 
+/* ---- slot 0 has no label, and gets none */
+
+/* Each label on slot 0: alone, with one other slot and with all. The same without slot 0 is no fault. */
+static void try_labels_at_nil(void)
+{
+    build_r();
+    build_sheet(DT2, 4, 1, 0);
+    for (int p = 0; p < LABELS; p++)
+        for (int k = 0; k < 6; k++) {
+            const int others = k / 2, nil = k % 2;
+            build_bare();
+            if (others == 1)
+                put_slot(site.at + label_at(p), 1);
+            if (others == 2)
+                label_all(p);
+            if (nil)
+                put_slot(site.at + label_at(p), DESK_NIL);
+            expect_site(nil ? DESK_LABELS : DESK_OK, "a label on slot 0, or not");
+        }
+}
+
+/* A label on slot 0 of site A beside another fault: items 4, 5 and 6, and 3. */
+static void try_label_order(void)
+{
+    const struct {
+        int at, value;
+        uint32_t reason;
+    } faults[] = {
+        {0, 0x0e, DESK_NAMES},                                                        /* slot 0 is absent */
+        {NAMES_AT, 1, DESK_NAMES},         {NAMES_AT + NAMES - 1, 4, DESK_NAMES},     /* a name is elsewhere, or at an absent slot */
+        {label_at(7), 0x10, DESK_LABELS},  {label_at(8) - 1, 0x80, DESK_LABELS},      /* a label is on an absent slot */
+        {row_at(0, 0), 2, DESK_LABELS},    {row_at(3, 1), 1, DESK_LABELS},            /* a link starts or ends at slot 0 */
+        {target_at(4, 0), 1, DESK_LABELS}, {target_at(7, 0), 1, DESK_LABELS},
+        {row_at(1, 4), 2, DESK_LABELS},    {row_at(2, 1), 0x10, DESK_LABELS},         /* or at an absent slot */
+        {target_at(5, 4), 1, DESK_LABELS}, {target_at(6, 1), 4, DESK_LABELS},
+    };
+    build_r();
+    build_sheet(DT2, 4, 1, 0);
+    for (size_t k = 0; k < 2 * sizeof faults / sizeof *faults; k++) {
+        build_a();
+        site.at[faults[k / 2].at] = (uint8_t)faults[k / 2].value;
+        put_slot(site.at + label_at(k % 2 ? LABELS - 1 : 0), DESK_NIL);
+        expect_site(faults[k / 2].reason, "a label on slot 0 and another fault");
+    }
+    build_a();
+    put_slot(site.at + LABELS_AT, DESK_NIL);
+    for (site.length = DESK_SITE_BYTES - 1; site.length <= DESK_SITE_BYTES + 1; site.length += 2)
+        expect_site(DESK_SITE_LENGTH, "a label on slot 0 of a site that is too short or too long");
+}
+
+/* The site that the sheet leaves. */
+static const uint8_t *applied(void)
+{
+    static uint8_t result[DESK_SITE_BYTES];
+    struct desk_applied r = desk_apply(site.at, site.length, sheet.at, sheet.length, result, sizeof result);
+    expect(r.reason == DESK_OK && r.where == 0, "a sheet that goes through");
+    return result;
+}
+
+static bool has_slot(const uint8_t *set, int slot)
+{
+    return set[slot / 8] >> slot % 8 & 1;
+}
+
+/* Some slot has the label. */
+static void build_some(int label)
+{
+    cond.length = 0;
+    add_node(LABEL, label, 0, 0);
+    add_node(DIAMOND, EVERYWHERE, 0, 0);
+}
+
+/* What a planner tried: name 1 goes to nil and gets a label there. No slot has it, after or today; had the name stayed, one would. */
+static void try_label_of_a_gone_name(void)
+{
+    static uint8_t table[DESK_TABLE_BYTES];
+    for (int name = 0; name <= 1; name++) {
+        const uint8_t wanted[] = {NODE(2, 7, 0, 0), NODE(3, name, 0, 0), NODE(3, 0, 0, 0), NODE(5, 0, 2, 0),
+                                  NODE(7, 0, 1, 3), NODE(6, 0, 0, 4),    NODE(8, 16, 5, 0)};
+        build_a();
+        build_some(7);
+        sheet.length = 0;
+        add_edits(1 - name, CN1, 1, 0, 0);
+        add_edits(1, AP, 1, 7, 0);
+        build_file();
+        expect_rewrite(DESK_OK, 7, "some slot has a label, through AP");
+        desk_rewrite(cond.at, cond.length, sheet.at, sheet.length, table, sizeof table);
+        expect(memcmp(table, wanted, sizeof wanted) == 0, "the nodes of a label through AP");
+        expect(all_zero(applied() + label_at(7), DESK_SET_BYTES) == (name == 0), "the label of a name at nil, or not");
+        expect_job(DESK_OK, name ? SLOTS : 0, "a job with the label of a name at nil, or not");
+        try_all();
+    }
+}
+
+/* How name 1 of site A comes to nil. */
+static const struct gone {
+    int edits;
+    uint8_t sheet[2 * DESK_EDIT_BYTES];
+} to_nil[] = {
+    {1, {EDIT(CN1, 1, 0, 0)}},
+    {1, {EDIT(CN1, 1, 3, 0)}},
+    {1, {EDIT(CN2, 1, 2, 5)}},
+    {1, {EDIT(CN2, 1, 3, 4)}},
+    {2, {EDIT(CN2, 1, 1, 4), EDIT(CN2, 1, 1, 4)}},
+    {1, {EDIT(DS, 1, 0, 0)}},
+    {2, {EDIT(CN1, 3, 1, 0), EDIT(DS, 3, 0, 0)}},
+};
+
+/* AP then changes nothing, nor does DP behind it; once the name is back on site, AP does. */
+static void try_ways_to_nil(void)
+{
+    static uint8_t gone[DESK_SITE_BYTES];
+    for (size_t k = 0; k < sizeof to_nil / sizeof *to_nil; k++) {
+        build_a();
+        build_some(7);
+        sheet.length = 0;
+        append(&sheet, to_nil[k].sheet, (size_t)(DESK_EDIT_BYTES * to_nil[k].edits));
+        memcpy(gone, applied(), sizeof gone);
+        expect(gone[NAMES_AT + 1] == DESK_NIL, "a name that comes to nil");
+        for (int op = AP; op <= DP; op++) {
+            add_edits(1, op, 1, 7, 0);
+            expect(memcmp(applied(), gone, sizeof gone) == 0, "AP and DP with a name at nil");
+            build_file();
+            expect_job(DESK_OK, 0, "no slot has the label of a name at nil");
+            try_all();
+        }
+        add_edits(1, AS, 1, 9, 0);
+        add_edits(1, AP, 1, 7, 0);
+        build_file();
+        expect(has_slot(applied() + label_at(7), 9), "the label of a name that is back");
+        expect_job(DESK_OK, SLOTS, "a slot has the label of a name that is back");
+        try_all();
+    }
+}
+
+/* Every name, and every label three times: with the name at a place of its own, and at nil, where name 0 is in any case. */
+static void try_marks(void)
+{
+    for (int k = 0; k < 2 * NAMES; k++) {
+        const int n = k / 2, p = (n + 1) % LABELS, s = k % 2 ? DESK_NIL : place(n);
+        build_spread();
+        site.at[NAMES_AT + n] = (uint8_t)s;
+        build_some(p);
+        build_sheet(AP, n, p, 0);
+        expect(has_slot(applied() + label_at(p), s) == (s != DESK_NIL), "the label of a name, at its place or at nil");
+        expect((memcmp(applied(), site.at, DESK_SITE_BYTES) == 0) == (s == DESK_NIL), "AP changes nothing with a name at nil, and only then");
+        build_file();
+        try_all();
+    }
+}
+
+/* The longest sheets: at each place AP with a name at nil among others that are not, and the other way round. */
+static void try_long_marks(void)
+{
+    for (int k = 0; k < 2 * DESK_EDITS_MAX; k++) {
+        const int one = k % 2 ? 2 : 3, most = k % 2 ? 3 : 2;
+        build_a();
+        cond.length = 0;
+        add_node(LABEL, 7, 0, 0);
+        sheet.length = 0;
+        add_edits(DESK_EDITS_MAX, AP, most, 7, 0);
+        sheet.at[DESK_EDIT_BYTES * (k / 2) + 1] = (uint8_t)one;
+        build_file();
+        expect_rewrite(DESK_OK, 1 + 5 * DESK_EDITS_MAX, "a label through the longest sheet of AP");
+        expect_job(DESK_OK, 1, "one slot has the label");
+        expect(has_slot(applied() + label_at(7), 3), "it is the slot of name 2");
+        try_all();
+    }
+}
+
+static void try_nil(void)
+{
+    try_labels_at_nil();
+    try_label_order();
+    try_label_of_a_gone_name();
+    try_ways_to_nil();
+    try_marks();
+    try_long_marks();
+}
+
 static void *try_known_answers(void *unused)
 {
     try_chains();
@@ -1291,6 +1525,7 @@ static void *try_known_answers(void *unused)
     try_large_sites();
     try_many_names();
     try_every_slot();
+    try_nil();
     return unused;
 }
 
@@ -1341,6 +1576,8 @@ static const struct row {
     {"edit, rewritten", met.rewritten, OPERATIONS, ALL(OPERATIONS)},
     {"edit, through", met.through, OPERATIONS, ALL(OPERATIONS)},
     {"edit, not through", met.stuck, OPERATIONS, 1u << AT | 1u << AS | 1u << DS},
+    {"AP, effect", met.effects, EFFECTS, ALL(EFFECTS)},
+    {"label refused", met.strays, STRAYS, ALL(STRAYS)},
     {"buffer, short", met.shorter, BUFFERS, ALL(BUFFERS)},
     {"buffer, long", met.longer, BUFFERS, ALL(BUFFERS)},
 };

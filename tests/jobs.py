@@ -15,7 +15,7 @@ import changes
 import lists
 import pieces
 from layout import *
-from pieces import CROWD, HIGH, named, names_joined, sheet, turned
+from pieces import CROWD, HIGH, named, names_joined, sheet, turned, with_bytes
 
 SEED = 65536
 
@@ -95,13 +95,6 @@ def answer(file):
 
 
 # ---- cases
-
-def with_bytes(d, *changed):
-    d = bytearray(d)
-    for at, value in changed:
-        d[at] = value
-    return d
-
 
 def with_trailer(file, *numbers):
     return file[:-TRAILER_BYTES] + struct.pack("<3I", *numbers)
@@ -258,6 +251,28 @@ def collisions():
     yield A, FULL, sheet((2, 1, 0), (8, 0))
 
 
+def labels_and_nil():
+    """What a planner tried: name 1 goes to nil and gets a label there, and no slot has it; without going, one has. Sites with each label on slot 0,
+    alone and with another fault. AP with names at nil, and tables that come to 2,048 nodes through it, and to one more."""
+    yield A, changes.some(7), sheet((0, 1, 0), changes.MARK)
+    yield A, changes.some(7), sheet(changes.MARK)
+    for p in range(LABELS):
+        yield pieces.labelled_nil(p), R, DT2
+        yield pieces.labelled_site(p, 0), R, sheet((3, 0, p))
+        yield pieces.labelled_site(p, *range(1, SLOTS)), changes.some(p), sheet((2, 0, p), (3, 0, p))
+    at_nil = pieces.labelled_nil(0)
+    for fault in (*pieces.NAME_FAULTS, *pieces.LINK_FAULTS):
+        yield with_bytes(at_nil, fault), R, DT2
+    yield pieces.old_site(at_nil), R, DT2
+    yield at_nil, R[:-1], DT2
+    yield at_nil, ODD, sheet((9,))
+    for site, condition, edits in changes.every_mark():
+        if len(edits) > 1:
+            yield site, condition, sheet(*edits)
+    for condition, edits in (*changes.long_marks(), *changes.long_ways(), *changes.full_marks()):
+        yield A, condition, sheet(*edits)
+
+
 def classing():
     """Sites whose classes take several rounds, and the links of a sheet that joins or parts them."""
     chain = bytearray(SITE_BYTES)
@@ -377,9 +392,11 @@ def cases(rng):
     yield J
     yield largest()
     yield from files()
-    for make in (by_hand, refusals, limits, collisions, classing, many_names, at_edges, by_copies):
+    for make in (by_hand, refusals, limits, collisions, labels_and_nil, classing, many_names, at_edges, by_copies):
         for three in make():
             yield job(*three)
+    for three in changes.random_marks(rng):
+        yield job(*three)
     for _ in range(60):
         site = lists.random_site(rng, rng.choice((0, 5, 30, 120)))
         condition = lists.random_condition(rng)

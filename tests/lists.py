@@ -132,8 +132,7 @@ def random_site(rng, links):
     for s in [0] + slots:
         pieces.put(d, 0, s)
     pieces.put_names(rng, d, slots)
-    for _ in range(rng.randrange(30)):
-        pieces.put(d, label_at(rng.randrange(LABELS)), rng.choice([0] + slots))
+    pieces.put_labels(rng, d, slots, rng.randrange(30), 0.03)
     for _ in range(links):
         pieces.put(d, row_at(rng.randrange(GENERAL), rng.choice(slots)), rng.choice(slots))
         pieces.put_target(rng, d, slots)
@@ -225,11 +224,17 @@ def sixteens():
         yield range(k, SLOTS, 16)
 
 
+def single(p, s):
+    """The kind and parameter of a leaf with slot s alone, which has label p. Slot 0 has no label, but name 0."""
+    return (2, p) if s else (3, 0)
+
+
 def single_site(slots):
-    """Every slot is there. Each label has one of these sixteen, and each but the first two has a link to the one before it."""
+    """Every slot is there. Each label has one of these sixteen but 0, and each but the first two has a link to the one before it."""
     d = pieces.bare_site()
     for p, s in enumerate(slots):
-        pieces.put(d, label_at(p), s)
+        if s:
+            pieces.put(d, label_at(p), s)
         if p > 1:
             d[target_at(4, s)] = slots[p - 1]
     return d
@@ -242,10 +247,10 @@ class Nodes(list):
         self.append((kind, param, left, right))
         return len(self) - 1
 
-    def leaves(self, kind, params, nots):
-        """One slot each; with nots all but one each."""
-        leaves = [self.add(kind, param) for param in params]
-        return [self.add(5, 0, i) for i in leaves] if nots else leaves
+    def leaves(self, leaves, nots):
+        """One slot each, by kind and parameter; with nots all but one each."""
+        numbers = [self.add(*leaf) for leaf in leaves]
+        return [self.add(5, 0, i) for i in numbers] if nots else numbers
 
     def join(self, kind, parts):
         """The or (6) or the and (7) of these."""
@@ -255,18 +260,18 @@ class Nodes(list):
         return last
 
 
-def at_once(nots):
+def at_once(slots, nots):
     """The or of sets with one slot, or the and of sets with all but one."""
     nodes = Nodes()
-    nodes.join(7 if nots else 6, nodes.leaves(2, range(LABELS), nots))
+    nodes.join(7 if nots else 6, nodes.leaves([single(p, s) for p, s in enumerate(slots)], nots))
     return nodes
 
 
-def along_links(nots):
+def along_links(slots, nots):
     """Mu: label 1, and then one slot in each round. Nu with nots: one slot less in each."""
     loop, join, modal = (11, 7, 9) if nots else (10, 6, 8)
     nodes = Nodes()
-    first, x = nodes.leaves(2, [1], nots)[0], nodes.add(4)
+    first, x = nodes.leaves([single(1, slots[1])], nots)[0], nodes.add(4)
     nodes.add(loop, 0, nodes.add(join, 0, first, nodes.add(modal, 4, x)))
     return nodes
 
@@ -275,7 +280,7 @@ def one_by_one(slots, nots):
     """The same without links: a slot is taken if the one before it has been."""
     loop, join, within, modal = (11, 7, 6, 9) if nots else (10, 6, 7, 8)
     nodes = Nodes()
-    leaves, x = nodes.leaves(12, slots, nots), nodes.add(4)
+    leaves, x = nodes.leaves([(12, s) for s in slots], nots), nodes.add(4)
     parts = leaves[:1]
     for before, leaf in zip(leaves, leaves[1:]):
         parts.append(nodes.add(within, 0, leaf, nodes.add(modal, EVERYWHERE, nodes.add(within, 0, before, x))))
@@ -284,15 +289,29 @@ def one_by_one(slots, nots):
 
 
 def edge_sets():
-    """A label with one slot and one with all but one, alone and together, each as it is and as a not."""
+    """A set with one slot, and a label with all but this and slot 0: together, each as it is and as a not."""
     t = pieces.table
     for s in pieces.EDGES:
         d = pieces.bare_site()
-        pieces.put(d, label_at(0), s)
-        pieces.put_all(d, label_at(1), s)
+        if s:
+            pieces.put(d, label_at(0), s)
+        pieces.put_all(d, label_at(1), 0, s)
+        leaves = (*single(0, s), 0, 0), (2, 1, 0, 0)
         for kind in (6, 7):
-            yield d, t((2, 0, 0, 0), (2, 1, 0, 0), (kind, 0, 0, 1))
-            yield d, t((2, 0, 0, 0), (2, 1, 0, 0), (5, 0, 1 if kind == 6 else 0, 0), (kind, 0, 0 if kind == 6 else 1, 2))
+            yield d, t(*leaves, (kind, 0, 0, 1))
+            yield d, t(*leaves, (5, 0, 1 if kind == 6 else 0, 0), (kind, 0, 0 if kind == 6 else 1, 2))
+
+
+def at_nil():
+    """Each label on every slot but 0: it and its not are told from the whole by slot 0 alone. On slot 0 it is refused."""
+    t = pieces.table
+    for p in range(LABELS):
+        d = pieces.labelled_site(p, *range(1, SLOTS))
+        yield d, t((2, p, 0, 0))
+        yield d, t((2, p, 0, 0), (5, 0, 0, 0))
+        yield d, t((2, p, 0, 0), (3, 0, 0, 0), (7, 0, 0, 1), (8, EVERYWHERE, 2, 0))
+        yield pieces.labelled_nil(p), t((2, p, 0, 0))
+        yield pieces.labelled_site(p, 0), t((2, p, 0, 0), (8, EVERYWHERE, 0, 0))
 
 
 def quarter_site():
@@ -322,7 +341,7 @@ def by_slot():
         site = single_site(slots)
         for make in (at_once, along_links):
             for nots in (False, True):
-                yield site, t(*make(nots))
+                yield site, t(*make(slots, nots))
     for slots in (pieces.EDGES, pieces.EDGES[::-1]):
         for nots in (False, True):
             yield pieces.site_a(), t(*one_by_one(slots, nots))
@@ -337,6 +356,7 @@ def cases(rng):
     yield from by_hand()
     yield from by_name()
     yield from by_slot()
+    yield from at_nil()
     # every way, both modalities
     site = random_site(rng, 60)
     for way in range(WAYS):

@@ -76,7 +76,7 @@ static uint32_t site_fault(const struct model *model)
             return 4;
     for (int p = 0; p < LABELS; p++)
         for (int s = 0; s < SLOTS; s++)
-            if (model->label[p][s] && !model->present[s])
+            if (model->label[p][s] && (s == DESK_NIL || !model->present[s]))
                 return 5;
     for (int m = 0; m < LINKS; m++)
         for (size_t k = 0; k < model->link[m].count; k++) {
@@ -385,9 +385,11 @@ bool model_edit(struct model *model, const uint8_t *edit)
     case CN2:
         model->name[x] = (uint8_t)target(&model->link[z], model->name[y]);
         return true;
-    case AP:
+    case AP: /* nil gets no label */
+        model->label[y][model->name[x]] |= model->name[x] != DESK_NIL;
+        return true;
     case DP:
-        model->label[y][model->name[x]] = edit[0] == AP;
+        model->label[y][model->name[x]] = false;
         return true;
     case AT:
         return add_link(model, x, model->name[y], model->name[z]);
@@ -477,7 +479,7 @@ static struct words block_words(const uint8_t *edit, const struct node *node)
     if (op == CN2 && node->kind == NAME && node->param == edit[1])
         return (struct words){.text = "n2 <f-> nil n2 t <f> & <E> ! & |", .n2 = edit[2], .f = edit[3]};
     if ((op == AP || op == DP) && node->kind == LABEL && node->param == edit[2])
-        return (struct words){.text = op == AP ? "p n |" : "p n ! &", .n = edit[1], .p = edit[2]};
+        return (struct words){.text = op == AP ? "p n nil ! & |" : "p n ! &", .n = edit[1], .p = edit[2]};
     if (op == AS && node->kind == NAME && node->param == edit[1])
         return (struct words){.text = "k", .k = edit[2]};
     if (op == AS && node->kind == HERE)

@@ -16,6 +16,7 @@ from layout import *
 SITE, CONDITION, SHEET = 1, 2, 3
 WORDS = {SITE: "site", CONDITION: "condition", SHEET: "sheet"}
 SEED = 2048
+PRINTED_MOST = 1 << 20  # `rt try` ends a program that prints more
 
 
 # ---- the items, as docs/SPEC.md, "Reasons" words them
@@ -31,18 +32,18 @@ def judge_site(d):
     names = d[NAMES_AT:NAMES_AT + NAMES]
     if 0 not in present or names[0] != 0 or any(n not in present for n in names):
         return 4, 0
-    if any(not members(d, label_at(p)) <= present for p in range(LABELS)):
+    on_site = present - {0}  # where labels and the ends of links may be
+    if any(not members(d, label_at(p)) <= on_site for p in range(LABELS)):
         return 5, 0
-    ends = present - {0}
     for m in range(GENERAL):
         for s in range(SLOTS):
             row = members(d, row_at(m, s))
-            if row and (s not in ends or not row <= ends):
+            if row and (s not in on_site or not row <= on_site):
                 return 6, 0
     for f in range(GENERAL, LINKS):
         for s in range(SLOTS):
             t = d[target_at(f, s)]
-            if t and (s not in ends or t not in ends):
+            if t and (s not in on_site or t not in on_site):
                 return 6, 0
     return None
 
@@ -147,6 +148,14 @@ def put_target(rng, site, slots):
     site[TARGETS_AT + SLOTS * rng.randrange(FUNCTIONAL) + rng.choice(slots)] = target
 
 
+def put_labels(rng, site, slots, count, at_nil):
+    """So many times a label on one of these slots; with the chance `at_nil` one on slot 0 too, which is refused."""
+    for _ in range(count):
+        put(site, label_at(rng.randrange(LABELS)), rng.choice(slots))
+    if rng.random() < at_nil:
+        put(site, label_at(rng.randrange(LABELS)), 0)
+
+
 def put_names(rng, site, slots):
     """Few names, some or all of them; at places of their own, several at one, or at nil."""
     for n in rng.sample(range(1, NAMES), rng.choice((4, 16, NAMES - 1))):
@@ -182,6 +191,22 @@ def bare_site(*but):
     """Every slot is there but these, and nothing else."""
     d = bytearray(SITE_BYTES)
     put_all(d, 0, *but)
+    return d
+
+
+def labelled_site(p, *slots):
+    """Every slot is there, and these have label p."""
+    d = bare_site()
+    for s in slots:
+        put(d, label_at(p), s)
+    return d
+
+
+def with_bytes(d, *changed):
+    """A copy with these bytes, each behind its offset."""
+    d = bytearray(d)
+    for at, value in changed:
+        d[at] = value
     return d
 
 
@@ -270,14 +295,22 @@ def full_table(kind):
     return table((kind, 0, 0, 0), *((6, 0, i, i) for i in range(NODES - 1)))
 
 
+def label_last(p, nodes):
+    """The condition "label p" in so many nodes; the last does not reach the others."""
+    return table(*[(0, 0, 0, 0)] * (nodes - 1), (2, p, 0, 0))
+
+
+def label_first(p, nodes):
+    """The condition "not label p" in so many nodes, of which the last reaches the first."""
+    return table((2, p, 0, 0), *[(0, 0, 0, 0)] * (nodes - 2), (5, 0, 0, 0))
+
+
 R = table((2, 0, 0, 0), (4, 0, 0, 0), (8, 4, 1, 0), (6, 0, 0, 2), (10, 0, 3, 0))
 
 
-def site_with(at, value):
-    """Site A with this byte."""
-    d = site_a()
-    d[at] = value
-    return d
+def site_with(*changed):
+    """Site A with these bytes, each behind its offset."""
+    return with_bytes(site_a(), *changed)
 
 
 def sites_of_names():
@@ -287,8 +320,8 @@ def sites_of_names():
         yield old_site(d)
     yield old_site(site_a())
     for n in HIGH:
-        yield site_with(NAMES_AT + n, 4)
-    yield site_with(TARGETS_AT - 1, 3)
+        yield site_with((NAMES_AT + n, 4))
+    yield site_with((TARGETS_AT - 1, 3))
 
 
 def sites_at_edges():
@@ -300,9 +333,45 @@ def sites_at_edges():
             put(d, at, slot)
             yield d
         d = bare_site(s)
-        put_all(d, label_at(9), s)
+        put_all(d, label_at(9), 0, s)
         put_all(d, row_at(1, other), 0, s)
         yield d
+
+
+def sites_with_labels():
+    """Slot 0 has no label. Each label on other slots alone, and on slot 0 too; and on slot 0 alone."""
+    for p in range(LABELS):
+        for slots in (1,), (2, 7, 8, SLOTS - 1), range(1, SLOTS):
+            yield labelled_site(p, *slots)
+            yield labelled_site(p, 0, *slots)
+        yield labelled_site(p, 0)
+
+
+def labelled_nil(p):
+    """Site A with this label on slot 0."""
+    d = site_a()
+    put(d, label_at(p), 0)
+    return d
+
+
+# Bytes that make site A meet item 4, and item 6: a link from slot 0 or to it, or at an absent slot.
+NAME_FAULTS = (0, 14), (NAMES_AT, 1), (NAMES_AT + 1, 4), (NAMES_AT + NAMES - 1, 255)
+LINK_FAULTS = (
+    (row_at(0, 0), 2), (row_at(3, 0), 2), (row_at(0, 1), 1), (row_at(3, 3), 1), (row_at(1, 4), 2), (row_at(2, 1), 16),
+    (target_at(4, 0), 1), (target_at(7, 0), 1), (target_at(5, 4), 1), (target_at(6, 1), 4),
+)
+
+
+def sites_with_two_faults():
+    """A label on slot 0, and another fault: of an item before, on an absent slot, of the item behind, and of several."""
+    for p in (0, LABELS - 1):
+        d, other = labelled_nil(p), LABELS - 1 - p
+        yield old_site(d)
+        yield d[:-1]
+        for fault in (*NAME_FAULTS, (label_at(p) + 31, 128), (label_at(other), 16), *LINK_FAULTS):
+            yield with_bytes(d, fault)
+        yield with_bytes(d, *LINK_FAULTS)
+        yield with_bytes(d, *NAME_FAULTS, *LINK_FAULTS)
 
 
 def sites(rng):
@@ -311,6 +380,8 @@ def sites(rng):
         yield (site_a() + b"\0")[:n]
     yield from sites_of_names()
     yield from sites_at_edges()
+    yield from sites_with_labels()
+    yield from sites_with_two_faults()
     for at, value in (
         (0, 14), (0, 0), (NAMES_AT, 1), (NAMES_AT + 1, 4), (NAMES_AT + NAMES - 1, 255),
         (NAMES_AT - 1, 128), (LABELS_AT, 3), (label_at(LABELS - 1), 1), (label_at(LABELS - 1), 16), (label_at(1) - 1, 128),
@@ -318,7 +389,7 @@ def sites(rng):
         (ROWS_AT, 2), (row_at(0, 1), 1), (row_at(0, 1), 2), (row_at(0, 1), 16), (row_at(0, 4), 2),
         (SITE_BYTES - 1, 128), (row_at(3, 255), 1), (row_at(3, 1), 4), (row_at(1, 1), 4), (row_at(1, 1), 1),
     ):
-        yield site_with(at, value)
+        yield site_with((at, value))
     d = site_a()
     d[0], d[LABELS_AT], d[TARGETS_AT] = 14, 255, 1
     yield d
@@ -332,8 +403,8 @@ def sites(rng):
         for s in [0] + slots:
             put(d, 0, s)
         put_names(rng, d, slots)
+        put_labels(rng, d, slots, rng.randrange(60), 0.1)
         for _ in range(rng.randrange(60)):
-            put(d, label_at(rng.randrange(LABELS)), rng.choice([0] + slots))
             put(d, row_at(rng.randrange(GENERAL), rng.choice(slots)), rng.choice(slots))
             put_target(rng, d, slots)
         for _ in range(rng.choice((0, 0, 1, 2))):
@@ -453,11 +524,12 @@ def encode(kind, d):
 
 
 def write(crate, stdin, stdout):
-    folder = os.path.join(os.path.dirname(os.path.abspath(__file__)), "..", "crates", crate)
+    folder, text = os.path.join(os.path.dirname(os.path.abspath(__file__)), "..", "crates", crate), "\n".join(stdout) + "\n"
+    assert len(text) <= PRINTED_MOST, (crate, len(text))
     with open(os.path.join(folder, "stdin"), "wb") as f:
         f.write(stdin)
     with open(os.path.join(folder, "stdout"), "w") as f:
-        f.write("\n".join(stdout) + "\n")
+        f.write(text)
 
 
 def main():

@@ -123,7 +123,7 @@ static void random_site(void)
     for (int l = 0; l < shape.labels; l++) {
         uint8_t *label = site.at + label_at(one_in(4) ? below(LABELS) : l);
         for (int k = between(0, shape.count); k > 0; k--)
-            put_slot(label, one_in(12) ? 0 : random_slot(&shape));
+            put_slot(label, random_slot(&shape));
     }
     random_names(&shape);
     for (int l = 0; l < shape.links && shape.count > 0; l++)
@@ -351,7 +351,7 @@ static void damage_site(void)
         break;
     case 4:
     case 5:
-        put_slot(site.at + label_at(below(LABELS)), s);
+        put_slot(site.at + label_at(below(LABELS)), one_in(4) ? DESK_NIL : s);
         break;
     case 6:
         site.at[target_at(GENERAL + below(FUNCTIONAL), one_in(4) ? 0 : s)] = (uint8_t)t;
