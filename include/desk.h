@@ -117,7 +117,7 @@ enum desk_kind {
 enum desk_operation {
     DESK_OP_CN1 = 0,            /* n1 n2     n1, not 0, moves to @n2 */
     DESK_OP_CN2 = 1,            /* n1 n2 f   n1, not 0, moves to the f-target of @n2, or to nil */
-    DESK_OP_AP = 2,             /* n p       @n gains label p, unless it is nil */
+    DESK_OP_AP = 2,             /* n p       @n, unless it is nil, gains label p */
     DESK_OP_DP = 3,             /* n p       @n loses label p */
     DESK_OP_AT = 4,             /* m n1 n2   a link m from @n1 to @n2 is added; neither is nil; for m 4 to 7, @n1 has no m-target or has @n2 */
     DESK_OP_DT1 = 5,            /* m n1 n2   that link is removed, if it is there */

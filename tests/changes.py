@@ -393,7 +393,7 @@ def order():
     absent, labelled, full = bytearray(A), bytearray(A), pieces.full_table(2)
     absent[0] = 14
     pieces.put(labelled, label_at(1), 9)
-    at_nil = pieces.labelled_nil(1)
+    nil_labelled = pieces.labelled_nil(1)
     yield A[:-1], R[:-1], sheet((9,))
     yield A, R[:-1], sheet((9,))
     yield absent, R, sheet(DT2)
@@ -414,11 +414,11 @@ def order():
     yield labelled, R, sheet(DT2)
     yield pieces.old_site(A), R, sheet(DT2)
     # a label on slot 0, which no edit takes away in time
-    yield at_nil, R, sheet(DT2)
-    yield at_nil, R, sheet((3, 0, 1))
-    yield at_nil, R, sheet((9,))
-    yield at_nil, R[:-1], sheet((8, 0))
-    yield pieces.old_site(at_nil), R, sheet(DT2)
+    yield nil_labelled, R, sheet(DT2)
+    yield nil_labelled, R, sheet((3, 0, 1))
+    yield nil_labelled, R, sheet((9,))
+    yield nil_labelled, R[:-1], sheet((8, 0))
+    yield pieces.old_site(nil_labelled), R, sheet(DT2)
 
 
 def going():
@@ -602,16 +602,16 @@ def gone_and_back():
 
 def long_marks():
     """As many AP as a sheet has: one with a name at nil and the others not, the other way round, all at nil; and a name that comes and goes."""
-    on_site, at_nil, label = (2, 2, 7), (2, 3, 7), pieces.table((2, 7, 0, 0))
-    for most, one in (on_site, at_nil), (at_nil, on_site):
+    on_site, gone, label = (2, 2, 7), (2, 3, 7), pieces.table((2, 7, 0, 0))
+    for most, one in (on_site, gone), (gone, on_site):
         for at in (0, EDITS // 2, EDITS - 1):
             yield label, [one if k == at else most for k in range(EDITS)]
-    yield some(7), [at_nil] * EDITS
+    yield some(7), [gone] * EDITS
     yield pieces.joined(6, ((2, 7, 0, 0), (2, 8, 0, 0))), [(0, 1, 0), MARK, (0, 1, 2), (2, 1, 8)] * (EDITS // 4)
 
 
 def long_ways():
-    """The longest sheets in which name 1 comes to nil, in each way: many AP there, and as many once it is back on site."""
+    """The longest sheets in which name 1 comes to nil, in each way: many AP there, and many once it is back on site."""
     for edits in to_nil():
         start = [*edits, *[MARK] * 30, (7, 1, 9)]
         yield some(MARK[2]), start + [MARK] * (EDITS - len(start))
@@ -644,11 +644,11 @@ def full_marks():
 
 
 def labels_and_nil():
-    """What a planner tried: name 1 goes to nil and gets a label there, and no slot has it; without going, one has. Then all of the above, and edits
+    """What a planner tried: name 1 goes to nil and gets a label there, and no slot has it; without going, one has. Then most of the above, and edits
     that rewrite AP's block."""
     yield A, some(7), sheet((0, 1, 0), MARK)
     yield A, some(7), sheet(MARK)
-    # of full tables the first alone: what is printed is limited, and jobs.py has them all
+    # of full tables the first two, and none of the longest ways: what is printed is limited, and jobs.py has them all
     for condition, edits in (*gone_and_back(), *long_marks(), *list(full_marks())[:2]):
         yield A, condition, sheet(*edits)
     for site, condition, edits in every_mark():

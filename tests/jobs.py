@@ -260,12 +260,12 @@ def labels_and_nil():
         yield pieces.labelled_nil(p), R, DT2
         yield pieces.labelled_site(p, 0), R, sheet((3, 0, p))
         yield pieces.labelled_site(p, *range(1, SLOTS)), changes.some(p), sheet((2, 0, p), (3, 0, p))
-    at_nil = pieces.labelled_nil(0)
+    nil_labelled = pieces.labelled_nil(0)
     for fault in (*pieces.NAME_FAULTS, *pieces.LINK_FAULTS):
-        yield with_bytes(at_nil, fault), R, DT2
-    yield pieces.old_site(at_nil), R, DT2
-    yield at_nil, R[:-1], DT2
-    yield at_nil, ODD, sheet((9,))
+        yield with_bytes(nil_labelled, fault), R, DT2
+    yield pieces.old_site(nil_labelled), R, DT2
+    yield nil_labelled, R[:-1], DT2
+    yield nil_labelled, ODD, sheet((9,))
     for site, condition, edits in changes.every_mark():
         if len(edits) > 1:
             yield site, condition, sheet(*edits)

@@ -303,7 +303,7 @@ def edge_sets():
 
 
 def at_nil():
-    """Each label on every slot but 0: it and its not are told from the whole by slot 0 alone. On slot 0 it is refused."""
+    """Each label on every slot but 0, so that it differs from all slots in slot 0 only; it, and its not. On slot 0 it is refused."""
     t = pieces.table
     for p in range(LABELS):
         d = pieces.labelled_site(p, *range(1, SLOTS))

@@ -148,11 +148,11 @@ def put_target(rng, site, slots):
     site[TARGETS_AT + SLOTS * rng.randrange(FUNCTIONAL) + rng.choice(slots)] = target
 
 
-def put_labels(rng, site, slots, count, at_nil):
-    """So many times a label on one of these slots; with the chance `at_nil` one on slot 0 too, which is refused."""
+def put_labels(rng, site, slots, count, chance):
+    """So many times a label on one of these slots; with this chance one on slot 0 too, which is refused."""
     for _ in range(count):
         put(site, label_at(rng.randrange(LABELS)), rng.choice(slots))
-    if rng.random() < at_nil:
+    if rng.random() < chance:
         put(site, label_at(rng.randrange(LABELS)), 0)
 
 
@@ -325,7 +325,7 @@ def sites_of_names():
 
 
 def sites_at_edges():
-    """One slot is absent: a label, a link to it, a link from it; and all other slots with a label and as targets."""
+    """One slot is absent: a label, a link to it, a link from it; and all other slots but 0 with a label and as targets."""
     for s in EDGES[1:]:
         other = 1 + s % (SLOTS - 1)
         for at, slot in ((label_at(9), s), (row_at(1, other), s), (row_at(2, s), other)):

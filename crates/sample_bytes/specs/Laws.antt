@@ -4,6 +4,8 @@ pub mod Write
 -- a row's pieces: what they fit, and the verdicts on them
 pub mod Rows
 pub mod Judged
+-- the lists of a condition after a sheet and today
+pub mod Lists
 -- the theorems
 pub mod Refused
 pub mod Said

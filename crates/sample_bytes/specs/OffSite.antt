@@ -5,7 +5,7 @@ use mathlib.Core.List.{List, [], _∷_}
 use Prim.Native.Nat.{ℕ, _<_}
 use lib.ListN.{length}
 use Rattle.finite.specs.Bytes.{Bytes}
-use Rattle.bitset.specs.Set.{has}
+use Rattle.bitset.specs.Set.{has, Is}
 use Rattle.limits.specs.Limits.{labels, names}
 use Rattle.verdict.specs.declared.Verdict.the-variants.{Accepted}
 use Rattle.semantics.specs.Edit.{AP}
@@ -18,23 +18,23 @@ use Rattle.sheet.specs.Bytes as sheet
 use Rattle.demands.specs.Demands.{ApplyCall, RewriteCall, ListCall, rewrittenTable, Runnable}
 use Rattle.sample_bytes.specs.Refused.{SiteRefused}
 
--- the bytes of the condition "label p", and of the sheet AP n p
+-- the bytes of the condition "label p", and of the sheet with the one edit AP n p
 abbrev pub labelBytes : ℕ → List ℕ
 labelBytes p = condition.bytesOf (tableLabel p)
 
-abbrev pub addBytes : ℕ → ℕ → List ℕ
-addBytes n p = sheet.bytesOf (AP n p ∷ [])
+abbrev pub apBytes : ℕ → ℕ → List ℕ
+apBytes n p = sheet.bytesOf (AP n p ∷ [])
 
 pub record OffSite : Type 0 where
   -- an accepted site has no label on slot 0
   pub unlabelled : (site : List ℕ) → siteVerdict site ≡ Accepted → (p : ℕ) → siteOf site .marked p 0 ≡ false
-  -- one that has, and meets neither item 3 nor item 4, is refused with 5
+  -- a site with a label on slot 0 that meets neither item 3 nor item 4 is refused with 5
   pub label-refused : (site : List ℕ) → length site ≡ siteBytes → item4 (siteOf site) ≡ false → (p : ℕ) → siteOf site .marked p 0 ≡ true → SiteRefused site 5
-  -- AP with a name at nil goes through and leaves each byte of the site
+  -- AP with a name at nil, alone in its sheet, goes through and leaves each byte of the site
   pub nothing-marked : (site : List ℕ) → Bytes site → siteVerdict site ≡ Accepted → (n p : ℕ) → n < names → p < labels → siteOf site .place n ≡ 0
-      → (call : ApplyCall site (addBytes n p)) → (call .reason ≡ 0) × (call .result′ ≡ site)
-  -- whatever the sheet, "label p" lists after it what it lists, rewritten, today; and slot 0 is not listed
-  pub unlisted : (site sheet : List ℕ) (p : ℕ) → Runnable site (labelBytes p) sheet
+      → (call : ApplyCall site (apBytes n p)) → (call .reason ≡ 0) × (call .result′ ≡ site)
+  -- "label p", rewritten through a sheet, lists today what it lists after it, the slots that then have the label; slot 0 is not among them
+  pub listed : (site sheet : List ℕ) (p : ℕ) → Runnable site (labelBytes p) sheet
       → (applied : ApplyCall site sheet) (rewrote : RewriteCall (labelBytes p) sheet)
       → (today : ListCall site (rewrittenTable rewrote)) (after : ListCall (applied .result′) (labelBytes p))
-      → (today .set′ ≡ after .set′) × (has (today .set′) 0 ≡ false)
+      → (today .set′ ≡ after .set′) × Is (today .set′) (siteOf (applied .result′) .marked p) × (has (today .set′) 0 ≡ false)

@@ -3,7 +3,13 @@ use mathlib.Core.Bool.{Bool, not, _&&_, _||_}
 use mathlib.Core.List.{List}
 use Prim.Native.Nat.{ℕ, _+_, _*_}
 use Rattle.finite.specs.Tests.{same, all}
-use Rattle.bitset.specs.Set.{setSlots, has}
+use Rattle.bitset.specs.Set.{setSlots, has, Is}
+use Rattle.site.specs.Site.{siteOf}
+use Rattle.site.specs.Refusal.{barred}
+
+-- E is the set of the slots of site S where labels and links may be
+abbrev pub OnSite : List ℕ → List ℕ → Type 0
+OnSite S E = Is E (λ s. not (barred (siteOf S) s))
 
 -- the set at byte b of S lies inside A
 abbrev pub inside : List ℕ → ℕ → List ℕ → Bool

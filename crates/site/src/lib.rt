@@ -4,13 +4,13 @@ ghost use mathlib.Core.Bool.{not};
 ghost use Prim.Native.Nat.{_+_, _*_, _≤_, _<_};
 ghost use lib.ListN.{length, getD};
 ghost use Rattle.finite.specs.Tests.{all};
-ghost use Rattle.bitset.specs.Set.{setBytes, setSlots, Is};
+ghost use Rattle.bitset.specs.Set.{setBytes, setSlots};
 ghost use Rattle.limits.specs.Limits.{labels, names, links, generalLinks};
 ghost use Rattle.semantics.specs.Edit as edits;
 ghost use Rattle.site.specs.Layout.{siteBytes, targetAt, rowAt};
 ghost use Rattle.site.specs.Site.{siteOf};
-ghost use Rattle.site.specs.Refusal.{item4, item5, item6, barred, touches, siteVerdict};
-ghost use Rattle.site.specs.Inside.{inside, rowInside, targetInside};
+ghost use Rattle.site.specs.Refusal.{item4, item5, item6, touches, siteVerdict};
+ghost use Rattle.site.specs.Inside.{OnSite, inside, rowInside, targetInside};
 use bitset::SET_BYTES;
 use bitset::SET_SLOTS;
 use verdict::Verdict;
@@ -111,7 +111,7 @@ fn part_inside(site: &[u8], b: usize, set: &[u8]) -> bool
 // The slots that labels and links may be at: those present, but for slot 0.
 fn onsite_slots(site: &[u8]) -> [u8; SET_BYTES]
     requires { ⌜ length (now site) ≡ siteBytes ⌝ }
-    ensures { λ r. ⌜ Is r (λ s. not (barred (siteOf (now (site .entry))) s)) ⌝ }
+    ensures { λ r. ⌜ OnSite (now (site .entry)) r ⌝ }
 {
     let mut onsite = [0u8; SET_BYTES];
     set_algebra::union_with(&mut onsite, &site[0..SET_BYTES]);
@@ -121,7 +121,7 @@ fn onsite_slots(site: &[u8]) -> [u8; SET_BYTES]
 
 // Item 5 is not met: each label's set lies inside `onsite`.
 fn labels_fit(site: &[u8], onsite: &[u8]) -> bool
-    requires { ⌜ (length (now site) ≡ siteBytes) × ((length (now onsite) ≡ setBytes) × Is (now onsite) (λ s. not (barred (siteOf (now site)) s))) ⌝ }
+    requires { ⌜ (length (now site) ≡ siteBytes) × ((length (now onsite) ≡ setBytes) × OnSite (now site) (now onsite)) ⌝ }
     ensures { λ r. ⌜ r ≡ not (item5 (siteOf (now (site .entry)))) ⌝ }
 {
     for p in 0..LABELS {
@@ -191,7 +191,7 @@ fn targets_fit_from(site: &[u8], f: usize, k: usize, onsite: &[u8]) -> bool
     true
 }
 
-// Does every target of the functional link f fit? It is none, or both onsite of the link are in `onsite`.
+// Does every target of the functional link f fit? It is none, or both ends of the link are in `onsite`.
 fn targets_fit(site: &[u8], f: usize, onsite: &[u8]) -> bool
     requires { ⌜ (length (now site) ≡ siteBytes) × ((generalLinks ≤ f) × ((f < links) × (length (now onsite) ≡ setBytes))) ⌝ }
     ensures { λ r. ⌜ r ≡ all setSlots (λ s. targetInside (now (onsite .entry)) s (getD (now (site .entry)) (targetAt f s) 0)) ⌝ }
@@ -206,7 +206,7 @@ fn targets_fit(site: &[u8], f: usize, onsite: &[u8]) -> bool
 
 // Does link m touch the slots of `onsite` alone?
 fn link_fits(site: &[u8], m: usize, onsite: &[u8]) -> bool
-    requires { ⌜ (length (now site) ≡ siteBytes) × ((m < links) × ((length (now onsite) ≡ setBytes) × Is (now onsite) (λ s. not (barred (siteOf (now site)) s)))) ⌝ }
+    requires { ⌜ (length (now site) ≡ siteBytes) × ((m < links) × ((length (now onsite) ≡ setBytes) × OnSite (now site) (now onsite))) ⌝ }
     ensures { λ r. ⌜ r ≡ not (touches (siteOf (now (site .entry))) m) ⌝ }
 {
     if m < GENERAL_LINKS {
@@ -218,7 +218,7 @@ fn link_fits(site: &[u8], m: usize, onsite: &[u8]) -> bool
 
 // Item 6 is not met: each link touches the slots of `onsite` alone.
 fn links_fit(site: &[u8], onsite: &[u8]) -> bool
-    requires { ⌜ (length (now site) ≡ siteBytes) × ((length (now onsite) ≡ setBytes) × Is (now onsite) (λ s. not (barred (siteOf (now site)) s))) ⌝ }
+    requires { ⌜ (length (now site) ≡ siteBytes) × ((length (now onsite) ≡ setBytes) × OnSite (now site) (now onsite)) ⌝ }
     ensures { λ r. ⌜ r ≡ not (item6 (siteOf (now (site .entry)))) ⌝ }
 {
     for m in 0..LINKS {

@@ -1,12 +1,11 @@
 -- The demands are met.
-use mathlib.Core.Path.{_≡_, _∙_, ap}
+use mathlib.Core.Path.{_≡_}
 use mathlib.Core.Logic.{Iff·trans}
 use mathlib.Core.Bool.{true, false}
 use mathlib.Core.List.{List, _++_}
 use Prim.Native.Nat.{ℕ, _*_, _-_, _<_}
 use native.Mathlib.Omega.{arith}
 use lib.ListN.{length, getD, replicate}
-use Rattle.verdict.specs.Verdict.{reasonOf}
 use Rattle.verdict.specs.declared.Verdict.the-variants.{Accepted}
 use Rattle.limits.specs.Limits.{slots, tableBytes}
 use Rattle.semantics.specs.Table.{formOf}
@@ -77,13 +76,13 @@ module _ {site sheet : List ℕ} (j : Going site sheet) where
     pub apply-reason : c .reason ≡ 0
     apply-reason = reason-none apply-goes (c .returned)
 
-    pub left : SiteWritten site sheet (c .result′)
+    pub site-left : SiteWritten site sheet (c .result′)
     unfolding SiteAfter
-    left = rw apply-goes at (c .returned .left)
+    site-left = rw apply-goes at (c .returned .left)
 
     pub left-accepted : siteVerdict (c .result′) ≡ Accepted
     left-accepted =
-        after-accepted site sheet (c .result′) (j .site-accepted) (j .sheet-accepted) (j .goes-through) (left .size) (left .effects)
+        after-accepted site sheet (c .result′) (j .site-accepted) (j .sheet-accepted) (j .goes-through) (site-left .size) (site-left .effects)
 
 module _ {site table sheet : List ℕ} (j : Runnable site table sheet) where
   -- ---- rewriting
@@ -127,7 +126,7 @@ module _ {site table sheet : List ℕ} (j : Runnable site table sheet) where
       same-lists
       (editsOf sheet) (legal (j .going)) (siteOf site) (valid (j .going)) (j .going .goes-through)
       (tableOf table) (s .fits) (omega (arith, s .some, length-table table))
-      (rw (is-rewritten r) at p) (rw (left (j .going) a .effects) at q)
+      (rw (is-rewritten r) at p) (rw (site-left (j .going) a .effects) at q)
       in
       record {
         applies = apply-reason (j .going) a;
@@ -141,7 +140,7 @@ module _ {site table sheet : List ℕ} (j : Runnable site table sheet) where
               today-listed = p;
               after-listed = q;
               blocks = is-rewritten r;
-              effects = left (j .going) a .effects;
+              effects = site-left (j .going) a .effects;
             };
       }
 
@@ -157,7 +156,7 @@ module _ {site sheet : List ℕ} (j : Going site sheet) (a : ApplyCall site shee
 
   classes-left : (x : ℕ) → x < slots → IsClass (edits.sheet (editsOf sheet) (siteOf site)) x (getD (n .classes′) x 0)
   unfolding ClassesAfter
-  classes-left x l = let c = rw numbered at (n .returned .left) in rw (left j a .effects) at (c .0 .each x l)
+  classes-left x l = let c = rw numbered at (n .returned .left) in rw (site-left j a .effects) at (c .0 .each x l)
 
   same-classes : SameClasses a n
   same-classes =

@@ -1,5 +1,4 @@
 -- AP is a label put on a slot, and at nil it is nothing.
-use mathlib.Core.Path.{refl}
 use native.Mathlib.Omega.{arith}
 use Rattle.site.specs.Site.{siteOf}
 use Rattle.going.specs.Laws.Ranges.{legal-AP}
@@ -17,7 +16,7 @@ returns : tie.Need-returns
 returns c =
     let at = c .before in
     let s = at .before .before .before in
-    row-AP-nil (siteOf (s .args .site .now)) (s .args .n) (s .args .p) (at .place .ensures .0) (c .if1 .taken) refl
+    row-AP-nil (siteOf (s .args .site .now)) (s .args .n) (s .args .p) (at .place .ensures .0) (c .if1 .taken)
 
 put-label-requires : tie.Need-put-label-requires
 put-label-requires c κs = let s = c .before .before .before .before .before in let r = legal-AP (s .args .n) (s .args .p) (s .pre .1) in omega arith

@@ -6,7 +6,7 @@ use mathlib.Core.List.{List, [], _∷_}
 use Prim.Native.Nat.{ℕ, _≤_, _<_}
 use native.Mathlib.Omega.{arith}
 use lib.ListN.{length, getD}
-use Rattle.finite.specs.Tests.{same, below, first, all}
+use Rattle.finite.specs.Tests.{same, below, all}
 use Rattle.finite.specs.Laws.Bools.{both, clash, no-true}
 use Rattle.finite.specs.Laws.Below.{same-eq, eq-same, ne-same, below-in, below-not}
 use Rattle.finite.specs.Laws.First.{first-is, none-start}
@@ -37,12 +37,13 @@ use Rattle.sheet.specs.Laws.Accepted.{sheet-accepted, one-refused}
 use Rattle.going.specs.Laws.Ranges.{legal-CN1, legal-CN2, legal-AP, legal-DP, legal-AT, legal-DT1, legal-DT2, legal-AS, legal-DS}
 use Rattle.classes.specs.Classes.{Classes}
 use Rattle.classes_entry.specs.Classing.{ClassesAfter}
-use Rattle.demands.specs.Demands.{ApplyCall, RewriteCall, ListCall, ClassCall, rewrittenTable, Going, Runnable, Demand2, Demand3}
+use Rattle.demands.specs.Demands.{ApplyCall, RewriteCall, ListCall, ClassCall, rewrittenTable, Going, Runnable, Demand3}
 use Rattle.demands.specs.Laws.Accepted.{classes-accepted}
-use Rattle.demands.specs.Laws.Demands.{demand-2, demand-3}
+use Rattle.demands.specs.Laws.Demands.{demand-3}
 use Rattle.sample_bytes.specs.Names.{namesOf, everyOperand, nameBytes, Names}
 use Rattle.sample_bytes.specs.Laws.Refused.{site-refused}
 use Rattle.sample_bytes.specs.Laws.Judged.{table-accepted}
+use Rattle.sample_bytes.specs.Laws.Lists.{lists-same, today-holds}
 
 -- ---- the limit in conditions
 
@@ -123,15 +124,10 @@ found : (site sheet : List ℕ) (n : ℕ) → Runnable site (nameBytes n) sheet
     → (applied : ApplyCall site sheet) (rewrote : RewriteCall (nameBytes n) sheet)
     → (today : ListCall site (rewrittenTable rewrote)) (after : ListCall (applied .result′) (nameBytes n))
     → (today .set′ ≡ after .set′) × Is (today .set′) (λ s. same s (siteOf (applied .result′) .place n))
-unfolding Demand2 slots formOf treeAt trees tree build atom kindOf tableName Holds
+unfolding slots formOf treeAt trees tree build atom kindOf tableName Holds
 found site sheet n j a w t u =
-    let d = demand-2 site (nameBytes n) sheet j a w t u .agree in
-    let after = rw (table-back (tableName n)) at (d .after-listed) in (
-      d .same-set,
-      λ s h. rw (d .same-set) (both
-          (λ p. eq-same (after .listed (λ v. none) s h .0 p))
-          (λ p. after .listed (λ v. none) s h .1 (same-eq p))),
-    )
+    let holds = today-holds site sheet (tableName n) j a w t u (λ v. none) in
+    (lists-same site sheet (tableName n) j a w t u, λ s h. both (λ p. eq-same (holds s h .0 p)) (λ p. holds s h .1 (same-eq p)))
 
 alike : (site sheet : List ℕ) (n : ℕ) → n < names → Going site sheet
     → (applied : ApplyCall site sheet) (numbered : ClassCall (applied .result′)) (ρ : Env) (s t : ℕ) → s < slots → t < slots

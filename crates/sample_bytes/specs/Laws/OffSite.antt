@@ -1,19 +1,19 @@
 -- Slot 0 has no label: by what a valid site is, since edits leave a site valid.
 use mathlib.Core.Path.{_≡_, refl, sym, _∙_}
-use mathlib.Core.Bool.{true, false}
+use mathlib.Core.Bool.{false}
 use mathlib.Core.List.{List, [], _∷_}
 use Prim.Native.Nat.{ℕ, _<_}
 use native.Mathlib.Omega.{arith}
 use Rattle.finite.specs.Bytes.{Bytes}
-use Rattle.finite.specs.Laws.Bools.{clash, no-true}
+use Rattle.finite.specs.Laws.Bools.{both, no-true}
 use Rattle.finite.specs.Laws.Below.{below-in}
-use Rattle.bitset.specs.Set.{has}
+use Rattle.bitset.specs.Set.{has, Is}
 use Rattle.limits.specs.Limits.{slots, labels, names}
 use Rattle.verdict.specs.declared.Verdict.the-variants.{Accepted}
-use Rattle.semantics.specs.Holds.{Model, Holds}
+use Rattle.semantics.specs.Holds.{Holds}
 use Rattle.semantics.specs.Table.{kindOf, atom, build, tree, trees, treeAt, formOf}
 use Rattle.semantics.specs.Edit as edits
-use Rattle.semantics.specs.Edit.{Edit, AP, edit, legal, goes, sheetLegal, sheetGoes}
+use Rattle.semantics.specs.Edit.{AP, legal, goes, sheetLegal, sheetGoes}
 use Rattle.semantics.specs.Laws.FixedPoint.{none}
 use Rattle.samples.specs.Rows.{tableLabel}
 use Rattle.site.specs.Site.{siteOf}
@@ -21,19 +21,19 @@ use Rattle.site.specs.Refusal.{siteVerdict}
 use Rattle.site.specs.Laws.Valid.{site-valid, nil-labelled}
 use Rattle.site.specs.Laws.Same.{same-site}
 use Rattle.site_changes.specs.Laws.Rows.{row-AP-nil}
-use Rattle.condition.specs.Laws.Bytes.{table-back}
 use Rattle.sheet.specs.Laws.Read.{edits-back}
 use Rattle.sheet.specs.Laws.Accepted.{sheet-accepted}
-use Rattle.demands.specs.Demands.{ApplyCall, RewriteCall, ListCall, rewrittenTable, Going, Runnable, Demand2}
-use Rattle.demands.specs.Laws.Demands.{demand-2, apply-reason, left, left-accepted}
-use Rattle.sample_bytes.specs.OffSite.{labelBytes, addBytes, OffSite}
+use Rattle.demands.specs.Demands.{ApplyCall, RewriteCall, ListCall, rewrittenTable, Going, Runnable}
+use Rattle.demands.specs.Laws.Demands.{apply-reason, site-left, left-accepted}
+use Rattle.sample_bytes.specs.OffSite.{labelBytes, apBytes, OffSite}
+use Rattle.sample_bytes.specs.Laws.Lists.{lists-same, today-holds}
 use Rattle.sample_bytes.specs.Laws.Refused.{site-refused}
 
 unlabelled : (site : List ℕ) → siteVerdict site ≡ Accepted → (p : ℕ) → siteOf site .marked p 0 ≡ false
 unlabelled site a p = no-true (λ e. site-valid site .0 a .1 .labelled p 0 e .1 refl)
 
 module _ (site : List ℕ) (a : siteVerdict site ≡ Accepted) (n p : ℕ) (hn : n < names) (hp : p < labels) where
-  going : Going site (addBytes n p)
+  going : Going site (apBytes n p)
   unfolding sheetLegal legal sheetGoes goes
   going = record {
     site-accepted = a;
@@ -41,28 +41,27 @@ module _ (site : List ℕ) (a : siteVerdict site ≡ Accepted) (n p : ℕ) (hn :
     goes-through = rw (edits-back (AP n p ∷ []));
   }
 
-  nothing-marked : Bytes site → siteOf site .place n ≡ 0 → (call : ApplyCall site (addBytes n p)) → (call .reason ≡ 0) × (call .result′ ≡ site)
+  nothing-marked : Bytes site → siteOf site .place n ≡ 0 → (call : ApplyCall site (apBytes n p)) → (call .reason ≡ 0) × (call .result′ ≡ site)
   unfolding edits.sheet
   nothing-marked b nil call =
-      let w = left going call in
-      let same : siteOf (call .result′) ≡ siteOf site = (rw (edits-back (AP n p ∷ [])) at (w .effects)) ∙ sym (row-AP-nil (siteOf site) n p refl nil refl) in
+      let w = site-left going call in
+      let same : siteOf (call .result′) ≡ siteOf site = (rw (edits-back (AP n p ∷ [])) at (w .effects)) ∙ sym (row-AP-nil (siteOf site) n p refl nil) in
       (apply-reason going call, same-site (call .result′) site (w .bytes) b same (w .size) (site-valid site .0 a .0))
 
-unlisted : (site sheet : List ℕ) (p : ℕ) → Runnable site (labelBytes p) sheet
+listed : (site sheet : List ℕ) (p : ℕ) → Runnable site (labelBytes p) sheet
     → (applied : ApplyCall site sheet) (rewrote : RewriteCall (labelBytes p) sheet)
     → (today : ListCall site (rewrittenTable rewrote)) (after : ListCall (applied .result′) (labelBytes p))
-    → (today .set′ ≡ after .set′) × (has (today .set′) 0 ≡ false)
-unfolding Demand2 slots formOf treeAt trees tree build atom kindOf tableLabel Holds
-unlisted site sheet p j a w t u =
-    let d = demand-2 site (labelBytes p) sheet j a w t u .agree in
-    let after = rw (table-back (tableLabel p)) at (d .after-listed) in
-    let off = unlabelled (a .result′) (left-accepted (j .going) a) p in
-    (d .same-set, no-true (λ e. clash (after .listed (λ v. none) 0 (omega arith) .0 (rw (d .same-set) at e)) off))
+    → (today .set′ ≡ after .set′) × Is (today .set′) (siteOf (applied .result′) .marked p) × (has (today .set′) 0 ≡ false)
+unfolding slots formOf treeAt trees tree build atom kindOf tableLabel Holds
+listed site sheet p j a w t u =
+    let holds = today-holds site sheet (tableLabel p) j a w t u (λ v. none) in
+    let is : Is (t .set′) (siteOf (a .result′) .marked p) = λ s h. both (λ q. holds s h .0 q) (λ q. holds s h .1 q) in
+    (lists-same site sheet (tableLabel p) j a w t u, is, is 0 (omega arith) ∙ unlabelled (a .result′) (left-accepted (j .going) a) p)
 
 pub off-site : OffSite
 off-site = record {
   unlabelled = unlabelled;
   label-refused = λ site l h p m. site-refused site 5 (omega arith) (nil-labelled site l h p m);
   nothing-marked = λ site b a n p hn hp nil. nothing-marked site a n p hn hp b nil;
-  unlisted = unlisted;
+  listed = listed;
 }

@@ -23,7 +23,7 @@ use Rattle.semantics.specs.Holds.{Model}
 use Rattle.site.specs.Layout.{labelAt, targetAt, rowAt}
 use Rattle.site.specs.Site.{siteOf}
 use Rattle.site.specs.Refusal.{item4, item5, item6, barred, touches}
-use Rattle.site.specs.Inside.{inside, rowInside, targetInside}
+use Rattle.site.specs.Inside.{OnSite, inside, rowInside, targetInside}
 use Rattle.site.specs.Laws.Read.{present-is, marked-is, row-is, target-is}
 
 -- ---- item 4
@@ -42,16 +42,16 @@ names-present M p e =
     rw (p, e, same-refl 0, none-all names (λ n. not (M .present (M .place n))))
     (all-cong names (λ n. not (not (M .present (M .place n)))) (λ n. M .present (M .place n)) (λ n h. Bool·not-not (M .present (M .place n))))
 
--- ---- item 5
+-- ---- the slots where labels and links may be
 
 -- the present slots are the first set
 has-first : (S : List ℕ) (s : ℕ) → s < slots → has (take setBytes S) s ≡ siteOf S .present s
 unfolding slots
 has-first S s h = has-part S 0 setBytes s h ∙ ap (has S) (zero-add s) ∙ sym (present-is S s h)
 
--- the slots that labels and links may be at
+-- and slot 0 is taken out of it
 pub onsite-are : (S X Y : List ℕ) → length X ≡ setBytes → Is X (λ s. has (replicate setBytes 0) s || has (take setBytes S) s) → Y ≡ removed X 0
-    → Is Y (λ s. not (barred (siteOf S) s))
+    → OnSite S Y
 unfolding barred slots
 onsite-are S X Y l h e s hs =
     rw (e, has-removed X 0 s (omega arith), h s hs, has-empty s hs, has-first S s hs) (swap (siteOf S .present s) (same s 0))
@@ -62,7 +62,9 @@ onsite-are S X Y l h e s hs =
     swap false true = refl
     swap false false = refl
 
-pub labels-inside : (S E : List ℕ) → Is E (λ s. not (barred (siteOf S) s)) → all labels (λ p. inside S (labelAt p) E) ≡ not (item5 (siteOf S))
+-- ---- item 5
+
+pub labels-inside : (S E : List ℕ) → OnSite S E → all labels (λ p. inside S (labelAt p) E) ≡ not (item5 (siteOf S))
 unfolding item5 slots
 labels-inside S E i = sym (none-all labels _ ∙ all-cong labels _ _ (λ p hp. none-all slots _ ∙ all-cong slots _ _ (λ s hs. point p s hp hs)))
   where
@@ -110,7 +112,7 @@ touches-all M m = none-all slots _ ∙ all-cong slots _ _ (λ s hs. none-all slo
     point false a b = refl
 
 -- a general link by its rows
-pub link-rows : (S E : List ℕ) (m : ℕ) → m < generalLinks → Is E (λ s. not (barred (siteOf S) s))
+pub link-rows : (S E : List ℕ) (m : ℕ) → m < generalLinks → OnSite S E
     → all setSlots (λ s. rowInside S (rowAt m s) E s) ≡ not (touches (siteOf S) m)
 unfolding slots
 link-rows S E m hm i =
@@ -132,7 +134,7 @@ target-all v a e h =
 
 -- a functional link by its targets
 pub link-targets : (S E : List ℕ) (f : ℕ) → generalLinks ≤ f → f < links → ((s : ℕ) → getD S (targetAt f s) 0 < slots)
-    → Is E (λ s. not (barred (siteOf S) s))
+    → OnSite S E
     → all setSlots (λ s. targetInside E s (getD S (targetAt f s) 0)) ≡ not (touches (siteOf S) f)
 unfolding slots
 link-targets S E f hg hl b i =

@@ -34,17 +34,6 @@ module _ (M : Model) {M′ : Model} where
           (λ a. rw (a, ne-same (λ z. off (e ∙ sym (same-eq a) ∙ z))))
           (λ a. rw a)
 
-  pub row-AP-nil : (n p : ℕ) {x : ℕ} → x ≡ M .place n → x ≡ 0 → M′ ≡ M → M′ ≡ edit (AP n p) M
-  unfolding edit
-  row-AP-nil n p e nil h =
-      h ∙ marked-only refl refl refl (λ q s. sym
-      (ap (λ (b : Bool). cond (same q p) (M .marked q s || b) (M .marked q s)) (nowhere s)
-      ∙ ap (λ (b : Bool). cond (same q p) b (M .marked q s)) (or-false (M .marked q s))
-      ∙ cond-same (same q p) (M .marked q s)))
-    where
-      nowhere : (s : ℕ) → (same s (M .place n) && not (same s 0)) ≡ false
-      nowhere s = rw (sym e ∙ nil) (either (look (same s 0)) (λ a. rw a) (λ a. rw a))
-
   pub row-DP : (n p : ℕ) {x : ℕ} → x ≡ M .place n → M′ ≡ withoutLabel M p x → M′ ≡ edit (DP n p) M
   unfolding edit withoutLabel
   row-DP n p e h = h ∙ ap (λ (z : ℕ). withoutLabel M p z) e
@@ -72,3 +61,15 @@ module _ (M : Model) {M′ : Model} where
       k
       ∙ ap (λ (N : Model). withoutLinks N x) (h ∙ ap (λ (N : Model). withoutNames N x) (g ∙ ap (λ (N : Model). withoutLabels N x) f))
       ∙ ap (λ (z : ℕ). withoutLinks (withoutNames (withoutLabels (withoutSlot M z) z) z) z) e
+
+-- AP with a name at nil changes nothing
+pub row-AP-nil : (M : Model) (n p : ℕ) {x : ℕ} → x ≡ M .place n → x ≡ 0 → M ≡ edit (AP n p) M
+unfolding edit
+row-AP-nil M n p e nil =
+    marked-only refl refl refl (λ q s. sym
+    (ap (λ (b : Bool). cond (same q p) (M .marked q s || b) (M .marked q s)) (nowhere s)
+    ∙ ap (λ (b : Bool). cond (same q p) b (M .marked q s)) (or-false (M .marked q s))
+    ∙ cond-same (same q p) (M .marked q s)))
+  where
+    nowhere : (s : ℕ) → (same s (M .place n) && not (same s 0)) ≡ false
+    nowhere s = rw (sym e ∙ nil) (either (look (same s 0)) (λ a. rw a) (λ a. rw a))
