@@ -1,7 +1,8 @@
 //! A second desk in plain Rust, written from the specification alone. The proved library is timed beside it.
 //!
 //! The six functions have the library's arguments and answers, test the same items in the same order, and leave the same bytes in
-//! every buffer. Sets are four words; listing keeps each node's set and computes it again where a free variable has moved.
+//! every buffer. Sets are four words; listing keeps each node's set and computes it again where a free variable has moved. Rounds are added up as
+//! the tree is walked; those of a node that is known are kept with its set, and added once more.
 
 use std::ops::{BitAnd, BitOr, Not};
 
@@ -29,12 +30,16 @@ pub const SITE: usize = ROWS_AT + ROWS * GENERAL;
 pub const TABLE: usize = NODE * NODES;
 pub const WORK: usize = SET * NODES;
 
+// The highest limit on the rounds of a list.
+pub const HIGHEST: u32 = 1_000_000;
+
 #[derive(Debug, PartialEq)]
 #[repr(C)]
 pub struct Listed {
     pub reason: u32,
     pub place: u32,
     pub count: u32,
+    pub rounds: u32,
 }
 
 #[derive(Debug, PartialEq)]
@@ -69,6 +74,8 @@ pub struct Done {
     pub today: u32,
     pub nodes: u32,
     pub classes: u32,
+    pub after_rounds: u32,
+    pub today_rounds: u32,
 }
 
 /// The item that is met, and W.
@@ -301,20 +308,39 @@ struct Lister<'a> {
     site: Site<'a>,
     condition: &'a Condition,
     sets: Vec<Set>,
+    rounds: Vec<u32>,
     known: Vec<bool>,
     variables: [Set; VARIABLES],
+    made: u32,
+    limit: u32,
 }
 
 impl Lister<'_> {
-    fn list(site: Site, condition: &Condition) -> Set {
+    /// The set and the rounds. Item 15.
+    fn list(site: Site, condition: &Condition, limit: u32) -> Result<(Set, u32), Refusal> {
         let n = condition.nodes.len();
-        let (sets, known) = (vec![Set::NONE; n], vec![false; n]);
-        Lister { site, condition, sets, known, variables: [Set::NONE; VARIABLES] }.set(n - 1)
+        let (sets, rounds, known) = (vec![Set::NONE; n], vec![0; n], vec![false; n]);
+        let mut lister = Lister { site, condition, sets, rounds, known, variables: [Set::NONE; VARIABLES], made: 0, limit };
+        let set = lister.set(n - 1);
+        if lister.over() { Err((15, 0)) } else { Ok((set, lister.made)) }
+    }
+
+    /// Whether the rounds made so far are too many. The sets then do not matter any more, and nothing is begun.
+    fn over(&self) -> bool {
+        self.made > self.limit
+    }
+
+    fn make(&mut self, rounds: u32) {
+        self.made = self.made.saturating_add(rounds);
     }
 
     fn set(&mut self, i: usize) -> Set {
-        if !self.known[i] {
+        if self.known[i] {
+            self.make(self.rounds[i]);
+        } else {
+            let before = self.made;
             self.sets[i] = self.compute(i);
+            self.rounds[i] = self.made - before;
             self.known[i] = true;
         }
         self.sets[i]
@@ -330,8 +356,14 @@ impl Lister<'_> {
             3 => Set::only(self.site.name(p)),
             4 => self.variables[p],
             5 => !self.set(l),
-            6 => self.set(l) | self.set(r),
-            7 => self.set(l) & self.set(r),
+            6 | 7 => {
+                let t = self.set(l);
+                match n.kind {
+                    _ if self.over() => t,
+                    6 => t | self.set(r),
+                    _ => t & self.set(r),
+                }
+            }
             8 => {
                 let t = self.set(l);
                 self.diamond(p, t)
@@ -350,9 +382,10 @@ impl Lister<'_> {
         let old = self.variables[variable];
         let mut set = start;
         loop {
+            self.make(1);
             self.assign(variable, body, set);
             let next = self.set(body);
-            if next == set {
+            if next == set || self.over() {
                 break;
             }
             set = next;
@@ -967,22 +1000,28 @@ fn lengths(buffers: &[(&[u8], usize)]) -> Result<(), Refusal> {
     Ok(())
 }
 
-pub fn list(site: &[u8], cond: &[u8], set: &mut [u8], work: &mut [u8]) -> Listed {
+/// Item 16.
+fn highest(limit: u32) -> Result<(), Refusal> {
+    if limit > HIGHEST { item(16) } else { Ok(()) }
+}
+
+pub fn list(site: &[u8], cond: &[u8], limit: u32, set: &mut [u8], work: &mut [u8]) -> Listed {
     let found = (|| {
         lengths(&[(set, SET), (work, WORK)])?;
+        highest(limit)?;
         let site = Site::check(site)?;
         let condition = Condition::check(cond)?;
-        Ok(Lister::list(site, &condition))
+        Lister::list(site, &condition, limit)
     })();
     work.fill(0);
     match found {
-        Ok(found) => {
+        Ok((found, rounds)) => {
             found.write(set);
-            Listed { reason: 0, place: 0, count: found.count() }
+            Listed { reason: 0, place: 0, count: found.count(), rounds }
         }
         Err((reason, place)) => {
             set.fill(0);
-            Listed { reason, place, count: 0 }
+            Listed { reason, place, count: 0, rounds: 0 }
         }
     }
 }
@@ -1076,8 +1115,9 @@ pub struct Results<'a> {
     pub work: &'a mut [u8],
 }
 
-fn run_job(file: &[u8], out: &mut Results) -> Result<Done, Refusal> {
+fn run_job(file: &[u8], limit: u32, out: &mut Results) -> Result<Done, Refusal> {
     lengths(&[(out.site, SITE), (out.table, TABLE), (out.after, SET), (out.today, SET), (out.classes, SLOTS), (out.work, WORK)])?;
+    highest(limit)?;
     let [site, cond, sheet] = pieces(file)?;
     let today = Site::check(site)?;
     let condition = Condition::check(cond)?;
@@ -1088,7 +1128,8 @@ fn run_job(file: &[u8], out: &mut Results) -> Result<Done, Refusal> {
     write_table(&nodes, out.table);
     let rewritten = Condition { free: Condition::free(&nodes)?, nodes };
     let after = Site((&*out.site).try_into().unwrap());
-    let (listed_after, listed_today) = (Lister::list(after, &condition), Lister::list(today, &rewritten));
+    let (listed_after, after_rounds) = Lister::list(after, &condition, limit)?;
+    let (listed_today, today_rounds) = Lister::list(today, &rewritten, limit)?;
     let classes = refine(after);
     listed_after.write(out.after);
     listed_today.write(out.today);
@@ -1100,16 +1141,18 @@ fn run_job(file: &[u8], out: &mut Results) -> Result<Done, Refusal> {
         today: listed_today.count(),
         nodes: rewritten.nodes.len() as u32,
         classes: different(&classes),
+        after_rounds,
+        today_rounds,
     })
 }
 
-pub fn job(file: &[u8], mut out: Results) -> Done {
-    let done = run_job(file, &mut out);
+pub fn job(file: &[u8], limit: u32, mut out: Results) -> Done {
+    let done = run_job(file, limit, &mut out);
     out.work.fill(0);
     done.unwrap_or_else(|(reason, place)| {
         for buffer in [out.site, out.table, out.after, out.today, out.classes] {
             buffer.fill(0);
         }
-        Done { reason, place, after: 0, today: 0, nodes: 0, classes: 0 }
+        Done { reason, place, after: 0, today: 0, nodes: 0, classes: 0, after_rounds: 0, today_rounds: 0 }
     })
 }

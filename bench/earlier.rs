@@ -40,7 +40,7 @@ fn site(site: Vec<u8>) -> Vec<u8> {
 /// The call as it is made to it.
 pub fn call(call: &Call) -> Call {
     match call.clone() {
-        Call::List(today, cond) => Call::List(site(today), cond),
+        Call::List(today, cond, limit) => Call::List(site(today), cond, limit),
         Call::Apply(today, sheet) => Call::Apply(site(today), sheet),
         Call::Classes(today) => Call::Classes(site(today)),
         Call::Job(_, today, cond, sheet) => Call::job(site(today), cond, sheet),

@@ -130,6 +130,28 @@ impl Table {
     fn diamond(&mut self, way: usize, a: usize) -> usize {
         self.push(8, way, a, 0)
     }
+
+    /// Nested loops; what is to stand inside the innermost, if anything, is given.
+    fn nest(&mut self, depth: usize, mut inner: Option<usize>) {
+        let (start, nowhere) = (self.label(0), self.label(15));
+        for x in (0..depth).rev() {
+            let v = self.variable(x);
+            let mut body = self.diamond(4, v);
+            if x % 2 == 0 {
+                body = self.or(start, body);
+            }
+            if x > 0 {
+                let outer = self.variable(x - 1);
+                let none = self.and(nowhere, outer);
+                body = self.or(body, none);
+            }
+            if let Some(inner) = inner {
+                let none = self.and(nowhere, inner);
+                body = self.or(body, none);
+            }
+            inner = Some(self.push(10 + (x % 2) as u8, x, body, 0));
+        }
+    }
 }
 
 /// mu 0 (label 0 or diamond `way` variable 0)
@@ -189,34 +211,47 @@ pub fn mixed(n: usize, ways: usize) -> Vec<u8> {
 /// of the loop around and the loop inside.
 pub fn nested(depth: usize) -> Vec<u8> {
     let mut t = Table::default();
-    let (start, nowhere) = (t.label(0), t.label(15));
-    let mut inner = None;
-    for x in (0..depth).rev() {
-        let v = t.variable(x);
-        let mut body = t.diamond(4, v);
-        if x % 2 == 0 {
-            body = t.or(start, body);
-        }
-        if x > 0 {
-            let outer = t.variable(x - 1);
-            let none = t.and(nowhere, outer);
-            body = t.or(body, none);
-        }
-        if let Some(inner) = inner {
-            let none = t.and(nowhere, inner);
-            body = t.or(body, none);
-        }
-        inner = Some(t.push(10 + (x % 2) as u8, x, body, 0));
+    t.nest(depth, None);
+    t.0
+}
+
+/// The same at the end of so many nodes.
+pub fn behind(n: usize, depth: usize) -> Vec<u8> {
+    let mut t = Table::default();
+    while t.len() < n - nested(depth).len() / NODE {
+        t.label(0);
+    }
+    t.nest(depth, None);
+    t.0
+}
+
+/// Three loops, and in the innermost body a line of so many diamonds over its variable.
+pub fn around(diamonds: usize) -> Vec<u8> {
+    let mut t = Table::default();
+    let v = t.variable(2);
+    let line = (0..diamonds).fold(v, |last, k| t.diamond(k % GENERAL, last));
+    t.nest(3, Some(line));
+    t.0
+}
+
+/// True, and nus around it, each in the next: a round each, since each body gives back all slots at once.
+pub fn loops(n: usize) -> Vec<u8> {
+    let mut t = Table::default();
+    let mut last = t.push(0, 0, 0, 0);
+    while t.len() < n {
+        last = t.push(11, t.len() % VARIABLES, last, 0);
     }
     t.0
 }
 
-/// Label 0, and loops around it, each in the next.
-pub fn loops(n: usize) -> Vec<u8> {
+/// A loop of one round, mu 0 (not true), at the end of 2^k paths.
+pub fn shared_loop(k: usize) -> Vec<u8> {
     let mut t = Table::default();
-    let mut last = t.label(0);
-    while t.len() < n {
-        last = t.push(10 + (t.len() % 2) as u8, t.len() % VARIABLES, last, 0);
+    let all = t.push(0, 0, 0, 0);
+    let none = t.push(5, 0, all, 0);
+    let mut last = t.push(10, 0, none, 0);
+    for _ in 0..k {
+        last = t.or(last, last);
     }
     t.0
 }

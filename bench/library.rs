@@ -3,7 +3,8 @@
 use crate::desk::{Applied, Classed, Done, Listed, Rewritten};
 use crate::Desk;
 
-/// Declares `through` of one build. It stands apart from the others, since an earlier build may lack it.
+/// Declares `through` of one build. It stands apart from the others, since an earlier build may lack it; so do `list` and `job`, which may have no
+/// limit there.
 macro_rules! through {
     ($through:ident) => {{
         extern "C" {
@@ -14,14 +15,102 @@ macro_rules! through {
     }};
 }
 
-/// Declares what one build exports, and makes a desk of it.
-macro_rules! library {
-    ($name:ident: $list:ident $apply:ident $rewrite:ident $classes:ident $job:ident, $through:expr) => {
+/// Declares `list` of one build, with a limit.
+macro_rules! list {
+    ($list:ident) => {{
+        extern "C" {
+            fn $list(
+                site: *const u8, site_len: usize, cond: *const u8, cond_len: usize, limit: u32,
+                set: *mut u8, set_len: usize, work: *mut u8, work_len: usize,
+            ) -> Listed;
+        }
+        // Safety: as below.
+        |site, cond, limit, set, work| unsafe {
+            $list(
+                site.as_ptr(), site.len(), cond.as_ptr(), cond.len(), limit,
+                set.as_mut_ptr(), set.len(), work.as_mut_ptr(), work.len(),
+            )
+        }
+    }};
+}
+
+/// Declares `job` of one build, with a limit.
+macro_rules! job {
+    ($job:ident) => {{
+        extern "C" {
+            fn $job(
+                file: *const u8, file_len: usize, limit: u32, site: *mut u8, site_len: usize, table: *mut u8, table_len: usize,
+                after: *mut u8, after_len: usize, today: *mut u8, today_len: usize,
+                classes: *mut u8, classes_len: usize, work: *mut u8, work_len: usize,
+            ) -> Done;
+        }
+        // Safety: as below.
+        |file, limit, out| unsafe {
+            $job(
+                file.as_ptr(), file.len(), limit, out.site.as_mut_ptr(), out.site.len(), out.table.as_mut_ptr(), out.table.len(),
+                out.after.as_mut_ptr(), out.after.len(), out.today.as_mut_ptr(), out.today.len(),
+                out.classes.as_mut_ptr(), out.classes.len(), out.work.as_mut_ptr(), out.work.len(),
+            )
+        }
+    }};
+}
+
+/// Declares `list` of an earlier build, without a limit. It tells no rounds.
+#[cfg(all(before, not(before_limit)))]
+macro_rules! old_list {
+    ($list:ident) => {{
+        #[repr(C)]
+        struct Answer([u32; 3]);
         extern "C" {
             fn $list(
                 site: *const u8, site_len: usize, cond: *const u8, cond_len: usize,
                 set: *mut u8, set_len: usize, work: *mut u8, work_len: usize,
-            ) -> Listed;
+            ) -> Answer;
+        }
+        // Safety: as below.
+        |site, cond, _, set, work| {
+            let Answer([reason, place, count]) = unsafe {
+                $list(
+                    site.as_ptr(), site.len(), cond.as_ptr(), cond.len(),
+                    set.as_mut_ptr(), set.len(), work.as_mut_ptr(), work.len(),
+                )
+            };
+            Listed { reason, place, count, rounds: 0 }
+        }
+    }};
+}
+
+/// Declares `job` of an earlier build, without a limit.
+#[cfg(all(before, not(before_limit)))]
+macro_rules! old_job {
+    ($job:ident) => {{
+        #[repr(C)]
+        struct Answer([u32; 6]);
+        extern "C" {
+            fn $job(
+                file: *const u8, file_len: usize, site: *mut u8, site_len: usize, table: *mut u8, table_len: usize,
+                after: *mut u8, after_len: usize, today: *mut u8, today_len: usize,
+                classes: *mut u8, classes_len: usize, work: *mut u8, work_len: usize,
+            ) -> Answer;
+        }
+        // Safety: as below.
+        |file, _, out| {
+            let Answer([reason, place, after, today, nodes, classes]) = unsafe {
+                $job(
+                    file.as_ptr(), file.len(), out.site.as_mut_ptr(), out.site.len(), out.table.as_mut_ptr(), out.table.len(),
+                    out.after.as_mut_ptr(), out.after.len(), out.today.as_mut_ptr(), out.today.len(),
+                    out.classes.as_mut_ptr(), out.classes.len(), out.work.as_mut_ptr(), out.work.len(),
+                )
+            };
+            Done { reason, place, after, today, nodes, classes, after_rounds: 0, today_rounds: 0 }
+        }
+    }};
+}
+
+/// Declares what else one build exports, and makes a desk of it.
+macro_rules! library {
+    ($name:ident: $apply:ident $rewrite:ident $classes:ident, $limited:expr, $list:expr, $job:expr, $through:expr) => {
+        extern "C" {
             fn $apply(
                 site: *const u8, site_len: usize, sheet: *const u8, sheet_len: usize, result: *mut u8, result_len: usize,
             ) -> Applied;
@@ -29,21 +118,12 @@ macro_rules! library {
                 cond: *const u8, cond_len: usize, sheet: *const u8, sheet_len: usize, result: *mut u8, result_len: usize,
             ) -> Rewritten;
             fn $classes(site: *const u8, site_len: usize, classes: *mut u8, classes_len: usize) -> Classed;
-            fn $job(
-                file: *const u8, file_len: usize, site: *mut u8, site_len: usize, table: *mut u8, table_len: usize,
-                after: *mut u8, after_len: usize, today: *mut u8, today_len: usize,
-                classes: *mut u8, classes_len: usize, work: *mut u8, work_len: usize,
-            ) -> Done;
         }
 
         // Safety: each pointer comes with the length of what it points to, and Rust's references do not overlap.
         pub const $name: Desk = Desk {
-            list: |site, cond, set, work| unsafe {
-                $list(
-                    site.as_ptr(), site.len(), cond.as_ptr(), cond.len(),
-                    set.as_mut_ptr(), set.len(), work.as_mut_ptr(), work.len(),
-                )
-            },
+            limited: $limited,
+            list: $list,
             apply: |site, sheet, result| unsafe {
                 $apply(site.as_ptr(), site.len(), sheet.as_ptr(), sheet.len(), result.as_mut_ptr(), result.len())
             },
@@ -52,22 +132,18 @@ macro_rules! library {
             },
             through: $through,
             classes: |site, classes| unsafe { $classes(site.as_ptr(), site.len(), classes.as_mut_ptr(), classes.len()) },
-            job: |file, out| unsafe {
-                $job(
-                    file.as_ptr(), file.len(), out.site.as_mut_ptr(), out.site.len(), out.table.as_mut_ptr(), out.table.len(),
-                    out.after.as_mut_ptr(), out.after.len(), out.today.as_mut_ptr(), out.today.len(),
-                    out.classes.as_mut_ptr(), out.classes.len(), out.work.as_mut_ptr(), out.work.len(),
-                )
-            },
+            job: $job,
         };
     };
 }
 
-library!(NOW: desk_list desk_apply desk_rewrite desk_classes desk_job, through!(desk_through));
-#[cfg(before_through)]
-library!(BEFORE: before_list before_apply before_rewrite before_classes before_job, through!(before_through));
+library!(NOW: desk_apply desk_rewrite desk_classes, true, list!(desk_list), job!(desk_job), through!(desk_through));
+#[cfg(before_limit)]
+library!(BEFORE: before_apply before_rewrite before_classes, true, list!(before_list), job!(before_job), through!(before_through));
+#[cfg(all(before_through, not(before_limit)))]
+library!(BEFORE: before_apply before_rewrite before_classes, false, old_list!(before_list), old_job!(before_job), through!(before_through));
 #[cfg(all(before, not(before_through)))]
-library!(BEFORE: before_list before_apply before_rewrite before_classes before_job, |_, _| unreachable!("not timed"));
+library!(BEFORE: before_apply before_rewrite before_classes, false, old_list!(before_list), old_job!(before_job), |_, _| unreachable!("not timed"));
 
 // Without an earlier build the present one stands here, and is not timed twice.
 #[cfg(not(before))]

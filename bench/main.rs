@@ -5,8 +5,9 @@
 //!
 //! With `--cfg before` an earlier build of the library is timed too (bench/beside). A line then gives the times of the earlier build, of the
 //! present one and of the Rust, the ratio of present to earlier, in how many samples the present was slower, and the ratio to the Rust. With
-//! `--cfg before_through` the earlier build has `through` too; without it those lines are of the present library and the Rust. So are lines
-//! with names that the earlier build does not have, and those of labels that its AP rewrites to other nodes.
+//! `--cfg before_through` the earlier build has `through` too; without it those lines are of the present library and the Rust. With `--cfg before_limit`
+//! its lists and jobs take a limit; without it lines about limits are of the present library and the Rust. So are lines with names that the earlier
+//! build does not have, and those of labels that its AP rewrites to other nodes.
 //!
 //! The part `sets` has tables of its own kind (sets.rs).
 
@@ -17,20 +18,22 @@ mod library;
 mod sets;
 mod stack;
 
-use desk::{Applied, Classed, Done, Listed, Results, Rewritten, E, GENERAL, NAMES, NODES, SET, SITE, SLOTS, TABLE, WORK};
+use desk::{Applied, Classed, Done, Listed, Results, Rewritten, E, GENERAL, HIGHEST, NAMES, NODES, SET, SITE, SLOTS, TABLE, WORK};
 use std::time::Duration;
 
-/// The six functions of a desk.
+/// The six functions of a desk, and whether its lists and jobs take a limit and tell their rounds.
 struct Desk {
-    list: fn(&[u8], &[u8], &mut [u8], &mut [u8]) -> Listed,
+    limited: bool,
+    list: fn(&[u8], &[u8], u32, &mut [u8], &mut [u8]) -> Listed,
     apply: fn(&[u8], &[u8], &mut [u8]) -> Applied,
     rewrite: fn(&[u8], &[u8], &mut [u8]) -> Rewritten,
     through: fn(&[u8], &mut [u8]) -> Rewritten,
     classes: fn(&[u8], &mut [u8]) -> Classed,
-    job: fn(&[u8], Results) -> Done,
+    job: fn(&[u8], u32, Results) -> Done,
 }
 
 const RUST: Desk = Desk {
+    limited: true,
     list: desk::list,
     apply: desk::apply,
     rewrite: desk::rewrite,
@@ -67,10 +70,10 @@ impl Buffers {
     }
 }
 
-/// What is called.
+/// What is called. A list has a limit on its rounds; a job has the highest.
 #[derive(Clone)]
 enum Call {
-    List(Vec<u8>, Vec<u8>),
+    List(Vec<u8>, Vec<u8>, u32),
     Apply(Vec<u8>, Vec<u8>),
     Rewrite(Vec<u8>, Vec<u8>),
     Through(Vec<u8>),
@@ -79,6 +82,10 @@ enum Call {
 }
 
 impl Call {
+    fn list(site: Vec<u8>, cond: Vec<u8>) -> Call {
+        Call::List(site, cond, HIGHEST)
+    }
+
     fn job(site: Vec<u8>, cond: Vec<u8>, sheet: Vec<u8>) -> Call {
         let file = inputs::job(&site, &cond, &sheet);
         Call::Job(file, site, cond, sheet)
@@ -96,13 +103,14 @@ impl Call {
         self.answer(&RUST, out)
     }
 
-    /// The answer's numbers: the reason, W and the counts. Inlined, so that each side calls its functions directly.
+    /// The answer's numbers: the reason, W and the counts, and last the rounds of a desk that tells them. Inlined, so that each side calls its
+    /// functions directly.
     #[inline(always)]
     fn answer(&self, desk: &Desk, out: &mut Buffers) -> Vec<u32> {
         match self {
-            Call::List(site, cond) => {
-                let r = (desk.list)(site, cond, &mut out.after, &mut out.work);
-                vec![r.reason, r.place, r.count]
+            Call::List(site, cond, limit) => {
+                let r = (desk.list)(site, cond, *limit, &mut out.after, &mut out.work);
+                told(desk, [r.reason, r.place, r.count, r.rounds], 1)
             }
             Call::Apply(site, sheet) => {
                 let r = (desk.apply)(site, sheet, &mut out.site);
@@ -121,8 +129,8 @@ impl Call {
                 vec![r.reason, r.place, r.count]
             }
             Call::Job(file, ..) => {
-                let r = (desk.job)(file, out.results());
-                vec![r.reason, r.place, r.after, r.today, r.nodes, r.classes]
+                let r = (desk.job)(file, HIGHEST, out.results());
+                told(desk, [r.reason, r.place, r.after, r.today, r.nodes, r.classes, r.after_rounds, r.today_rounds], 2)
             }
         }
     }
@@ -134,7 +142,7 @@ impl Call {
         let nodes = |cond: &[u8]| Some(cond.len() / 6);
         let edits = |sheet: &[u8]| Some(sheet.len() / 4);
         match self {
-            Call::List(site, cond) => [slots(site), arcs(site), nodes(cond), None],
+            Call::List(site, cond, _) => [slots(site), arcs(site), nodes(cond), None],
             Call::Apply(site, sheet) => [slots(site), arcs(site), None, edits(sheet)],
             Call::Rewrite(cond, sheet) => [None, None, nodes(cond), edits(sheet)],
             Call::Through(sheet) => [None, None, None, edits(sheet)],
@@ -146,6 +154,8 @@ impl Call {
     /// What came of it, in a word or two.
     fn outcome(&self, answer: &[u32]) -> String {
         match self {
+            _ if answer[0] != 0 => format!("refused {}", answer[0]),
+            Call::List(..) if answer[3] > 0 => format!("{} listed, {} rounds", answer[2], answer[3]),
             Call::List(..) => format!("{} listed", answer[2]),
             Call::Apply(..) => "through".to_string(),
             Call::Rewrite(..) | Call::Through(..) => format!("{} nodes", answer[2]),
@@ -153,6 +163,11 @@ impl Call {
             Call::Job(..) => format!("{} nodes, {} classes", answer[4], answer[5]),
         }
     }
+}
+
+/// The numbers of an answer, without the rounds at the end if the desk does not tell them.
+fn told<const N: usize>(desk: &Desk, numbers: [u32; N], rounds: usize) -> Vec<u32> {
+    numbers[..if desk.limited { N } else { N - rounds }].to_vec()
 }
 
 /// A side of a measurement: whom it asks, what, and where the results go. Each has memory of its own, which may start
@@ -227,7 +242,7 @@ fn title(text: &str) {
 fn title_of(text: &str, two_builds: bool) {
     println!("\n{text}");
     let (what, outcome, times) = ("input", "outcome", times_title("µs", two_builds));
-    println!("{what:44} slots   arcs nodes edits  {outcome:24} {times}");
+    println!("{what:44} slots   arcs nodes edits  {outcome:26} {times}");
 }
 
 fn times_title(unit: &str, two_builds: bool) -> String {
@@ -276,10 +291,15 @@ fn measure(what: &str, call: Call) {
 }
 
 fn measure_of(what: &str, call: Call, two_builds: bool) {
+    measure_answer(what, call, two_builds, 0);
+}
+
+/// Measures a call that is answered with this reason.
+fn measure_answer(what: &str, call: Call, two_builds: bool, reason: u32) {
     let mut sides = Side::all(&call, two_builds);
     let answers: Vec<Vec<u32>> = sides.iter_mut().map(Side::answer).collect();
-    assert!(answers.iter().all(|answer| *answer == answers[0]) && same(&sides), "{what}: the sides differ, {answers:?}");
-    assert_eq!(answers[0][0], 0, "{what}: refused");
+    assert!(answers.iter().all(|answer| answers[0].starts_with(answer)) && same(&sides), "{what}: the sides differ, {answers:?}");
+    assert_eq!(answers[0][0], reason, "{what}: another reason");
     let mut sample = |side: usize, turns| time(turns, || drop(std::hint::black_box(sides[side].answer())));
     let once = sample(0, 1);
     let turns = (SAMPLE.as_secs_f64() / once).clamp(1.0, 1000.0) as u32;
@@ -287,7 +307,7 @@ fn measure_of(what: &str, call: Call, two_builds: bool) {
     let times = samples(count, answers.len(), |side| sample(side, turns) * 1e6);
     let [slots, arcs, nodes, edits] = call.size().map(|n| n.map_or("-".to_string(), |n| n.to_string()));
     let (outcome, columns) = (call.outcome(&answers[0]), columns(&times));
-    println!("{what:44} {slots:>5} {arcs:>6} {nodes:>5} {edits:>5}  {outcome:24} {columns}");
+    println!("{what:44} {slots:>5} {arcs:>6} {nodes:>5} {edits:>5}  {outcome:26} {columns}");
 }
 
 /// Whether there is an earlier build, with all the names.
@@ -304,25 +324,61 @@ fn listing() {
     let (sparse, dense) = (inputs::random(SLOTS, 2), inputs::full(SLOTS));
     title("Listing: nodes, on a sparse and on a dense site");
     for n in [64, 128, 256, 512, 1024, NODES] {
-        measure("one path: nots, diamonds, boxes; sparse", Call::List(sparse.clone(), inputs::line(n)));
-        measure("one path: nots, diamonds, boxes; dense", Call::List(dense.clone(), inputs::line(n)));
-        measure("shared: ors, ands, diamonds, boxes; sparse", Call::List(sparse.clone(), inputs::mixed(n, E + 1)));
-        measure("shared: ors, ands, diamonds, boxes; dense", Call::List(dense.clone(), inputs::mixed(n, E + 1)));
+        measure("one path: nots, diamonds, boxes; sparse", Call::list(sparse.clone(), inputs::line(n)));
+        measure("one path: nots, diamonds, boxes; dense", Call::list(dense.clone(), inputs::line(n)));
+        measure("shared: ors, ands, diamonds, boxes; sparse", Call::list(sparse.clone(), inputs::mixed(n, E + 1)));
+        measure("shared: ors, ands, diamonds, boxes; dense", Call::list(dense.clone(), inputs::mixed(n, E + 1)));
     }
     title("Listing: paths, each node the or of the one before with itself");
     for k in [1, 10, 100, 1000, 2000] {
-        measure(&format!("2^{k} paths"), Call::List(sparse.clone(), inputs::shared(k + 1)));
+        measure(&format!("2^{k} paths"), Call::list(sparse.clone(), inputs::shared(k + 1)));
     }
     title("Listing: one loop, along one way");
     for (what, way) in [("link 0", 0), ("reverse of link 0", 8), ("link 4", 4), ("reverse of link 4", 12)] {
-        measure(&format!("mu along {what}; sparse"), Call::List(sparse.clone(), inputs::reach(way)));
-        measure(&format!("mu along {what}; dense"), Call::List(dense.clone(), inputs::reach(way)));
+        measure(&format!("mu along {what}; sparse"), Call::list(sparse.clone(), inputs::reach(way)));
+        measure(&format!("mu along {what}; dense"), Call::list(dense.clone(), inputs::reach(way)));
     }
     title("Listing: nested loops, mu and nu in turn, on a chain");
     for (depth, sizes) in [(1, [16, 64, 256]), (2, [16, 64, 256]), (3, [16, 32, 64])] {
         for n in sizes {
-            measure(&format!("{depth} deep"), Call::List(inputs::chain(n), inputs::nested(depth)));
+            measure(&format!("{depth} deep"), Call::list(inputs::chain(n), inputs::nested(depth)));
         }
+    }
+    limits();
+}
+
+/// Rounds and limits: a limit that is just enough, and limits that are not; small bodies at the end of a long table; and a long body, which is the
+/// most that a round can take.
+fn limits() {
+    let measure = |what: &str, call, reason| measure_answer(what, call, cfg!(before_limit), reason);
+    let (chain, dense) = (inputs::chain(SLOTS), inputs::full(SLOTS));
+    title_of("Listing: limits, on a chain", cfg!(before_limit));
+    for limit in [100, 1_000, 10_000] {
+        measure(&format!("2 deep, limit {limit}"), Call::List(chain.clone(), inputs::nested(2), limit), 15);
+    }
+    measure("2 deep, limit 65792", Call::List(chain.clone(), inputs::nested(2), 65_792), 0);
+    measure("16 deep, highest limit", Call::list(chain.clone(), inputs::nested(16)), 15);
+    measure("2^19 paths to a loop, highest limit", Call::list(chain.clone(), inputs::shared_loop(19)), 0);
+    measure("2^2000 paths to a loop, highest limit", Call::list(chain.clone(), inputs::shared_loop(2000)), 15);
+    title_of("Listing: loops at the end of a table, on a chain", cfg!(before_limit));
+    for n in [16, 128, NODES] {
+        measure("1 deep, three nodes in the body", Call::list(chain.clone(), inputs::behind(n, 1)), 0);
+        measure("2 deep", Call::list(chain.clone(), inputs::behind(n, 2)), 0);
+    }
+    title_of("Listing: loops 3 deep around 1,990 diamonds, on a dense site", cfg!(before_limit));
+    for limit in [10, 100] {
+        measure(&format!("limit {limit}"), Call::List(dense.clone(), inputs::around(1990), limit), 15);
+    }
+}
+
+/// The worst list that is known, once for each side, in seconds. Some take a quarter of an hour.
+fn worst() {
+    println!("\nListing: loops 3 deep around 1,990 diamonds, on a dense site, highest limit; seconds");
+    let call = Call::list(inputs::full(SLOTS), inputs::around(1990));
+    for (what, ask) in [("library", Call::library as fn(&Call, &mut Buffers) -> Vec<u32>), ("Rust", Call::rust)] {
+        let mut out = Buffers::new();
+        let seconds = time(1, || assert_eq!(ask(&call, &mut out)[0], 15));
+        println!("{what:10} {seconds:>10.1}");
     }
 }
 
@@ -425,6 +481,11 @@ fn jobs() {
         measure("R, 16 edits", inputs::reach(4), inputs::small_edits(16));
         measure("1,024 nodes, 64 AP", inputs::mixed(1024, E + 1), inputs::labels(64, 0));
     }
+    title_of("Jobs: loops in loops, highest limit", cfg!(before_limit));
+    for (depth, reason) in [(2, 0), (16, 15)] {
+        let job = Call::job(inputs::chain(SLOTS), inputs::nested(depth), inputs::cuts(1));
+        measure_answer(&format!("{depth} deep, DT1; a chain"), job, cfg!(before_limit), reason);
+    }
 }
 
 fn all() {
@@ -449,8 +510,9 @@ fn main() {
         Some("job") => jobs(),
         Some("sets") => sets::show(),
         Some("stack") => stack::show(),
+        Some("worst") => worst(),
         Some(other) => {
-            eprintln!("{other} is none of list, apply, rewrite, through, classes, job, sets and stack");
+            eprintln!("{other} is none of list, apply, rewrite, through, classes, job, sets, stack and worst");
             std::process::exit(2);
         }
     }

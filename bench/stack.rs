@@ -60,9 +60,9 @@ pub fn show() {
     let base = used(None);
     println!("\nStack of the library, bytes");
     for (what, call) in [
-        ("listing, 2,047 nested loops", Call::List(dense.clone(), loops.clone())),
-        ("listing, a line of 2,048 nodes", Call::List(dense.clone(), inputs::line(NODES))),
-        ("listing, one node", Call::List(dense.clone(), inputs::shared(1))),
+        ("listing, 2,047 nested loops", Call::list(dense.clone(), loops.clone())),
+        ("listing, a line of 2,048 nodes", Call::list(dense.clone(), inputs::line(NODES))),
+        ("listing, one node", Call::list(dense.clone(), inputs::shared(1))),
         ("applying, 64 edits", Call::Apply(dense.clone(), inputs::slots_gone(64))),
         ("rewriting, to 1,792 nodes", Call::Rewrite(mixed.clone(), sheet.clone())),
         ("rewriting, a line of 2,048 nodes", Call::Rewrite(inputs::line(NODES), Vec::new())),

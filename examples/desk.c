@@ -58,7 +58,7 @@ static uint8_t result[DESK_SITE_BYTES], table[DESK_TABLE_BYTES], set[DESK_SET_BY
 static int lists(const uint8_t *site, const uint8_t *cond, size_t cond_len, uint8_t slots)
 {
     const uint8_t wanted[DESK_SET_BYTES] = {slots};
-    struct desk_listed r = desk_list(site, DESK_SITE_BYTES, cond, cond_len, set, sizeof set, work, sizeof work);
+    struct desk_listed r = desk_list(site, DESK_SITE_BYTES, cond, cond_len, DESK_LIMIT_MAX, set, sizeof set, work, sizeof work);
     uint32_t count = 0;
     for (int slot = 0; slot < 8; slot++)
         count += slots >> slot & 1;
@@ -89,12 +89,13 @@ static int does_not_go_through(const uint8_t *sheet, size_t sheet_len)
     return r.reason == DESK_NOT_THROUGH && r.where == 0 && zeros;
 }
 
-/* Whether the condition for the sheet's going through has this many nodes and lists on A every slot, or none if the sheet does not work. */
+/* Whether the condition for the sheet's going through has this many nodes and lists on A every slot, or none if the sheet does not work. It has no
+ * loop, so it needs no round. */
 static int through(const uint8_t *sheet, size_t sheet_len, uint32_t count, int works)
 {
     uint8_t wanted[DESK_SET_BYTES];
     struct desk_rewritten t = desk_through(sheet, sheet_len, table, sizeof table);
-    struct desk_listed r = desk_list(site_a, sizeof site_a, table, DESK_NODE_BYTES * t.nodes, set, sizeof set, work, sizeof work);
+    struct desk_listed r = desk_list(site_a, sizeof site_a, table, DESK_NODE_BYTES * t.nodes, 0, set, sizeof set, work, sizeof work);
     memset(wanted, works ? 0xff : 0, sizeof wanted);
     return t.reason == DESK_OK && t.nodes == count && r.reason == DESK_OK && r.count == (works ? (uint32_t)DESK_SLOT_COUNT : 0) &&
            memcmp(set, wanted, sizeof set) == 0;
@@ -107,9 +108,10 @@ enum { S1 = 1 << 1, S2 = 1 << 2, S3 = 1 << 3, S4 = 1 << 4 };
 static void check_lists(void)
 {
     check("A lists R at {1, 2, 3}", lists(site_a, condition_r, sizeof condition_r, S1 | S2 | S3));
-    struct desk_listed r = desk_list(site_a, sizeof site_a, box_of_nothing, sizeof box_of_nothing, set, sizeof set, work, sizeof work);
+    struct desk_listed r =
+        desk_list(site_a, sizeof site_a, box_of_nothing, sizeof box_of_nothing, DESK_LIMIT_MAX, set, sizeof set, work, sizeof work);
     check("box 4 of not true: 254 slots", r.reason == DESK_OK && r.count == 254 && set[0] == 0xf3);
-    r = desk_list(site_a, sizeof site_a, odd, sizeof odd, set, sizeof set, work, sizeof work);
+    r = desk_list(site_a, sizeof site_a, odd, sizeof odd, DESK_LIMIT_MAX, set, sizeof set, work, sizeof work);
     check("variable 0, not, mu 0: refused, 9, W 2", r.reason == DESK_EVEN_RULE && r.where == 2 && r.count == 0);
     check("with two nots: empty", lists(site_a, even, sizeof even, 0));
     uint8_t ring[DESK_SITE_BYTES];
@@ -117,6 +119,30 @@ static void check_lists(void)
     ring[DESK_TARGETS_AT + 1] = 3;
     check("with link 4 also 1 to 3: nu 0 (diamond 4 variable 0) {1, 2, 3}", lists(ring, nu_diamond, sizeof nu_diamond, S1 | S2 | S3));
     check("with link 4 also 1 to 3: mu, none", lists(ring, mu_diamond, sizeof mu_diamond, 0));
+}
+
+/* Whether listing on A under the limit is refused with this reason, or makes so many rounds. */
+static int makes(const uint8_t *cond, size_t cond_len, uint32_t limit, uint32_t reason, uint32_t rounds)
+{
+    struct desk_listed r = desk_list(site_a, sizeof site_a, cond, cond_len, limit, set, sizeof set, work, sizeof work);
+    return r.reason == reason && r.where == 0 && r.rounds == rounds && (reason == DESK_OK || r.count == 0);
+}
+
+static void check_rounds(void)
+{
+    static const uint8_t mu_false[] = {0, 0, 0, 0, 0, 0, 5, 0, 0, 0, 0, 0, 10, 0, 1, 0, 0, 0};
+    static const uint8_t mu_true[] = {0, 0, 0, 0, 0, 0, 10, 0, 0, 0, 0, 0};
+    static const uint8_t mu_mu_true[] = {0, 0, 0, 0, 0, 0, 10, 0, 0, 0, 0, 0, 10, 1, 1, 0, 0, 0};
+    static const uint8_t twice[] = {0, 0, 0, 0, 0, 0, 10, 0, 0, 0, 0, 0, 6, 0, 1, 0, 1, 0};
+    check("R on A: 4 rounds", makes(condition_r, sizeof condition_r, DESK_LIMIT_MAX, DESK_OK, 4));
+    check("limit 4: the same", makes(condition_r, sizeof condition_r, 4, DESK_OK, 4));
+    check("limit 3: refused, 15", makes(condition_r, sizeof condition_r, 3, DESK_ROUNDS, 0));
+    check("limit 1,000,001: refused, 16", makes(condition_r, sizeof condition_r, DESK_LIMIT_MAX + 1, DESK_LIMIT, 0));
+    check("no loop, limit 0: 0 rounds", makes(name_1, sizeof name_1, 0, DESK_OK, 0));
+    check("mu 0 (not true): 1 round", makes(mu_false, sizeof mu_false, DESK_LIMIT_MAX, DESK_OK, 1));
+    check("mu 0 true: 2 rounds", makes(mu_true, sizeof mu_true, DESK_LIMIT_MAX, DESK_OK, 2));
+    check("mu 1 (mu 0 true): 6 rounds", makes(mu_mu_true, sizeof mu_mu_true, DESK_LIMIT_MAX, DESK_OK, 6));
+    check("or of mu 0 true with itself: 4 rounds", makes(twice, sizeof twice, DESK_LIMIT_MAX, DESK_OK, 4));
 }
 
 static void check_sheets(void)
@@ -200,28 +226,33 @@ static void put_number(uint8_t *at, uint32_t number)
 static void check_job(void)
 {
     static const uint8_t sheet[] = {6, 4, 1, 0}, only_1[DESK_SET_BYTES] = {S1};
-    static uint8_t file[DESK_SITE_BYTES + sizeof condition_r + sizeof sheet + DESK_TRAILER_BYTES];
-    uint8_t *cond = file + DESK_SITE_BYTES, *edits = cond + sizeof condition_r, *trailer = edits + sizeof sheet, today[DESK_SET_BYTES];
+    static uint8_t file[DESK_SITE_BYTES + sizeof condition_r + sizeof sheet + DESK_TRAILER_BYTES], today[DESK_SET_BYTES];
+    uint8_t *cond = file + DESK_SITE_BYTES, *edits = cond + sizeof condition_r, *trailer = edits + sizeof sheet;
     memcpy(file, site_a, sizeof site_a);
     memcpy(cond, condition_r, sizeof condition_r);
     memcpy(edits, sheet, sizeof sheet);
     put_number(trailer, (uint32_t)(trailer - edits));
     put_number(trailer + 4, (uint32_t)(trailer - cond));
     put_number(trailer + 8, (uint32_t)(trailer - file));
-    struct desk_done r = desk_job(file, sizeof file, result, sizeof result, table, sizeof table, set, sizeof set, today, sizeof today,
-                                  classes, sizeof classes, work, sizeof work);
+    struct desk_done r = desk_job(file, sizeof file, DESK_LIMIT_MAX, result, sizeof result, table, sizeof table, set, sizeof set,
+                                  today, sizeof today, classes, sizeof classes, work, sizeof work);
     check("J: accepted", r.reason == DESK_OK && r.where == 0);
     check("J: after {1}", r.after == 1 && memcmp(set, only_1, sizeof set) == 0);
     check("J: rewritten {1}", r.today == 1 && memcmp(today, only_1, sizeof today) == 0);
     check("J: 8 nodes", r.nodes == 8);
     check("J: 5 classes", r.classes == 5);
+    check("J: 2 rounds for each list", r.after_rounds == 2 && r.today_rounds == 2);
     check("J: the link from 2 is gone, the one from 3 stays", result[DESK_TARGETS_AT + 2] == 0 && result[DESK_TARGETS_AT + 3] == 2);
+    r = desk_job(file, sizeof file, 1, result, sizeof result, table, sizeof table, set, sizeof set, today, sizeof today,
+                 classes, sizeof classes, work, sizeof work);
+    check("J, limit 1: refused, 15", r.reason == DESK_ROUNDS && r.where == 0 && r.nodes == 0 && table[0] == 0 && result[0] == 0);
 }
 
 int main(void)
 {
     build_a(site_a);
     check_lists();
+    check_rounds();
     check_sheets();
     check_through();
     check_classes();

@@ -61,6 +61,9 @@ static const uint8_t idle_fan[] = {
 
 static const uint8_t pull[] = {DESK_EDIT_INIT(DESK_OP_DS, PULLED, 0, 0)};
 
+/* A planner does not wait for more rounds than these. The conditions above take a few, one for each place on the longest chain. */
+enum { ROUNDS_MOST = 10000 };
+
 /* ---- building */
 
 static void put_slot(uint8_t *set, int slot)
@@ -139,8 +142,8 @@ static int build_check(struct check *check)
 static int ask_check(const struct check *check, const uint8_t *site, int *works)
 {
     static uint8_t set[DESK_SET_BYTES], work[DESK_WORK_BYTES];
-    struct desk_listed listed = desk_list(site, DESK_SITE_BYTES, check->table, DESK_NODE_BYTES * check->built.nodes, set, sizeof set,
-                                          work, sizeof work);
+    struct desk_listed listed = desk_list(site, DESK_SITE_BYTES, check->table, DESK_NODE_BYTES * check->built.nodes, ROUNDS_MOST,
+                                          set, sizeof set, work, sizeof work);
     *works = listed.count == DESK_SLOT_COUNT;
     return refused(listed.reason, listed.where);
 }
@@ -150,9 +153,9 @@ static int ask(struct plan *plan, const uint8_t *site, const uint8_t *cond, size
 {
     static uint8_t file[DESK_FILE_BYTES_MAX], table[DESK_TABLE_BYTES], classes[DESK_CLASSES_BYTES], work[DESK_WORK_BYTES];
     size_t length = build_file(file, site, cond, cond_len, pull, sizeof pull);
-    plan->listed = desk_list(site, DESK_SITE_BYTES, cond, cond_len, plan->before, sizeof plan->before, work, sizeof work);
-    plan->done = desk_job(file, length, plan->site_after, sizeof plan->site_after, table, sizeof table, plan->after, sizeof plan->after,
-                          plan->today, sizeof plan->today, classes, sizeof classes, work, sizeof work);
+    plan->listed = desk_list(site, DESK_SITE_BYTES, cond, cond_len, ROUNDS_MOST, plan->before, sizeof plan->before, work, sizeof work);
+    plan->done = desk_job(file, length, ROUNDS_MOST, plan->site_after, sizeof plan->site_after, table, sizeof table,
+                          plan->after, sizeof plan->after, plan->today, sizeof plan->today, classes, sizeof classes, work, sizeof work);
     return refused(plan->listed.reason, plan->listed.where) || refused(plan->done.reason, plan->done.where);
 }
 

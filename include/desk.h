@@ -4,9 +4,10 @@
  * offset of each part of a site, the kinds of node, the ways, the operations, the lengths of buffers and the reasons for a refusal.
  * examples/plan.c shows them in use.
  *
- * Every input gets an answer. Either the reason is DESK_OK and the result is complete; or the reason is the lowest item that the input
+ * Every input gets an answer. Either the reason is DESK_OK and the result is complete; or the reason is the first item that the input
  * meets. In that case `where` is the node or edit at fault, counted from 0 (0 if the item names none), every result and work buffer is
- * all zeros, whatever its length, and the counts are 0. Items are tested in order, each over all the inputs of the function.
+ * all zeros, whatever its length, and the counts and rounds are 0. Items are tested in the order 1, 16, 2 to 15, each over all the inputs of the
+ * function.
  *
  * Each pointer must be valid for its length and must not be NULL, even for a length of 0. No result or work buffer may overlap another
  * buffer or an input. Inputs are only read. Nothing is kept between calls, so several threads may call at the same time.
@@ -24,10 +25,21 @@
  *                  second has longer paths: DS, for instance, puts three nodes on the path for each diamond
  *   desk_through   31 KB, plus 110 bytes for each node on the longest path of the table; at most 42 KB was measured, for a path of 249 nodes
  *
- * Time. There is no limit on rounds. A mu or nu is evaluated round by round, in up to DESK_SLOT_COUNT rounds. If it reads the variable of a
- * loop around it, it starts again in every round of that loop, so the rounds of nested loops multiply. On a chain of 256 slots one loop
- * took 0.1 ms, two nested loops took 24 ms and three took seconds. Everything measured without nested loops took less than 50 ms. If conditions come
- * from strangers, call desk_list and desk_job in a process that you can end.
+ * Rounds. A round is one evaluation of the body of a mu or nu. A mu starts from the empty set, a nu from the set of all slots, and both go on until
+ * the body gives back the set that it was given; this last evaluation counts too. The rounds of a list are those of the whole tree of its condition:
+ * both operands of an or or an and are evaluated, whatever the other is; a loop that is shared counts once for each path to it from the last node;
+ * a loop inside another starts again, and counts, in every round of the other, also if it does not read the other's variable; a loop that the last
+ * node does not reach counts 0. desk_list and desk_job take a limit on this number, from 0 to DESK_LIMIT_MAX, and their answers carry the number:
+ *
+ * - Rounds up to the limit are answered, more are refused with DESK_ROUNDS, and this is the last test of all.
+ * - An answer or a refusal that is not DESK_ROUNDS is the same under each larger limit up to DESK_LIMIT_MAX: every number and every byte.
+ * - Each of the two lists of a job has the whole limit for itself. The list of the rewritten table never has fewer rounds than the other, and has
+ *   more where an edit is AT or DT1, whose blocks have the node below a diamond or a box twice.
+ *
+ * Time. The rounds of nested loops multiply, since each loop makes up to DESK_SLOT_COUNT + 1 of them. The limit bounds them, and with them the time: a
+ * round evaluates each node of its body at most once, and what does not depend on a variable that has changed is not evaluated again, though it
+ * counts. On a chain of 256 slots one loop took 0.1 ms and two nested loops, 66,000 rounds, took 24 ms. If conditions come from strangers, give a
+ * limit that suits your time: a body of 2,000 diamonds takes up to half a millisecond in each round.
  */
 #ifndef DESK_H
 #define DESK_H
@@ -145,6 +157,9 @@ enum desk_operation {
 
 #define DESK_STACK_BYTES 4194304
 
+/* The highest limit on rounds that desk_list and desk_job take. */
+#define DESK_LIMIT_MAX 1000000
+
 /* ---- why an input is refused: the items of docs/SPEC.md, "Reasons". `where` is 0 unless the comment names it */
 enum desk_reason {
     DESK_OK = 0,
@@ -164,7 +179,9 @@ enum desk_reason {
     DESK_EDIT = 12,             /* an edit has an unknown operation, an operand out of range or forbidden, or an unused operand that is
                                  * not 0; where: the lowest such edit */
     DESK_NOT_THROUGH = 13,      /* an edit does not go through on the site that the edits before it leave; where: the first such edit */
-    DESK_TABLE_FULL = 14        /* after some edit the table of desk_rewrite or desk_through has over 2,048 nodes */
+    DESK_TABLE_FULL = 14,       /* after some edit the table of desk_rewrite or desk_through has over 2,048 nodes */
+    DESK_ROUNDS = 15,           /* a list makes more rounds than the limit; tested after all others */
+    DESK_LIMIT = 16             /* the limit is over DESK_LIMIT_MAX; tested right after DESK_BUFFER_LENGTH */
 };
 
 /* ---- the answers. `reason` is a number of enum desk_reason */
@@ -172,6 +189,7 @@ enum desk_reason {
 struct desk_listed {
     uint32_t reason, where;
     uint32_t count;             /* how many slots are in the set */
+    uint32_t rounds;            /* how many rounds listing made */
 };
 
 struct desk_applied {
@@ -193,10 +211,13 @@ struct desk_done {
     uint32_t after, today;      /* how many slots the condition lists on the site after, and the rewritten table on the site of the file */
     uint32_t nodes;             /* how many nodes the rewritten table has */
     uint32_t classes;           /* how many different class numbers the site after has */
+    uint32_t after_rounds;      /* how many rounds the condition's list on the site after made */
+    uint32_t today_rounds;      /* and how many the rewritten table's on the site of the file */
 };
 
-/* Writes the set of slots where the condition holds on the site into `set` (DESK_SET_BYTES). Items 1, 3 to 10. */
-struct desk_listed desk_list(const uint8_t *site, size_t site_len, const uint8_t *cond, size_t cond_len,
+/* Writes the set of slots where the condition holds on the site into `set` (DESK_SET_BYTES), if that takes no more rounds than the limit. Items 1,
+ * 16, 3 to 10, 15. */
+struct desk_listed desk_list(const uint8_t *site, size_t site_len, const uint8_t *cond, size_t cond_len, uint32_t limit,
                              uint8_t *set, size_t set_len, uint8_t *work, size_t work_len);
 
 /* Writes the site that the whole sheet leaves into `result` (DESK_SITE_BYTES). Items 1, 3 to 6, 11 to 13. */
@@ -218,10 +239,11 @@ struct desk_rewritten desk_through(const uint8_t *sheet, size_t sheet_len, uint8
  * Items 1, 3 to 6. */
 struct desk_classed desk_classes(const uint8_t *site, size_t site_len, uint8_t *classes, size_t classes_len);
 
-/* Runs a job file. Writes the site after into `site`, the rewritten table into `table`, the condition's set on the site after into `after`,
- * the rewritten table's set on the site of the file into `today`, and the class numbers of the site after into `classes`. Items 1 to 14. */
-struct desk_done desk_job(const uint8_t *file, size_t file_len, uint8_t *site, size_t site_len, uint8_t *table, size_t table_len,
-                          uint8_t *after, size_t after_len, uint8_t *today, size_t today_len,
+/* Runs a job file, if neither list takes more rounds than the limit. Writes the site after into `site`, the rewritten table into `table`, the
+ * condition's set on the site after into `after`, the rewritten table's set on the site of the file into `today`, and the class numbers of the site
+ * after into `classes`. Items 1, 16, 2 to 15. */
+struct desk_done desk_job(const uint8_t *file, size_t file_len, uint32_t limit, uint8_t *site, size_t site_len,
+                          uint8_t *table, size_t table_len, uint8_t *after, size_t after_len, uint8_t *today, size_t today_len,
                           uint8_t *classes, size_t classes_len, uint8_t *work, size_t work_len);
 
 #ifdef __cplusplus

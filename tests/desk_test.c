@@ -3,8 +3,9 @@
  * Each job goes through desk_job, its pieces through the other five functions, and once more through one of the six with each buffer in
  * turn a byte short or a byte long, and with buffers of other wrong lengths. Results, counts, reasons and W are compared, and every byte
  * of every buffer; buffers are filled with 0xAA before, inputs must stay as they are, and the memory after each input and buffer may not
- * be touched. The condition for a sheet's going through is listed on the job's site, and applying has to agree with it. The first difference
- * ends the run with 1, and so does something that so many jobs should have met and have not. */
+ * be touched. Listing and the job get limits about the rounds that they make, and then a larger one, under which nothing may change. The condition
+ * for a sheet's going through is listed on the job's site, and applying has to agree with it. The first difference ends the run with 1, and so does
+ * something that so many jobs should have met and have not. */
 #define _DEFAULT_SOURCE
 #include "random_jobs.h"
 
@@ -15,7 +16,9 @@
 #include <sys/mman.h>
 
 static uint64_t seed;
-static int job = -1; /* below 0: a case with a known answer */
+static int job = -1;                      /* below 0: a case with a known answer */
+static uint32_t limit = DESK_LIMIT_MAX;   /* on the rounds of a list, for listing and the job */
+static uint32_t larger = DESK_LIMIT_MAX;  /* another one, if there is a larger one */
 
 static void fail(const char *function, const char *what)
 {
@@ -70,6 +73,13 @@ static void open_buffer(int number, size_t length)
     memset(b->oracle, 0xaa, length);
 }
 
+/* The library's buffers for another call; the oracle's keep what they have. */
+static void refill_buffers(int count)
+{
+    for (int k = 0; k < count; k++)
+        memset(buffers[k].at, 0xaa, buffers[k].length);
+}
+
 static bool all_zero(const uint8_t *at, size_t length)
 {
     return length == 0 || (at[0] == 0 && memcmp(at, at + 1, length - 1) == 0);
@@ -113,6 +123,8 @@ enum { AT_NIL, ALONE, SHARED, PLACES };    /* where a name is: at nil, at a slot
 enum { HIGH = LABELS };                    /* the first name whose number no label has, nor a variable: there are as many */
 enum { MARKED, UNMARKED, ASKED, EFFECTS }; /* AP: the name is on site; it is at nil; and then the condition has the label, too */
 enum { NIL_ALONE, ABSENT, STRAYS };        /* where labels are that may not be: on slot 0 alone, or on absent slots */
+enum { WITHIN, EQUAL, OVER_BY_ONE, FAR_OVER, STANDINGS };       /* how the rounds of a list, one at least, stand to the limit */
+enum { BOTH_OVER, TODAY_OVER, SUM_OVER, TODAY_EQUAL, SHAREDS }; /* which of a job's lists are over the limit, or just within it */
 
 static struct {
     unsigned long reasons[ENTRIES][REASONS];
@@ -127,6 +139,10 @@ static struct {
     unsigned long shorter[BUFFERS], longer[BUFFERS];         /* calls with this buffer a byte short, a byte long */
     unsigned long listed;                                    /* lists that are not empty */
     unsigned long works[2];                                  /* sheets whose condition listed no slot, and every slot */
+    unsigned long standings[STANDINGS];                      /* accepted conditions */
+    unsigned long shareds[SHAREDS];                          /* jobs that items 2 to 14 accept */
+    unsigned long walked;                                    /* lists with rounds whose tree was walked */
+    unsigned long larger[2];                                 /* refusals and answers that were the same under a larger limit */
 } met;
 
 static void meet_nodes(void)
@@ -219,25 +235,105 @@ static void meet_strays(void)
     met.strays[absent ? ABSENT : NIL_ALONE]++;
 }
 
+/* ---- limits */
+
+static uint32_t least(uint32_t one, uint32_t other)
+{
+    return one < other ? one : other;
+}
+
+/* A limit for a list that makes so many rounds: about them for the most part, and sometimes too high. */
+static uint32_t some_limit(uint32_t rounds)
+{
+    switch (below(8)) {
+    case 0:
+        return DESK_LIMIT_MAX;
+    case 1:
+        return one_in(2) ? DESK_LIMIT_MAX + 1 : (uint32_t)below(1 << 30) * 4 + 3;
+    case 2:
+        return (uint32_t)below(rounds < 4 ? 4 : (int)least(2 * rounds, DESK_LIMIT_MAX));
+    case 3:
+        return least(rounds + (uint32_t)below(3), DESK_LIMIT_MAX);
+    case 4:
+    case 5:
+        return rounds == 0 ? 0 : least(rounds - 1, DESK_LIMIT_MAX);
+    default:
+        return least(rounds, DESK_LIMIT_MAX);
+    }
+}
+
+static void set_limit(uint32_t rounds)
+{
+    limit = larger = some_limit(rounds);
+    const uint32_t room = limit < DESK_LIMIT_MAX ? DESK_LIMIT_MAX - limit : 0;
+    if (room > 0)
+        larger += 1 + (uint32_t)below((int)(one_in(2) ? least(3, room) : room));
+}
+
+static void meet_standing(uint32_t rounds)
+{
+    if (rounds > 0 && limit <= DESK_LIMIT_MAX)
+        met.standings[rounds < limit ? WITHIN : rounds == limit ? EQUAL : rounds == limit + 1 ? OVER_BY_ONE : FAR_OVER]++;
+}
+
+/* Rewriting takes no path away, so that today's list never has fewer rounds. */
+static void meet_shared(uint32_t after, uint32_t today)
+{
+    if (after > today)
+        fail("desk_job", "the order of the rounds");
+    if (limit > DESK_LIMIT_MAX)
+        return;
+    met.shareds[BOTH_OVER] += after > limit;
+    met.shareds[TODAY_OVER] += after <= limit && today > limit;
+    met.shareds[SUM_OVER] += today <= limit && after + today > limit;
+    met.shareds[TODAY_EQUAL] += today == limit && after < today;
+}
+
+/* The list and its rounds by a walk over the tree. */
+static void check_walk(const struct desk_listed *listed)
+{
+    uint8_t set[DESK_SET_BYTES];
+    uint32_t rounds;
+    const bool walked = oracle_walk(site.at, cond.at, cond.length, set, &rounds);
+    if (walked && (rounds != listed->rounds || memcmp(set, buffers[0].oracle, sizeof set) != 0))
+        fail("oracle_walk", "the list or its rounds");
+    met.walked += walked && listed->rounds > 0;
+}
+
 /* ---- the calls: each gives its reason */
 
 #define BUFFER(k) buffers[k].at, buffers[k].length
 #define ORACLE(k) buffers[k].oracle, buffers[k].length
 #define INPUT(i) (i).at, (i).from->length
 
+/* A refusal for the rounds, or for the limit itself, may be another answer under another limit; nothing else may. */
+static bool stays(uint32_t reason)
+{
+    met.larger[reason == DESK_OK] += limit < larger && reason != DESK_ROUNDS;
+    return limit < larger && reason != DESK_ROUNDS;
+}
+
 static uint32_t try_list(const size_t *lengths)
 {
     struct input a = lend(0, &site), b = lend(1, &cond);
     for (int k = 0; k < 2; k++)
         open_buffer(k, lengths[k]);
-    struct desk_listed one = desk_list(INPUT(a), INPUT(b), BUFFER(0), BUFFER(1));
-    struct desk_listed other = oracle_list(INPUT(a), INPUT(b), ORACLE(0), ORACLE(1));
+    struct desk_listed one = desk_list(INPUT(a), INPUT(b), limit, BUFFER(0), BUFFER(1));
+    struct desk_listed other = oracle_list(INPUT(a), INPUT(b), limit, ORACLE(0), ORACLE(1));
     check_numbers("desk_list", &one, &other, sizeof one);
     check_buffers("desk_list", 2, other.reason, 1);
+    if (stays(other.reason)) {
+        refill_buffers(2);
+        one = desk_list(INPUT(a), INPUT(b), larger, BUFFER(0), BUFFER(1));
+        check_numbers("desk_list under a larger limit", &one, &other, sizeof one);
+        check_buffers("desk_list under a larger limit", 2, other.reason, 1);
+    }
     check_input("desk_list", a);
     check_input("desk_list", b);
-    if (other.reason == DESK_OK)
+    if (other.reason == DESK_OK) {
         meet_nodes();
+        check_walk(&other);
+    }
     met.listed += other.count != 0;
     return other.reason;
 }
@@ -310,10 +406,16 @@ static uint32_t try_job(const size_t *lengths)
     struct input a = lend(0, &file);
     for (int k = 0; k < BUFFERS_MOST; k++)
         open_buffer(k, lengths[k]);
-    struct desk_done one = desk_job(INPUT(a), BUFFER(0), BUFFER(1), BUFFER(2), BUFFER(3), BUFFER(4), BUFFER(5));
-    struct desk_done other = oracle_job(INPUT(a), ORACLE(0), ORACLE(1), ORACLE(2), ORACLE(3), ORACLE(4), ORACLE(5));
+    struct desk_done one = desk_job(INPUT(a), limit, BUFFER(0), BUFFER(1), BUFFER(2), BUFFER(3), BUFFER(4), BUFFER(5));
+    struct desk_done other = oracle_job(INPUT(a), limit, ORACLE(0), ORACLE(1), ORACLE(2), ORACLE(3), ORACLE(4), ORACLE(5));
     check_numbers("desk_job", &one, &other, sizeof one);
     check_buffers("desk_job", BUFFERS_MOST, other.reason, 5);
+    if (stays(other.reason)) {
+        refill_buffers(BUFFERS_MOST);
+        one = desk_job(INPUT(a), larger, BUFFER(0), BUFFER(1), BUFFER(2), BUFFER(3), BUFFER(4), BUFFER(5));
+        check_numbers("desk_job under a larger limit", &one, &other, sizeof one);
+        check_buffers("desk_job under a larger limit", BUFFERS_MOST, other.reason, 5);
+    }
     check_input("desk_job", a);
     if (other.reason == DESK_OK && memcmp(buffers[2].at, buffers[3].at, DESK_SET_BYTES) != 0)
         fail("desk_job", "the list today from the list after");
@@ -340,8 +442,8 @@ static uint32_t try_entry(int e, const size_t *lengths)
     return reason;
 }
 
-/* What the condition for going through says is what applying does: listed on the site at hand it has every slot, or none. The library's own
- * tables and lists, so that a mistake that the oracle shares shows too. */
+/* What the condition for going through says is what applying does: listed on the site at hand it has every slot, or none. It has no loop, so that
+ * no round is needed. The library's own tables and lists, so that a mistake that the oracle shares shows too. */
 static void try_works(void)
 {
     static uint8_t table[DESK_TABLE_BYTES], result[DESK_SITE_BYTES], set[DESK_SET_BYTES], work[DESK_WORK_BYTES], wanted[DESK_SET_BYTES];
@@ -350,18 +452,45 @@ static void try_works(void)
     if (through.reason != DESK_OK || (applied.reason != DESK_OK && applied.reason != DESK_NOT_THROUGH))
         return;
     const bool works = applied.reason == DESK_OK;
-    struct desk_listed r = desk_list(site.at, site.length, table, DESK_NODE_BYTES * through.nodes, set, sizeof set, work, sizeof work);
+    struct desk_listed r = desk_list(site.at, site.length, table, DESK_NODE_BYTES * through.nodes, 0, set, sizeof set, work, sizeof work);
     memset(wanted, works ? 0xff : 0, sizeof wanted);
     if (r.reason != DESK_OK || r.where != 0 || r.count != (works ? SLOTS : 0) || memcmp(set, wanted, sizeof set) != 0)
         fail("desk_through", "what its table lists from what applying does");
     met.works[works]++;
 }
 
+/* The rounds of the condition on the site; one more than the highest limit for more. */
+static uint32_t list_rounds(void)
+{
+    static uint8_t set[DESK_SET_BYTES], work[DESK_WORK_BYTES];
+    struct desk_listed r = oracle_list(site.at, site.length, cond.at, cond.length, DESK_LIMIT_MAX, set, sizeof set, work, sizeof work);
+    return r.reason == DESK_ROUNDS ? DESK_LIMIT_MAX + 1 : r.rounds;
+}
+
+/* A random job gets limits about the rounds of its lists. */
+static void choose_limit(int e)
+{
+    uint32_t after = 0, today = 0;
+    if (e == LIST) {
+        const uint32_t rounds = list_rounds();
+        set_limit(rounds);
+        meet_standing(rounds);
+    } else if (e == JOB) {
+        const bool runs = oracle_rounds(file.at, file.length, &after, &today);
+        set_limit(one_in(2) ? today : after + (uint32_t)below((int)(today - after) + 1));
+        if (runs)
+            meet_shared(after, today);
+    }
+}
+
 /* The job at hand through all six, with buffers as they should be. */
 static void try_all(void)
 {
-    for (int e = 0; e < ENTRIES; e++)
+    for (int e = 0; e < ENTRIES; e++) {
+        if (job >= 0)
+            choose_limit(e);
         try_entry(e, entries[e].lengths);
+    }
     try_works();
 }
 
@@ -464,7 +593,7 @@ static void build_sheet(int op, int x, int y, int z)
 static void expect_list(uint32_t reason, uint32_t number, const char *what)
 {
     static uint8_t set[DESK_SET_BYTES], work[DESK_WORK_BYTES];
-    struct desk_listed r = desk_list(site.at, site.length, cond.at, cond.length, set, sizeof set, work, sizeof work);
+    struct desk_listed r = desk_list(site.at, site.length, cond.at, cond.length, DESK_LIMIT_MAX, set, sizeof set, work, sizeof work);
     expect(r.reason == reason && (reason ? r.where : r.count) == number, what);
 }
 
@@ -490,7 +619,7 @@ static void expect_works(bool works, const char *what)
 {
     static uint8_t table[DESK_TABLE_BYTES], set[DESK_SET_BYTES], work[DESK_WORK_BYTES];
     struct desk_rewritten t = desk_through(sheet.at, sheet.length, table, sizeof table);
-    struct desk_listed r = desk_list(site.at, site.length, table, DESK_NODE_BYTES * t.nodes, set, sizeof set, work, sizeof work);
+    struct desk_listed r = desk_list(site.at, site.length, table, DESK_NODE_BYTES * t.nodes, 0, set, sizeof set, work, sizeof work);
     expect(t.reason == DESK_OK && r.reason == DESK_OK && r.count == (works ? SLOTS : 0), what);
     try_works();
 }
@@ -500,30 +629,34 @@ static void expect_job(uint32_t reason, uint32_t count, const char *what)
 {
     static uint8_t result[DESK_SITE_BYTES], table[DESK_TABLE_BYTES], after[DESK_SET_BYTES], today[DESK_SET_BYTES];
     static uint8_t classes[DESK_CLASSES_BYTES], work[DESK_WORK_BYTES];
-    struct desk_done r = desk_job(file.at, file.length, result, sizeof result, table, sizeof table, after, sizeof after,
+    struct desk_done r = desk_job(file.at, file.length, DESK_LIMIT_MAX, result, sizeof result, table, sizeof table, after, sizeof after,
                                   today, sizeof today, classes, sizeof classes, work, sizeof work);
     expect(r.reason == reason && r.where == 0 && r.after == count && r.today == count, what);
 }
 
-/* Chains of 2,048 nodes, which may be too deep for the oracle. */
+/* Chains of 2,048 nodes, which may be too deep for the oracle. The rounds of a loop double with each loop around it. */
 static void try_chains(void)
 {
     build_a();
     sheet.length = 0;
     for (int kind = NOT; kind <= NU; kind++) {
-        const uint32_t count = kind == NOT ? 255 : kind == DIAMOND ? 0 : kind == BOX ? SLOTS : 1;
+        const bool loops = kind == MU || kind == NU;
+        const uint32_t reason = loops ? DESK_ROUNDS : DESK_OK;
+        const uint32_t count = loops ? 0 : kind == NOT ? 255 : kind == DIAMOND ? 0 : kind == BOX ? SLOTS : 1;
         build_chain(kind, 0, DESK_NODES_MAX);
         build_file();
         try_entry(REWRITE, entries[REWRITE].lengths);
-        expect_list(DESK_OK, count, "a chain of 2,048 nodes");
-        expect_job(DESK_OK, count, "a job with a chain of 2,048 nodes");
+        expect_list(reason, count, "a chain of 2,048 nodes");
+        expect_job(reason, count, "a job with a chain of 2,048 nodes");
     }
     build_chain(NOT, 0, DESK_NODES_MAX - 1);
     expect_list(DESK_OK, 1, "2,046 nots over label 0");
     build_chain(DIAMOND, EVERYWHERE, DESK_NODES_MAX);
     expect_list(DESK_OK, SLOTS, "2,047 times everywhere");
-    build_chain(MU, 3, DESK_NODES_MAX);
-    expect_list(DESK_OK, 1, "2,047 loops without their variable");
+    build_chain(MU, 3, 19);
+    expect_list(DESK_OK, 1, "18 loops without their variable");
+    build_chain(MU, 3, 20);
+    expect_list(DESK_ROUNDS, 0, "19 loops without their variable");
 }
 
 /* "2,048 nodes pass; 12,294 bytes are refused, 7." */
@@ -967,7 +1100,7 @@ static void try_single_names(void)
         build_spread();
         site.at[NAMES_AT + n] = (uint8_t)s;
         build_name(n);
-        struct desk_listed r = desk_list(site.at, site.length, cond.at, cond.length, set, sizeof set, work, sizeof work);
+        struct desk_listed r = desk_list(site.at, site.length, cond.at, cond.length, DESK_LIMIT_MAX, set, sizeof set, work, sizeof work);
         expect(r.reason == DESK_OK && r.count == 1 && set[s / 8] == 1 << s % 8, "the list of a name");
         try_entry(LIST, entries[LIST].lengths);
     }
@@ -1090,7 +1223,7 @@ static void flip(uint8_t *set, int slot)
 static void expect_set(bool in, int count, const int *slots, const char *what)
 {
     static uint8_t set[DESK_SET_BYTES], work[DESK_WORK_BYTES], wanted[DESK_SET_BYTES];
-    struct desk_listed r = desk_list(site.at, site.length, cond.at, cond.length, set, sizeof set, work, sizeof work);
+    struct desk_listed r = desk_list(site.at, site.length, cond.at, cond.length, DESK_LIMIT_MAX, set, sizeof set, work, sizeof work);
     memset(wanted, in ? 0 : 0xff, sizeof wanted);
     for (int k = 0; k < count; k++)
         flip(wanted, slots[k]);
@@ -1507,6 +1640,428 @@ static void try_nil(void)
     try_long_marks();
 }
 
+/* ---- rounds */
+
+enum { MANY = DESK_LIMIT_MAX + 1 }; /* more rounds than any limit allows */
+
+/* What the limit says of a list with so many rounds. */
+static uint32_t due(uint32_t rounds)
+{
+    return limit > DESK_LIMIT_MAX ? DESK_LIMIT : rounds > limit ? DESK_ROUNDS : DESK_OK;
+}
+
+static void expect_list_rounds(uint32_t rounds, const char *what)
+{
+    static uint8_t set[DESK_SET_BYTES], work[DESK_WORK_BYTES];
+    const uint32_t reason = due(rounds);
+    memset(set, 0xaa, sizeof set);
+    memset(work, 0xaa, sizeof work);
+    struct desk_listed r = desk_list(site.at, site.length, cond.at, cond.length, limit, set, sizeof set, work, sizeof work);
+    expect(r.reason == reason && r.where == 0 && r.rounds == (reason ? 0 : rounds) && all_zero(work, sizeof work), what);
+    expect(reason == DESK_OK || (r.count == 0 && all_zero(set, sizeof set)), what);
+}
+
+static void expect_job_rounds(uint32_t after_rounds, uint32_t today_rounds, const char *what)
+{
+    static struct {
+        uint8_t site[DESK_SITE_BYTES], table[DESK_TABLE_BYTES], after[DESK_SET_BYTES], today[DESK_SET_BYTES];
+        uint8_t classes[DESK_CLASSES_BYTES], work[DESK_WORK_BYTES];
+    } to;
+    const uint32_t reason = due(today_rounds);
+    memset(&to, 0xaa, sizeof to);
+    struct desk_done r = desk_job(file.at, file.length, limit, to.site, sizeof to.site, to.table, sizeof to.table, to.after, sizeof to.after,
+                                  to.today, sizeof to.today, to.classes, sizeof to.classes, to.work, sizeof to.work);
+    expect(r.reason == reason && r.where == 0 && all_zero(to.work, sizeof to.work), what);
+    expect(r.after_rounds == (reason ? 0 : after_rounds) && r.today_rounds == (reason ? 0 : today_rounds), what);
+    expect(reason == DESK_OK || (r.after + r.today + r.nodes + r.classes == 0 && all_zero((const uint8_t *)&to, sizeof to)), what);
+}
+
+/* The list of the condition on the site, and the job, under limits about their rounds; beside the oracle where that does not take long. */
+static void try_limits(uint32_t now, uint32_t after, uint32_t today, bool beside, const char *what)
+{
+    const uint32_t limits[] = {
+        0, 1, now - (now > 0), now, now + 1, after - (after > 0), after, after + 1, today - (today > 0), today, today + 1, after + today,
+        DESK_LIMIT_MAX - 1, DESK_LIMIT_MAX, DESK_LIMIT_MAX + 1, 1u << 31, UINT32_MAX,
+    };
+    for (size_t k = 0; k < sizeof limits / sizeof *limits; k++) {
+        limit = larger = limits[k];
+        expect_list_rounds(now, what);
+        expect_job_rounds(after, today, what);
+        if (beside) {
+            expect(try_entry(LIST, entries[LIST].lengths) == due(now), what);
+            expect(try_entry(JOB, entries[JOB].lengths) == due(today), what);
+        }
+    }
+    limit = larger = DESK_LIMIT_MAX;
+}
+
+/* The condition at hand without a sheet. */
+static void expect_rounds(uint32_t rounds, bool beside, const char *what)
+{
+    sheet.length = 0;
+    build_file();
+    try_limits(rounds, rounds, rounds, beside, what);
+}
+
+/* Conditions on site A with the rounds that the definition gives them. */
+static const struct counted {
+    const char *what;
+    uint32_t rounds;
+    int count;
+    uint8_t nodes[13][4];
+} counted[] = {
+    {"mu 0 (not true)", 1, 3, {{TRUE, 0, 0, 0}, {NOT, 0, 0, 0}, {MU, 0, 1, 0}}},
+    {"mu 0 true", 2, 2, {{TRUE, 0, 0, 0}, {MU, 0, 0, 0}}},
+    {"nu 0 true", 1, 2, {{TRUE, 0, 0, 0}, {NU, 0, 0, 0}}},
+    {"nu 0 (not true)", 2, 3, {{TRUE, 0, 0, 0}, {NOT, 0, 0, 0}, {NU, 0, 1, 0}}},
+    {"mu 0 (variable 0)", 1, 2, {{VARIABLE, 0, 0, 0}, {MU, 0, 0, 0}}},
+    {"nu 0 (diamond 4 variable 0)", 4, 3, {{VARIABLE, 0, 0, 0}, {DIAMOND, 4, 0, 0}, {NU, 0, 1, 0}}},
+    {"mu 1 (mu 0 true)", 6, 3, {{TRUE, 0, 0, 0}, {MU, 0, 0, 0}, {MU, 1, 1, 0}}},
+    {"mu 0 (mu 0 true)", 6, 3, {{TRUE, 0, 0, 0}, {MU, 0, 0, 0}, {MU, 0, 1, 0}}},
+    {"nu 1 (mu 0 true)", 3, 3, {{TRUE, 0, 0, 0}, {MU, 0, 0, 0}, {NU, 1, 1, 0}}},
+    {"a loop or itself", 4, 3, {{TRUE, 0, 0, 0}, {MU, 0, 0, 0}, {OR, 0, 1, 1}}},
+    {"a loop and itself", 4, 3, {{TRUE, 0, 0, 0}, {MU, 0, 0, 0}, {AND, 0, 1, 1}}},
+    {"a loop or itself, and itself", 6, 4, {{TRUE, 0, 0, 0}, {MU, 0, 0, 0}, {OR, 0, 1, 1}, {AND, 0, 1, 2}}},
+    {"a loop that is not reached", 0, 3, {{TRUE, 0, 0, 0}, {MU, 0, 0, 0}, {TRUE, 0, 0, 0}}},
+    {"nothing and a loop", 2, 4, {{TRUE, 0, 0, 0}, {NOT, 0, 0, 0}, {MU, 0, 0, 0}, {AND, 0, 1, 2}}},
+    {"everything or a loop", 2, 3, {{TRUE, 0, 0, 0}, {MU, 0, 0, 0}, {OR, 0, 0, 1}}},
+    {"a loop and nothing", 2, 4, {{TRUE, 0, 0, 0}, {NOT, 0, 0, 0}, {MU, 0, 0, 0}, {AND, 0, 2, 1}}},
+    {"a loop or everything", 2, 3, {{TRUE, 0, 0, 0}, {MU, 0, 0, 0}, {OR, 0, 1, 0}}},
+    {"R around a closed loop", 12, 10,
+     {{LABEL, 0, 0, 0}, {VARIABLE, 0, 0, 0}, {DIAMOND, 4, 1, 0}, {OR, 0, 0, 2}, {TRUE, 0, 0, 0}, {NOT, 0, 4, 0}, {MU, 1, 4, 0},
+      {AND, 0, 5, 6}, {OR, 0, 3, 7}, {MU, 0, 8, 0}}},
+    {"R around a loop that reads its variable", 14, 13,
+     {{LABEL, 0, 0, 0}, {VARIABLE, 0, 0, 0}, {DIAMOND, 4, 1, 0}, {OR, 0, 0, 2}, {TRUE, 0, 0, 0}, {NOT, 0, 4, 0}, {VARIABLE, 1, 0, 0},
+      {DIAMOND, 4, 6, 0}, {OR, 0, 1, 7}, {MU, 1, 8, 0}, {AND, 0, 5, 9}, {OR, 0, 3, 10}, {MU, 0, 11, 0}}},
+};
+
+static void try_counted(void)
+{
+    build_a();
+    build_r();
+    expect_rounds(4, true, "R");
+    for (size_t k = 0; k < sizeof counted / sizeof *counted; k++) {
+        cond.length = 0;
+        for (int i = 0; i < counted[k].count; i++) {
+            const uint8_t *node = counted[k].nodes[i];
+            add_node(node[0], node[1], node[2], node[3]);
+        }
+        expect_rounds(counted[k].rounds, true, counted[k].what);
+    }
+}
+
+static int last_node(void)
+{
+    return (int)cond.length / DESK_NODE_BYTES - 1;
+}
+
+/* Or of the last node with itself, so many times. */
+static void add_doubles(int times)
+{
+    for (int k = 0; k < times; k++)
+        add_node(OR, 0, last_node(), last_node());
+}
+
+/* Mu 0 (not true), which makes one round. */
+static void build_once(void)
+{
+    cond.length = 0;
+    add_node(TRUE, 0, 0, 0);
+    add_node(NOT, 0, 0, 0);
+    add_node(MU, 0, 1, 0);
+}
+
+/* One loop at the end of 2 to the power k paths, up to 2,000. */
+static void try_paths(void)
+{
+    static const int doubles[] = {1, 2, 8, 16, 19, 20, 31, 32, 33, 64, 2000};
+    build_a();
+    for (size_t k = 0; k < sizeof doubles / sizeof *doubles; k++) {
+        build_once();
+        add_doubles(doubles[k]);
+        expect_rounds(doubles[k] < 20 ? 1u << doubles[k] : MANY, true, "one loop at the end of many paths");
+    }
+}
+
+/* Loops around a constant, each in the next: one round each if it is the set that they start from, and else twice as many and two more with each. */
+static void try_stacks(void)
+{
+    static const struct {
+        int leaf, kind, loops;
+        uint32_t rounds;
+    } stacks[] = {
+        {NOT, MU, 2046, 2046}, {TRUE, NU, 2046, 2046}, {TRUE, MU, 18, 524286}, {NOT, NU, 18, 524286}, {TRUE, MU, 19, MANY}, {NOT, NU, 2046, MANY},
+    };
+    build_a();
+    for (size_t k = 0; k < sizeof stacks / sizeof *stacks; k++) {
+        cond.length = 0;
+        add_node(TRUE, 0, 0, 0);
+        if (stacks[k].leaf == NOT)
+            add_node(NOT, 0, 0, 0);
+        for (int n = 0; n < stacks[k].loops; n++)
+            add_node(stacks[k].kind, n % VARIABLES, last_node(), 0);
+        expect_rounds(stacks[k].rounds, false, "loops around a constant");
+    }
+}
+
+/* So many slots, with label 0 on slot 1, label 1 on slot 2, and link 4 from each to the one below it, down to 1. */
+static void build_chain_site(int slots)
+{
+    site.length = DESK_SITE_BYTES;
+    memset(site.at, 0, site.length);
+    for (int s = 0; s < slots; s++)
+        put_slot(site.at, s);
+    for (int s = 2; s < slots; s++)
+        site.at[target_at(4, s)] = (uint8_t)(s - 1);
+    put_slot(site.at + label_at(0), 1);
+    put_slot(site.at + label_at(1), 2);
+}
+
+/* Mu x (label 0 or <4> x or (nil and <E> (slot 255 and x))): a slot more in each round, nil last. Nu of what is left. */
+static void try_longest_loop(void)
+{
+    build_chain_site(SLOTS);
+    for (int mu = 0; mu <= 1; mu++) {
+        const int with = mu ? AND : OR, join = mu ? OR : AND, modal = mu ? DIAMOND : BOX, leaves = mu ? 0 : 3;
+        cond.length = 0;
+        add_node(LABEL, 0, 0, 0);
+        add_node(NAME, 0, 0, 0);
+        add_node(SLOT, SLOTS - 1, 0, 0);
+        for (int k = 0; k < 3; k++)
+            add_node(NOT, 0, k, 0);
+        add_node(VARIABLE, 0, 0, 0);
+        add_node(modal, 4, 6, 0);
+        add_node(join, 0, leaves, 7);
+        add_node(with, 0, leaves + 2, 6);
+        add_node(modal, EVERYWHERE, 9, 0);
+        add_node(with, 0, leaves + 1, 10);
+        add_node(join, 0, 8, 11);
+        add_node(mu ? MU : NU, 0, 12, 0);
+        expect_rounds(SLOTS + 1, true, "a loop with a slot in each round");
+    }
+}
+
+/* Mu v (label v or <4> v), beside what stands at node `inner` but no slot has; below 0: beside nothing. */
+static void add_reach(int v, int inner)
+{
+    add_node(LABEL, v, 0, 0);
+    add_node(VARIABLE, v, 0, 0);
+    add_node(DIAMOND, 4, last_node(), 0);
+    add_node(OR, 0, last_node() - 2, last_node());
+    if (inner >= 0) {
+        add_node(LABEL, LABELS - 1, 0, 0);
+        add_node(AND, 0, last_node(), inner);
+        add_node(OR, 0, last_node() - 2, last_node());
+    }
+    add_node(MU, v, last_node(), 0);
+}
+
+/* On 125 slots 125 rounds with 124 inside each, at the end of 64 paths: 1,000,000. Then a round more, on the left and on the right. */
+static void try_million(void)
+{
+    for (int more = 0; more <= 2; more++) {
+        build_chain_site(125);
+        build_once();
+        const int once = last_node();
+        add_reach(1, -1);
+        add_reach(0, last_node());
+        add_doubles(6);
+        const int million = last_node();
+        if (more > 0)
+            add_node(OR, 0, more == 1 ? once : million, more == 1 ? million : once);
+        expect_rounds(more ? MANY : DESK_LIMIT_MAX, false, "a million rounds, and one more");
+        try_entry(LIST, entries[LIST].lengths);
+    }
+}
+
+/* Loops in loops, mu and nu in turn, each of which reads the variable of the one around it. On a chain each makes as many rounds as there are
+ * slots. */
+static void build_nested(int depth)
+{
+    int inner = -1;
+    cond.length = 0;
+    add_node(LABEL, 0, 0, 0);
+    add_node(LABEL, LABELS - 1, 0, 0);
+    for (int v = depth - 1; v >= 0; v--) {
+        add_node(VARIABLE, v, 0, 0);
+        add_node(DIAMOND, 4, last_node(), 0);
+        if (v % 2 == 0)
+            add_node(OR, 0, 0, last_node());
+        if (v > 0) {
+            add_node(VARIABLE, v - 1, 0, 0);
+            add_node(AND, 0, 1, last_node());
+            add_node(OR, 0, last_node() - 2, last_node());
+        }
+        if (inner >= 0) {
+            add_node(AND, 0, 1, inner);
+            add_node(OR, 0, last_node() - 1, last_node());
+        }
+        add_node(v % 2 ? NU : MU, v, last_node(), 0);
+        inner = last_node();
+    }
+}
+
+/* Four deep and more, these are refused after a million rounds. Sixteen deep, a table of 133 nodes, they would go on for ever. */
+static void try_nested(void)
+{
+    static const struct {
+        int slots, depth;
+        uint32_t rounds;
+    } nests[] = {{8, 1, 8}, {8, 2, 72}, {8, 3, 584}, {8, 4, 4680}, {20, 3, 8420}};
+    for (size_t k = 0; k < sizeof nests / sizeof *nests; k++) {
+        build_chain_site(nests[k].slots);
+        build_nested(nests[k].depth);
+        expect_rounds(nests[k].rounds, nests[k].rounds < 1000, "loops in loops");
+    }
+    build_chain_site(SLOTS);
+    for (int depth = 4; depth <= VARIABLES; depth *= 2) {
+        build_nested(depth);
+        build_file();
+        expect_list(DESK_ROUNDS, 0, "loops in loops that take too long");
+        expect_job(DESK_ROUNDS, 0, "a job with loops in loops that take too long");
+    }
+    expect(last_node() == 132, "the nodes of sixteen loops");
+}
+
+/* Both loops over what is below, a mu and a nu of one variable, which read the variable of the loops around them: all is evaluated afresh for each. A
+ * list that goes on after its limit does not come to an end. */
+static void try_forked(void)
+{
+    static const struct {
+        int depth;
+        uint32_t rounds;
+    } forks[] = {{1, 7}, {2, 24}, {5, 674}, {8, 18224}, {12, MANY}, {500, MANY}};
+    build_a();
+    for (size_t k = 0; k < sizeof forks / sizeof *forks; k++) {
+        const int depth = forks[k].depth;
+        cond.length = 0;
+        add_node(VARIABLE, 1, 0, 0);
+        add_node(VARIABLE, 0, 0, 0);
+        for (int n = 1; n <= depth; n++) {
+            add_node(OR, 0, last_node(), n % 2 ? 0 : 1);
+            add_node(MU, n % 2 ? 0 : 1, last_node(), 0);
+            add_node(NU, n % 2 ? 0 : 1, last_node() - 1, 0);
+            add_node(OR, 0, last_node() - 1, last_node());
+        }
+        add_node(MU, depth % 2, last_node(), 0);
+        expect_rounds(forks[k].rounds, forks[k].rounds < 1000, "two loops of one variable, again and again");
+    }
+}
+
+/* Below a way that edits rewrite: each DT1 doubles the paths to the loop, each AT adds one. Of a job's two lists the second alone has them. */
+static void try_rewritten_paths(void)
+{
+    for (int k = 0; k <= 16; k++) {
+        const int op = k % 2 ? AT : DT1, edits = k / 2;
+        const uint32_t paths = op == DT1 ? 1u << edits : (uint32_t)edits + 1;
+        build_a();
+        build_r();
+        add_node(k % 3 ? DIAMOND : BOX, 5, 4, 0);
+        sheet.length = 0;
+        add_edits(edits, op, 5, 1, 2);
+        build_file();
+        try_limits(4, 4, 4 * paths, true, "a loop below a way that edits rewrite");
+    }
+}
+
+static void build_site_fault(uint32_t reason)
+{
+    switch (reason) {
+    case DESK_SITE_LENGTH:
+        site.length--;
+        break;
+    case DESK_NAMES:
+        site.at[NAMES_AT + 1] = 9;
+        break;
+    case DESK_LABELS:
+        put_slot(site.at + label_at(2), 9);
+        break;
+    case DESK_LINKS:
+        site.at[target_at(4, 1)] = 9;
+    }
+}
+
+static void build_condition_fault(uint32_t reason)
+{
+    switch (reason) {
+    case DESK_CONDITION_LENGTH:
+        cond.length--;
+        break;
+    case DESK_NODE:
+        add_node(KINDS, 0, 0, 0);
+        break;
+    case DESK_EVEN_RULE:
+        add_node(NOT, 0, 1, 0);
+        add_node(MU, 0, 5, 0);
+        break;
+    case DESK_FREE_VARIABLE:
+        add_node(OR, 0, 4, 1);
+    }
+}
+
+static void build_sheet_fault(uint32_t reason)
+{
+    switch (reason) {
+    case DESK_SHEET_LENGTH:
+        sheet.length--;
+        break;
+    case DESK_EDIT:
+        sheet.at[0] = OPERATIONS;
+        break;
+    case DESK_NOT_THROUGH:
+        build_sheet(DS, 0, 0, 0);
+        break;
+    case DESK_TABLE_FULL:
+        sheet.length = 0;
+        add_edits(9, DT1, 4, 1, 2);
+    }
+}
+
+/* A job that makes rounds, with one fault. */
+static void build_fault(uint32_t reason)
+{
+    build_a();
+    build_r();
+    build_sheet(DT2, 4, 1, 0);
+    build_site_fault(reason);
+    build_condition_fault(reason);
+    build_sheet_fault(reason);
+    build_file();
+    if (reason == DESK_FILE)
+        file.at[file.length - 1] = 1;
+}
+
+/* Items 2 to 14 each beside a limit that is too low, and beside one that is too high; and item 1. */
+static void try_limit_order(void)
+{
+    static const uint32_t limits[] = {0, 1, DESK_LIMIT_MAX, DESK_LIMIT_MAX + 1, UINT32_MAX};
+    for (uint32_t reason = DESK_FILE; reason <= DESK_TABLE_FULL; reason++)
+        for (size_t k = 0; k < sizeof limits / sizeof *limits; k++) {
+            build_fault(reason);
+            limit = larger = limits[k];
+            const uint32_t wanted = limit > DESK_LIMIT_MAX ? (uint32_t)DESK_LIMIT : reason;
+            expect(try_entry(JOB, entries[JOB].lengths) == wanted, "a job with a fault beside a limit");
+            if (DESK_SITE_LENGTH <= reason && reason <= DESK_FREE_VARIABLE)
+                expect(try_entry(LIST, entries[LIST].lengths) == wanted, "a list with a fault beside a limit");
+            for (int number = 0; number < BUFFERS; number++)
+                try_off_by_one(number, k % 2 == 1);
+        }
+    limit = larger = DESK_LIMIT_MAX;
+}
+
+static void try_rounds(void)
+{
+    try_counted();
+    try_paths();
+    try_stacks();
+    try_longest_loop();
+    try_million();
+    try_nested();
+    try_forked();
+    try_rewritten_paths();
+    try_limit_order();
+}
+
 static void *try_known_answers(void *unused)
 {
     try_chains();
@@ -1526,7 +2081,16 @@ static void *try_known_answers(void *unused)
     try_many_names();
     try_every_slot();
     try_nil();
+    try_rounds();
     return unused;
+}
+
+/* So that random jobs are the same without what came before. */
+static void clear_pieces(void)
+{
+    struct bytes *const pieces[] = {&site, &cond, &sheet, &file};
+    for (size_t k = 0; k < sizeof pieces / sizeof *pieces; k++)
+        memset(pieces[k], 0, sizeof *pieces[k]);
 }
 
 /* In a thread with the stack that the header asks for. */
@@ -1556,7 +2120,7 @@ static const struct row {
     int columns;
     unsigned wanted; /* weight 2 to the power n: column n is met, and no other */
 } rows[] = {
-    {"list: reason", met.reasons[LIST], REASONS, 0x7fb},
+    {"list: reason", met.reasons[LIST], REASONS, 0x187fb},
     {"apply: reason", met.reasons[APPLY], REASONS, 0x387b},
     {"rewrite: reason", met.reasons[REWRITE], REASONS, 0x5f83},
     {"classes: reason", met.reasons[CLASSES], REASONS, 0x7b},
@@ -1578,6 +2142,10 @@ static const struct row {
     {"edit, not through", met.stuck, OPERATIONS, 1u << AT | 1u << AS | 1u << DS},
     {"AP, effect", met.effects, EFFECTS, ALL(EFFECTS)},
     {"label refused", met.strays, STRAYS, ALL(STRAYS)},
+    {"list, rounds", met.standings, STANDINGS, ALL(STANDINGS)},
+    {"job, rounds", met.shareds, SHAREDS, ALL(SHAREDS)},
+    {"list, walked", &met.walked, 1, ALL(1)},
+    {"limit, larger", met.larger, 2, ALL(2)},
     {"buffer, short", met.shorter, BUFFERS, ALL(BUFFERS)},
     {"buffer, long", met.longer, BUFFERS, ALL(BUFFERS)},
 };
@@ -1614,6 +2182,7 @@ int main(int argc, char **argv)
     seed = argc > 2 ? strtoull(argv[2], NULL, 10) : 1;
     make_areas();
     run_known_answers();
+    clear_pieces();
     memset(&met, 0, sizeof met);
     for (job = 0; job < jobs; job++) {
         build_job(seed, job);

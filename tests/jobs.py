@@ -1,12 +1,15 @@
 #!/usr/bin/env python3
-"""Writes crates/job/stdin and stdout, and those of crates/test_jobs: jobs, and for each what is printed of it.
+"""Writes crates/job/stdin and stdout, and those of crates/test_jobs: jobs, and for each what is printed of it under some limits.
 
 The trailer, the order of the items and the class numbers are written here from docs/SPEC.md alone, the
 classes in another way than the crates': blocks of slots are split by what reaches a block until none is
 left that splits. The single items, applying, rewriting and listing are those of pieces.py, changes.py and lists.py.
 
-A job is stored as a piece of at most 65,535 bytes (pieces.py) and, behind it, zeros: the piece's kind is one more than their number.
+A job is stored as a piece of at most 65,535 bytes (pieces.py) and, behind it, zeros: the piece's kind is one more than their number. Its limits
+follow, as behind a pair in lists.py.
 """
+import functools
+import itertools
 import random
 import struct
 import sys
@@ -15,6 +18,7 @@ import changes
 import lists
 import pieces
 from layout import *
+from lists import TOO_HIGH
 from pieces import CROWD, HIGH, named, names_joined, sheet, turned, with_bytes
 
 SEED = 65536
@@ -73,25 +77,46 @@ def checksum(d):
     return h
 
 
-def answer(file):
-    """The lines of `job`, and one more of `test_jobs` where nothing is refused."""
-    verdict, three = (2, 0), parts(file)
-    if three:
-        site, condition, sheet = three
-        verdict = pieces.judge_site(site) or pieces.judge_condition(condition) or pieces.judge_sheet(sheet)
-        if not verdict:
-            after, verdict = changes.apply(site, sheet)
-        if not verdict:
-            table, verdict = changes.rewrite(condition, sheet)
-    if verdict:
-        return ["refused %d %d" % verdict]
-    one, two, numbers = lists.answer(after, condition), lists.answer(site, table), class_numbers(after)
-    assert one == two, (one, two)
-    long = table + bytes(TABLE_BYTES - len(table))
+@functools.lru_cache(maxsize=2)
+def judged(file):
+    """What items 2 to 14 say of the file; where they say nothing, the site, the condition, the site after and the table."""
+    three = parts(file)
+    if not three:
+        return (2, 0), None
+    site, condition, sheet = three
+    verdict = pieces.judge_site(site) or pieces.judge_condition(condition) or pieces.judge_sheet(sheet)
+    if not verdict:
+        after, verdict = changes.apply(site, sheet)
+    if not verdict:
+        table, verdict = changes.rewrite(condition, sheet)
+    return verdict, None if verdict else (site, condition, bytes(after), bytes(table))
+
+
+def rounds(file):
+    """Of both lists; None where there are more than any limit allows. Rewriting takes no path away, so that today there are not fewer."""
+    site, condition, after, table = judged(file)[1]
+    one, two = lists.list_slots(after, condition), lists.list_slots(site, table)
+    assert not two or one and one[0] == two[0] and one[1] <= two[1], (one, two)
+    return one and one[1], two and two[1]
+
+
+@functools.lru_cache(maxsize=2)
+def done_lines(file):
+    site, condition, after, table = judged(file)[1]
+    numbers, long = class_numbers(after), table + bytes(TABLE_BYTES - len(table))
     return [
-        "after " + one, "today " + two, "nodes %d" % (len(table) // NODE_BYTES), "classes %d" % len(set(numbers)),
-        "site %d table %d numbers %s" % (checksum(after), checksum(long), numbers.hex()),
+        "after " + lists.answer(after, condition), "today " + lists.answer(site, table),
+        "nodes %d" % (len(table) // NODE_BYTES), "classes %d" % len(set(numbers)),
+        "rounds %d %d" % rounds(file) + " site %d table %d numbers %s" % (checksum(after), checksum(long), numbers.hex()),
     ]
+
+
+def answer(file, limit=HIGHEST_LIMIT):
+    """The lines of `job`, and one more of `test_jobs` where nothing is refused."""
+    verdict = (16, 0) if limit > HIGHEST_LIMIT else judged(file)[0]
+    if not verdict and any(n is None or n > limit for n in rounds(file)):
+        verdict = 15, 0
+    return ["refused %d %d" % verdict] if verdict else done_lines(file)
 
 
 # ---- cases
@@ -388,7 +413,80 @@ def largest():
     return file
 
 
+# ---- cases with limits
+
+DT1, AT = (5, 5, 1, 2), (4, 5, 1, 2)  # of link 5, by which R does not go
+
+
+def way_to(nodes, kind=8):
+    """A diamond or a box of link 5 over the last node."""
+    return pieces.table(*nodes, (kind, 5, len(nodes) - 1, 0))
+
+
+def many_paths():
+    """A loop below a way that edits rewrite: each DT1 doubles the paths to it, each AT adds one. Of the two lists only the second has them."""
+    nodes = pieces.nodes_of(R)
+    for kind in (8, 9):
+        for k in (1, 2, 3, 5):
+            yield A, way_to(nodes, kind), sheet(*[DT1] * k)
+            yield A, way_to(nodes, kind), sheet(*[AT] * k)
+    yield A, way_to(nodes), sheet(*[DT1] * 8)
+    yield A, way_to(lists.doubled(lists.ONCE, 12)), sheet(*[DT1] * 7)
+    yield A, way_to(lists.doubled(lists.ONCE, 12)), sheet(*[DT1] * 8)
+    yield A, way_to(lists.doubled(lists.ONCE, 19)), sheet(DT1)
+    yield lists.chain_site(125), way_to(lists.million()), sheet(DT2)
+    yield lists.chain_site(125), pieces.table(*lists.million()), sheet((0, 1, 2))
+
+
+def most_paths():
+    """As many paths as 2 to the power 2,000 to one loop; and 2,047 loops, each in the next."""
+    for edits in (), [DT1], [(0, 1, 2)] * EDITS:
+        yield A, pieces.table(*lists.doubled(lists.ONCE, 2000)), sheet(*edits)
+        yield A, pieces.table(*lists.stacked(lists.TRUE, 10, NODES - 1)), sheet(*edits)
+
+
+def limits_and_faults():
+    """Conditions with more rounds than any limit allows, and each item from 11 to 14."""
+    for condition in (pieces.table(*lists.doubled(lists.ONCE, 2000)), pieces.table(*lists.nested(16)), way_to(lists.doubled(lists.ONCE, 30))):
+        for edits in (DT2[:3], sheet((9,)), sheet((8, 0)), sheet((2, 1, 0), (8, 3))):
+            yield A, condition, edits
+    yield A, way_to(lists.doubled(lists.ONCE, 30)), sheet(*[DT1] * 9)
+    yield A, pieces.table(*lists.doubled([(2, 0, 0, 0), (10, 0, 0, 0)], NODES - 2)), sheet((2, 1, 0))
+
+
+def random_limited(rng):
+    """Shared loops under edits of links, of which some rewrite the ways above them."""
+    for k in range(36):
+        site = lists.random_chain(rng)
+        nodes = pieces.nodes_of(lists.random_shared(rng))
+        condition = way_to(nodes, rng.choice((8, 9))) if k % 2 else pieces.table(*nodes)
+        edits = changes.random_sheet(rng, site, rng.choice((1, 2, 3)), (4, 5, 5, 6, 0, 8))
+        yield site, condition, edits + sheet(*[DT1] * rng.randrange(3))
+
+
+def around(file):
+    """Limits about the rounds of both lists, and the sum; all that can tell apart where the job is refused."""
+    if judged(file)[0]:
+        return 0, HIGHEST_LIMIT, *TOO_HIGH
+    after, today = rounds(file)
+    if after is None:
+        return 0, 1, 5000, HIGHEST_LIMIT, TOO_HIGH[0]
+    ends = [after - 1, after, after + 1] + ([] if today is None else [today - 1, today, after + today])
+    return *sorted({n for n in (0, 1, *ends) if 0 <= n <= HIGHEST_LIMIT}), HIGHEST_LIMIT, *TOO_HIGH
+
+
+def with_limits(rng):
+    """All that items 2 to 14 refuse once more under other limits, and then jobs with limits about their rounds."""
+    for file in (*files(), *(job(*three) for make in (refusals, collisions) for three in make())):
+        yield file, (0, *TOO_HIGH)
+    for three in [(A, R, DT2), (A, R, sheet()), (A, named(1), DT2), *many_paths(), *most_paths(), *limits_and_faults(), *random_limited(rng)]:
+        yield job(*three), around(job(*three))
+    for site, condition in lists.never_ending():
+        yield job(site, condition, sheet((2, 1, 0), (7, 3, 200))), lists.SHORT
+
+
 def cases(rng):
+    """Without a word about limits: each under the highest one."""
     yield J
     yield largest()
     yield from files()
@@ -422,14 +520,15 @@ def main():
     rng = random.Random(SEED)
     pieces.write("job", J, answer(J)[:4])
     stdin, stdout, count = bytearray(), [], {}
-    for file in cases(rng):
-        stdin += encode(file)
-        lines = answer(file)
-        stdout += lines
-        key = " ".join(lines[0].split()[:2]) if len(lines) == 1 else "done"
-        count[key] = count.get(key, 0) + 1
+    plain = [(bytes(file), (HIGHEST_LIMIT,)) for file in cases(rng)]
+    for file, limits in itertools.chain(plain, with_limits(rng)):
+        stdin += encode(file) + lists.encode_limits(limits)
+        for lines in (answer(file, limit) for limit in limits):
+            stdout += lines
+            key = " ".join(lines[0].split()[:2]) if len(lines) == 1 else "done"
+            count[key] = count.get(key, 0) + 1
     pieces.write("test_jobs", stdin, stdout)
-    print(count, file=sys.stderr)
+    print(count, lists.met, file=sys.stderr)
 
 
 if __name__ == "__main__":

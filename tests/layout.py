@@ -26,6 +26,7 @@ SHEET_BYTES = EDITS * EDIT_BYTES
 OPERATIONS = 9
 TRAILER_BYTES = 12
 FILE_BYTES = 65536
+HIGHEST_LIMIT = 1000000  # on the rounds of a list
 
 
 def label_at(label):

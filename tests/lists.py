@@ -1,19 +1,25 @@
 #!/usr/bin/env python3
-"""Writes crates/test_lists/stdin and stdout: sites with conditions, and for each pair what listing answers.
+"""Writes crates/test_lists/stdin and stdout: sites with conditions, and for each pair what listing answers under some limits.
 
 The evaluator here is written from docs/SPEC.md alone and in another way than the crates': sets of
 slots are Python sets, loops go by Kleene iteration over a memo that is keyed by the values of a node's
-free variables, and neighbours are looked up in dictionaries of pairs.
+free variables, and neighbours are looked up in dictionaries of pairs. A second one walks the tree as the
+definition of a round has it, keeps nothing, and has to agree where it comes to an end.
+
+Behind the pieces of a pair (pieces.py) stand its limits: how many there are, in one byte, and each in four, low byte first.
 """
 import functools
+import itertools
 import random
 import sys
 
 import pieces
 from layout import *
-from pieces import named, names_joined, nodes_of
+from pieces import named, names_joined, nodes_of, with_bytes
 
 ALL = frozenset(range(SLOTS))
+EVERY_BIT = (1 << SLOTS) - 1
+STEPS = 20000  # nodes that the second evaluator looks at before it gives up
 SEED = 256
 
 
@@ -38,6 +44,15 @@ class Site:
     def neighbours(self, way, s):
         return ALL if way == EVERYWHERE else self.next[way].get(s, set())
 
+    @functools.cached_property
+    def masks(self):
+        """For each way the slots that have neighbours, with these as bits."""
+        return [[(s, bits(targets)) for s, targets in way.items()] for way in self.next] + [[(s, EVERY_BIT) for s in range(SLOTS)]]
+
+
+def bits(slots):
+    return sum(1 << s for s in slots)
+
 
 def free_variables(nodes):
     free = []
@@ -56,17 +71,35 @@ def free_variables(nodes):
     return free
 
 
+class Over(Exception):
+    """There are more rounds than the highest limit allows."""
+
+
 class Lister:
-    """The sets of the nodes of a table on a site, each for the values of its free variables."""
+    """The sets of the nodes of a table on a site, and the rounds made for them, each for the values of its free variables.
+
+    What is known is not evaluated again, but its rounds are made again: a shared node counts once for each path.
+    """
 
     def __init__(self, site, nodes):
         self.site, self.nodes, self.free, self.memo = site, nodes, free_variables(nodes), {}
+        self.rounds = 0
+
+    def count(self, rounds):
+        self.rounds += rounds
+        if self.rounds > HIGHEST_LIMIT:
+            raise Over
 
     def value(self, i, env):
         key = (i, tuple((v, env[v]) for v in sorted(self.free[i])))
-        if key not in self.memo:
-            self.memo[key] = self.leaf(i, env) if self.nodes[i][0] in (0, 1, 2, 3, 4, 12) else self.inner(i, env)
-        return self.memo[key]
+        if key in self.memo:
+            value, rounds = self.memo[key]
+            self.count(rounds)
+            return value
+        before = self.rounds
+        value = self.leaf(i, env) if self.nodes[i][0] in (0, 1, 2, 3, 4, 12) else self.inner(i, env)
+        self.memo[key] = value, self.rounds - before
+        return value
 
     def leaf(self, i, env):
         kind, param, _, _ = self.nodes[i]
@@ -97,33 +130,127 @@ class Lister:
 
     def loop(self, body, variable, now, env):
         while True:
+            self.count(1)
             then = self.value(body, {**env, variable: now})
             if then == now:
                 return now
             now = then
 
 
-def list_slots(site, nodes):
-    return Lister(site, nodes).value(len(nodes) - 1, {})
+class TooFar(Exception):
+    """The tree has more nodes than are looked at."""
 
 
-@functools.lru_cache(maxsize=2)
+class Walker:
+    """The tree, walked path by path, and every round of every loop. Sets are numbers with a bit for each slot."""
+
+    def __init__(self, site, nodes, steps):
+        self.site, self.nodes, self.steps, self.rounds = site, nodes, steps, 0
+
+    def value(self, i, env):
+        self.steps -= 1
+        if self.steps < 0:
+            raise TooFar
+        kind, param, left, right = self.nodes[i]
+        if kind in (10, 11):
+            return self.loop(left, param, 0 if kind == 10 else EVERY_BIT, env)
+        if kind in pieces.BINARY:
+            one, other = self.value(left, env), self.value(right, env)
+            return one | other if kind == 6 else one & other
+        if kind in pieces.UNARY:
+            return self.one_child(kind, param, self.value(left, env))
+        return env[param] if kind == 4 else self.leaf(kind, param)
+
+    def leaf(self, kind, param):
+        if kind == 0:
+            return EVERY_BIT
+        if kind in (1, 2):
+            return bits(self.site.present if kind == 1 else self.site.labels[param])
+        return 1 << (self.site.names[param] if kind == 3 else param)
+
+    def one_child(self, kind, way, child):
+        """A not, a diamond, or a box: the slots without a neighbour outside."""
+        if kind == 5:
+            return EVERY_BIT & ~child
+        if kind == 8:
+            return sum(1 << s for s, near in self.site.masks[way] if near & child)
+        return EVERY_BIT & ~sum(1 << s for s, near in self.site.masks[way] if near & ~child)
+
+    def loop(self, body, variable, now, env):
+        while True:
+            self.rounds += 1
+            then = self.value(body, {**env, variable: now})
+            if then == now:
+                return now
+            now = then
+
+
+def walked(site, nodes):
+    """The slots and the rounds by the second evaluator; None where it gives up."""
+    walker = Walker(site, nodes, STEPS)
+    try:
+        found = walker.value(len(nodes) - 1, {})
+    except TooFar:
+        return None
+    return frozenset(s for s in ALL if found >> s & 1), walker.rounds
+
+
+met = {"listed": 0, "over": 0, "walked": 0}
+
+
+@functools.lru_cache(maxsize=4)
+def list_slots(site, condition):
+    """The slots and the rounds of an accepted condition on an accepted site; None for more rounds than any limit allows."""
+    nodes, opened = nodes_of(condition), judged(site)[1]
+    lister, found = Lister(opened, nodes), None
+    try:
+        found = lister.value(len(nodes) - 1, {}), lister.rounds
+    except Over:
+        met["over"] += 1
+    met["listed"] += 1
+    other = walked(opened, nodes)
+    if other:
+        met["walked"] += 1
+        assert other == found, (other, found)
+    return found
+
+
+@functools.lru_cache(maxsize=4)
 def judged(site):
     """The site's refusal, or the site; kept, since many conditions in a row have the same site."""
     refusal = pieces.judge_site(site)
     return refusal, None if refusal else Site(site)
 
 
-def answer(site, condition):
-    refusal, opened = judged(bytes(site))
-    refusal = refusal or pieces.judge_condition(condition)
+def outcome(site, condition, limit=HIGHEST_LIMIT):
+    """The refusal, or None with the slots and the rounds."""
+    if limit > HIGHEST_LIMIT:
+        return (16, 0), None
+    refusal = judged(bytes(site))[0] or pieces.judge_condition(condition)
     if refusal:
-        return "refused %d %d" % refusal
-    slots = list_slots(opened, nodes_of(condition))
+        return refusal, None
+    found = list_slots(bytes(site), bytes(condition))
+    if found is None or found[1] > limit:
+        return (15, 0), None
+    return None, found
+
+
+def hexadecimal(slots):
     data = bytearray(SET_BYTES)
     for s in slots:
         pieces.put(data, 0, s)
-    return "%d %s" % (len(slots), data.hex())
+    return data.hex()
+
+
+def answer(site, condition, limit=HIGHEST_LIMIT):
+    """Without the rounds, as scripts print it that are not about them."""
+    refusal, found = outcome(site, condition, limit)
+    return "refused %d %d" % refusal if refusal else "%d %s" % (len(found[0]), hexadecimal(found[0]))
+
+
+def line(site, condition, limit):
+    refusal, found = outcome(site, condition, limit)
+    return answer(site, condition, limit) + ("" if refusal else " rounds %d" % found[1])
 
 
 def random_site(rng, links):
@@ -351,7 +478,262 @@ def by_slot():
             yield quarter_site(), t(*one_target(kind, way))
 
 
+# ---- cases with limits
+
+TOO_HIGH = (HIGHEST_LIMIT + 1, 1 << 31, (1 << 32) - 1)
+
+
+def chain_site(slots):
+    """So many slots. Label 0 is on slot 1 and label 1 on slot 2, and link 4 leads from each slot to the one below it, down to 1."""
+    d = bytearray(SITE_BYTES)
+    for s in range(slots):
+        pieces.put(d, 0, s)
+        d[target_at(4, s)] = max(s - 1, 0)
+    for p in (0, 1):
+        pieces.put(d, label_at(p), 1 + p)
+    return d
+
+
+def doubled(nodes, times):
+    """Or of the last node with itself, again and again: each doubles the paths to what is below."""
+    return [*nodes, *((6, 0, len(nodes) - 1 + k, len(nodes) - 1 + k) for k in range(times))]
+
+
+def stacked(nodes, kind, times):
+    """Loops around the last node, each in the next."""
+    return [*nodes, *((kind, k % VARIABLES, len(nodes) - 1 + k, 0) for k in range(times))]
+
+
+TRUE, FALSE = [(0, 0, 0, 0)], [(0, 0, 0, 0), (5, 0, 0, 0)]
+ONCE, TWICE = FALSE + [(10, 0, 1, 0)], TRUE + [(10, 0, 0, 0)]  # mu 0 (not true) makes one round, mu 0 true makes two
+
+
+def single_loops():
+    """On site A, with their rounds by hand: the last round counts, also where it is the first; nothing counts that is not reached."""
+    yield TRUE, 0
+    yield ONCE, 1
+    yield TWICE, 2
+    yield TRUE + [(11, 0, 0, 0)], 1
+    yield FALSE + [(11, 0, 1, 0)], 2
+    for kind in (10, 11):
+        yield [(4, 0, 0, 0), (kind, 0, 0, 0)], 1
+        yield [(4, 0, 0, 0), (8, 4, 0, 0), (kind, 0, 1, 0)], 1 if kind == 10 else 4
+    yield TWICE + TRUE, 0
+    yield TWICE + [(10, 1, 1, 0), (2, 0, 0, 0)], 0
+    yield TWICE + [(5, 0, 0, 0), (10, 0, 2, 0)], 1
+    for kind, param in ((5, 0), (8, 4), (9, 4), (8, EVERYWHERE)):
+        yield TWICE + [(kind, param, 1, 0)], 2
+
+
+def paths_to_loops():
+    """Both operands count whatever the other lists, and a shared loop counts once for each path."""
+    for kind in (6, 7):
+        for other in (0, 1):
+            both = FALSE + [(10, 0, 0, 0)]
+            yield both + [(kind, 0, other, 2)], 2
+            yield both + [(kind, 0, 2, other)], 2
+        yield TWICE + [(kind, 0, 1, 1)], 4
+        yield TWICE + [(kind, 0, 1, 1), (13 - kind, 0, 2, 1)], 6
+        yield TWICE + [(5, 0, 0, 0), (10, 1, 2, 0), (kind, 0, 1, 3)], 3
+        yield TWICE + [(5, 0, 0, 0), (10, 1, 2, 0), (kind, 0, 3, 1)], 3
+    for k in (1, 7):
+        yield doubled(ONCE, k), 1 << k
+        yield doubled(TWICE, k), 2 << k
+
+
+def loops_in_loops():
+    """An inner loop starts again in each round, closed or not, and whatever its variable is called."""
+    for v in (0, 1):
+        yield TWICE + [(10, v, 1, 0)], 6
+        yield TWICE + [(11, v, 1, 0)], 3
+        yield TRUE + [(11, 0, 0, 0), (10, v, 1, 0)], 4
+        yield TRUE + [(11, 0, 0, 0), (11, v, 1, 0)], 2
+    for k in range(2, 12):
+        yield stacked(TRUE, 10, k), (2 << k) - 2
+        yield stacked(FALSE, 10, k), k
+        yield stacked(TRUE, 11, k), k
+    # R around a closed loop; around one that reads its variable: 4 + 1 + 4 + 3 + 2; and R inside a loop of the same variable
+    r = nodes_of(pieces.R[:-NODE_BYTES])
+    inside = [(0, 0, 0, 0), (5, 0, 4, 0)]
+    yield r + inside + [(10, 1, 4, 0), (7, 0, 5, 6), (6, 0, 3, 7), (10, 0, 8, 0)], 12
+    yield r + inside + [(4, 1, 0, 0), (8, 4, 6, 0), (6, 0, 1, 7), (10, 1, 8, 0), (7, 0, 5, 9), (6, 0, 3, 10), (10, 0, 11, 0)], 14
+    yield r + [(10, 0, 3, 0), (8, 4, 4, 0), (6, 0, 0, 5), (10, 0, 6, 0)], 10
+    # two loops share one that reads their variable: 1 + 1 from the empty set, and 1 + 2 from the full one
+    shared = [(4, 0, 0, 0), (4, 1, 0, 0), (6, 0, 0, 1), (10, 1, 2, 0)]
+    yield shared + [(10, 0, 3, 0), (11, 0, 3, 0), (6, 0, 4, 5)], 5
+
+
+def longest_loop(nots):
+    """Mu that takes one slot more in each round, nil last, from behind; nu of what is left. The last of 257 rounds changes nothing."""
+    loop, join, within, modal = (11, 7, 6, 9) if nots else (10, 6, 7, 8)
+    nodes = Nodes()
+    first, nil, last = nodes.leaves([(2, 0), (3, 0), (12, SLOTS - 1)], nots)
+    x = nodes.add(4)
+    step = nodes.add(join, 0, first, nodes.add(modal, 4, x))
+    onto_nil = nodes.add(within, 0, nil, nodes.add(modal, EVERYWHERE, nodes.add(within, 0, last, x)))
+    nodes.add(loop, 0, nodes.add(join, 0, step, onto_nil))
+    return nodes
+
+
+def nested(depth):
+    """Loops in loops, mu and nu in turn, each of which reads the variable of the one around it: on a chain each makes as many rounds as there
+    are slots. Sixteen deep it has 133 nodes."""
+    nodes = Nodes()
+    start, nowhere, inner = nodes.add(2, 0), nodes.add(2, LABELS - 1), None
+    for v in reversed(range(depth)):
+        body = nodes.add(8, 4, nodes.add(4, v))
+        if v % 2 == 0:
+            body = nodes.add(6, 0, start, body)
+        if v > 0:
+            body = nodes.add(6, 0, body, nodes.add(7, 0, nowhere, nodes.add(4, v - 1)))
+        if inner is not None:
+            body = nodes.add(6, 0, body, nodes.add(7, 0, nowhere, inner))
+        inner = nodes.add(10 + v % 2, v, body)
+    return nodes
+
+
+def forked(depth):
+    """Both loops over what is below, a mu and a nu of one variable, which read the variable of the loops around them: all is evaluated afresh for each,
+    and a list that goes on after its limit does not come to an end."""
+    nodes = Nodes([(4, 0, 0, 0), (4, 1, 0, 0)])
+    last = 0
+    for k in range(1, depth + 1):
+        body = nodes.add(6, 0, last, k % 2)
+        last = nodes.add(6, 0, nodes.add(10, 1 - k % 2, body), nodes.add(11, 1 - k % 2, body))
+    nodes.add(10, depth % 2, last)
+    return nodes
+
+
+def million():
+    """On a chain of 125 slots: 125 rounds, with 124 inside each, on 64 paths."""
+    nodes = Nodes()
+    inner = nodes.add(10, 1, nodes.add(6, 0, nodes.add(2, 1), nodes.add(8, 4, nodes.add(4, 1))))
+    step = nodes.add(6, 0, nodes.add(2, 0), nodes.add(8, 4, nodes.add(4, 0)))
+    nodes.add(10, 0, nodes.add(6, 0, step, nodes.add(7, 0, nodes.add(2, LABELS - 1), inner)))
+    return doubled(nodes, 6)
+
+
+def one_more(nodes):
+    """The nodes with a loop of one round beside them, as the left and as the right operand."""
+    n = len(nodes)
+    loop = [(0, 0, 0, 0), (5, 0, n, 0), (10, 0, n + 1, 0)]
+    yield [*nodes, *loop, (6, 0, n - 1, n + 2)]
+    yield [*nodes, *loop, (6, 0, n + 2, n - 1)]
+
+
+def many_rounds():
+    """Sites and conditions of hundreds of rounds and more; None: more than any limit allows."""
+    a, long = pieces.site_a(), chain_site(SLOTS)
+    for nots in (False, True):
+        nodes = longest_loop(nots)
+        yield long, nodes, 257
+        yield long, [*nodes, (10, 1, len(nodes) - 1, 0)], 258 if nots else 516
+    for slots, depth, rounds in ((8, 1, 8), (8, 2, 72), (8, 3, 584), (8, 4, 4680), (12, 3, 1884)):
+        yield chain_site(slots), nested(depth), rounds
+    for depth, rounds in ((1, 7), (2, 24), (6, 2024)):
+        yield a, forked(depth), rounds
+    yield chain_site(125), million(), HIGHEST_LIMIT
+    for nodes in one_more(million()):
+        yield chain_site(125), nodes, None
+    for k in (19, 20, 32, 64, 2000):
+        yield a, doubled(ONCE, k), 1 << k if k < 20 else None
+    for k in (18, 19, NODES - 1):
+        yield a, stacked([(2, 0, 0, 0)], 10 + k % 2, k), (2 << k) - 2 if k < 19 else None
+    yield a, stacked(FALSE, 10, NODES - 2), NODES - 2
+    yield a, stacked(TRUE, 11, NODES - 1), NODES - 1
+
+
+def around(rounds):
+    """Every limit up to the rounds and one more, or those about them; and those at the highest."""
+    if rounds is None:
+        return 0, 1, 5000, HIGHEST_LIMIT, TOO_HIGH[0]
+    near = range(rounds + 2) if rounds < 8 else (0, rounds // 2, rounds - 1, rounds, min(rounds + 1, HIGHEST_LIMIT))
+    return *near, HIGHEST_LIMIT, TOO_HIGH[rounds % 3]
+
+
+def known_rounds():
+    a = pieces.site_a()
+    small = [(a, nodes, rounds) for make in (single_loops, paths_to_loops, loops_in_loops) for nodes, rounds in make()]
+    for site, nodes, rounds in [(a, nodes_of(pieces.R), 4), *small, *many_rounds()]:
+        condition = pieces.table(*nodes)
+        found = outcome(site, condition)[1]
+        assert (found and found[1]) == rounds, (nodes[-9:], found, rounds)
+        yield site, condition, around(rounds)
+
+
+# for lists that come to no end; the highest takes a second, so it is left to desk_test.c
+SHORT = (0, 1, 5000, *TOO_HIGH)
+
+
+def never_ending():
+    yield chain_site(40), pieces.table(*nested(16))
+    yield pieces.site_a(), pieces.table(*forked(500))
+
+
+def limits_and_faults():
+    """A limit that is too high, and one that is too low, beside each item that a site or a condition meets."""
+    a, t = pieces.site_a(), pieces.table
+    for site in (a[:-1], pieces.old_site(a), with_bytes(a, pieces.NAME_FAULTS[0]), pieces.labelled_nil(3), with_bytes(a, pieces.LINK_FAULTS[0])):
+        for condition in (pieces.R, pieces.R[:-1]):
+            yield site, condition, (0, HIGHEST_LIMIT, *TOO_HIGH)
+    odd = [(4, 2, 0, 0), (5, 0, 5, 0), (11, 2, 6, 0)]
+    for condition in (b"", pieces.R[:-1], pieces.R + t((13, 0, 0, 0)), pieces.R + t(*odd), pieces.R + t((4, 2, 0, 0), (6, 0, 4, 5))):
+        yield a, condition, (0, 3, HIGHEST_LIMIT, *TOO_HIGH)
+
+
+def some_body(rng, nodes, loops, v):
+    """A leaf, a way to the variable, and perhaps loops or variables that are there already; joined in turn."""
+    leaf = nodes.add(*rng.choice(((2, rng.randrange(3)), (12, rng.randrange(10)), (3, rng.randrange(4)))))
+    step = nodes.add(rng.choice((8, 8, 9)), rng.choice((0, 4, 4, LINKS, GENERAL + LINKS)), nodes.add(4, v))
+    last = nodes.add(rng.choice((6, 6, 7)), 0, leaf, step)
+    for other in rng.choices(loops + [nodes.add(4, 1 - v)], k=rng.randrange(3)):
+        last = nodes.add(rng.choice((6, 7)), 0, *rng.choice(((last, other), (other, last))))
+    return last
+
+
+def random_shared(rng):
+    """A closed table whose loops are shared by other loops and by ors and ands."""
+    nodes, loops = Nodes(), []
+    for _ in range(rng.randrange(2, 6)):
+        v = rng.randrange(2)
+        loops.append(nodes.add(rng.choice((10, 11)), v, some_body(rng, nodes, loops, v)))
+    last = loops[-1]
+    for other in rng.choices(loops, k=rng.randrange(1, 4)):
+        last = nodes.add(rng.choice((6, 7)), 0, *rng.choice(((last, other), (other, last))))
+    for v in (0, 1):
+        last = nodes.add(rng.choice((10, 11)), v, last)
+    return pieces.table(*nodes)
+
+
+def random_chain(rng):
+    """A chain with some links and labels more, and some names on it."""
+    n = rng.randrange(3, 12)
+    d = chain_site(n)
+    slots = range(1, n)
+    for _ in range(rng.randrange(6)):
+        pieces.put(d, row_at(0, rng.choice(slots)), rng.choice(slots))
+        pieces.put(d, label_at(rng.randrange(3)), rng.choice(slots))
+        d[NAMES_AT + rng.randrange(1, 4)] = rng.choice(slots)
+    return d
+
+
+def random_rounds(rng):
+    """Loops in loops and shared loops, with limits about their rounds."""
+    for k in range(90):
+        site, condition = random_chain(rng), (random_shared if k % 3 else random_condition)(rng)
+        found = outcome(site, condition)[1]
+        yield site, condition, around(found and found[1])
+
+
+def with_limits(rng):
+    yield from known_rounds()
+    yield from ((site, condition, SHORT) for site, condition in never_ending())
+    yield from limits_and_faults()
+    yield from random_rounds(rng)
+
+
 def cases(rng):
+    """Without a word about limits: each under the highest one."""
     t = pieces.table
     yield from by_hand()
     yield from by_name()
@@ -370,16 +752,21 @@ def cases(rng):
         yield site, random_condition(rng)
 
 
+def encode_limits(limits):
+    return bytes([len(limits)]) + b"".join(limit.to_bytes(4, "little") for limit in limits)
+
+
 def main():
     sys.setrecursionlimit(10000)
     rng = random.Random(SEED)
     stdin, stdout = bytearray(), []
-    for site, condition in cases(rng):
-        stdin += pieces.encode(pieces.SITE, site) + pieces.encode(pieces.CONDITION, condition)
-        stdout.append(answer(site, condition))
+    plain = [(site, condition, (HIGHEST_LIMIT,)) for site, condition in cases(rng)]
+    for site, condition, limits in itertools.chain(plain, with_limits(rng)):
+        stdin += pieces.encode(pieces.SITE, site) + pieces.encode(pieces.CONDITION, condition) + encode_limits(limits)
+        stdout += [line(site, condition, limit) for limit in limits]
     pieces.write("test_lists", stdin, stdout)
-    sizes = [int(line.split()[0]) for line in stdout if not line.startswith("refused")]
-    print(len(stdout), "cases;", len(sizes), "listed,", sum(0 < n < SLOTS for n in sizes), "of them neither empty nor full", file=sys.stderr)
+    sizes = [int(text.split()[0]) for text in stdout if not text.startswith("refused")]
+    print(len(stdout), "cases;", len(sizes), "listed,", sum(0 < n < SLOTS for n in sizes), "of them neither empty nor full;", met, file=sys.stderr)
 
 
 if __name__ == "__main__":

@@ -209,26 +209,44 @@ static struct slots over_way(const struct model *model, int way, bool diamond, c
     return set;
 }
 
-static struct slots value(const struct model *, const struct node *, int, const struct slots *);
+/* Rounds are counted up to one more than the highest limit. */
+enum { OVER = DESK_LIMIT_MAX + 1 };
 
-/* Mu from nothing, nu from everything, until the body gives back what it was given; the body is evaluated afresh each time. */
-static struct slots loop(const struct model *model, const struct node *table, const struct node *node, const struct slots *variables)
+static uint32_t sum(uint32_t one, uint32_t other)
 {
-    struct slots inner[VARIABLES], next;
+    return one + other < OVER ? one + other : OVER;
+}
+
+/* A node's set, and the rounds on all paths down from it. */
+struct found {
+    struct slots set;
+    uint32_t rounds;
+};
+
+static struct found value(const struct model *, const struct node *, int, const struct slots *);
+
+/* Mu from nothing, nu from everything, until the body gives back what it was given; the body is evaluated afresh each time, with all the loops in
+ * it, and the last time counts too. */
+static struct found loop(const struct model *model, const struct node *table, const struct node *node, const struct slots *variables)
+{
+    struct slots inner[VARIABLES];
+    struct found next = {all_slots(node->kind == NU), 0};
+    uint32_t rounds = 0;
     memcpy(inner, variables, sizeof inner);
-    next = all_slots(node->kind == NU);
     do {
-        inner[node->param] = next;
+        inner[node->param] = next.set;
         next = value(model, table, node->left, inner);
-    } while (memcmp(&next, &inner[node->param], sizeof next) != 0);
+        rounds = sum(rounds, sum(1, next.rounds));
+    } while (memcmp(&next.set, &inner[node->param], sizeof next.set) != 0 && rounds < OVER);
+    next.rounds = rounds;
     return next;
 }
 
-static struct slots node_value(const struct model *model, const struct node *table, const struct node *node, const struct slots *sets,
+/* The set of a node without a body, from the sets of its children. */
+static struct slots node_value(const struct model *model, const struct node *node, const struct slots *left, const struct slots *right,
                                const struct slots *variables)
 {
     struct slots set = all_slots(false);
-    const struct slots *left = &sets[node->left], *right = &sets[node->right];
     switch (node->kind) {
     case TRUE:
         return all_slots(true);
@@ -237,9 +255,6 @@ static struct slots node_value(const struct model *model, const struct node *tab
     case DIAMOND:
     case BOX:
         return over_way(model, node->param, node->kind == DIAMOND, left);
-    case MU:
-    case NU:
-        return loop(model, table, node, variables);
     case NAME:
         set.has[model->name[node->param]] = true;
         return set;
@@ -256,11 +271,22 @@ static struct slots node_value(const struct model *model, const struct node *tab
     return set;
 }
 
-/* The set of a node: first the nodes that it needs outside of loops, in ascending order; each loop looks after its own body. */
-static struct slots value(const struct model *model, const struct node *table, int root, const struct slots *variables)
+/* A node, from what was found for its children. */
+static struct found node_found(const struct model *model, const struct node *table, const struct node *node, const struct found *found,
+                               const struct slots *variables)
 {
-    struct slots *sets = malloc(sizeof *sets * ((size_t)root + 1)), result;
-    bool *needed = calloc((size_t)root + 1, 1);
+    const struct found *left = &found[node->left], *right = &found[node->right];
+    if (is_loop(node))
+        return loop(model, table, node, variables);
+    int used = children(node->kind);
+    return (struct found){node_value(model, node, &left->set, &right->set, variables),
+                          sum(used >= 1 ? left->rounds : 0, used == 2 ? right->rounds : 0)};
+}
+
+/* The nodes that a node needs outside of loops; each loop looks after its own body. */
+static void mark_needed(const struct node *table, int root, bool *needed)
+{
+    memset(needed, 0, (size_t)root + 1);
     needed[root] = true;
     for (int i = root; i >= 0; i--)
         if (needed[i] && !is_loop(&table[i])) {
@@ -269,29 +295,76 @@ static struct slots value(const struct model *model, const struct node *table, i
             if (children(table[i].kind) == 2)
                 needed[table[i].right] = true;
         }
-    for (int i = 0; i <= root; i++)
+}
+
+/* The set of a node and its rounds: first the nodes that it needs, in ascending order. Of a node that is over, so is each that needs it. */
+static struct found value(const struct model *model, const struct node *table, int root, const struct slots *variables)
+{
+    struct found *found = malloc(sizeof *found * ((size_t)root + 1)), result;
+    bool *needed = malloc((size_t)root + 1);
+    mark_needed(table, root, needed);
+    result.rounds = 0;
+    for (int i = 0; i <= root && result.rounds < OVER; i++)
         if (needed[i])
-            sets[i] = node_value(model, table, &table[i], sets, variables);
-    result = sets[root];
-    free(sets);
+            result = found[i] = node_found(model, table, &table[i], found, variables);
+    free(found);
     free(needed);
     return result;
 }
 
-static uint32_t list(const struct model *model, const struct node *table, int count, uint8_t *set)
+/* Writes the set and gives how many slots it has. */
+static uint32_t set_write(const struct slots *slots, uint8_t *set)
 {
-    struct slots variables[VARIABLES], result;
-    uint32_t found = 0;
-    for (int v = 0; v < VARIABLES; v++)
-        variables[v] = all_slots(false);
-    result = value(model, table, count - 1, variables);
+    uint32_t count = 0;
     memset(set, 0, DESK_SET_BYTES);
     for (int s = 0; s < SLOTS; s++)
-        if (result.has[s]) {
+        if (slots->has[s]) {
             put_slot(set, s);
-            found++;
+            count++;
         }
-    return found;
+    return count;
+}
+
+static struct found list(const struct model *model, const struct node *table, int count)
+{
+    struct slots variables[VARIABLES];
+    for (int v = 0; v < VARIABLES; v++)
+        variables[v] = all_slots(false);
+    return value(model, table, count - 1, variables);
+}
+
+/* ---- listing once more, by the definition of a round alone */
+
+struct walk {
+    const struct model *model;
+    const struct node *table;
+    struct slots variables[VARIABLES];
+    uint32_t rounds;
+    int steps; /* how many nodes may still be looked at */
+};
+
+static struct slots walk(struct walk *w, int number)
+{
+    const struct node *node = &w->table[number];
+    const int used = children(node->kind);
+    struct slots left = all_slots(node->kind == NU), right = left;
+    if (w->steps-- <= 0)
+        return left;
+    if (is_loop(node)) {
+        struct slots *variable = &w->variables[node->param], outer = *variable;
+        do {
+            *variable = left;
+            left = walk(w, node->left);
+            w->rounds++;
+        } while (memcmp(&left, variable, sizeof left) != 0 && w->steps > 0);
+        *variable = outer;
+        return left;
+    }
+    if (used >= 1)
+        left = walk(w, node->left);
+    if (used == 2)
+        right = walk(w, node->right);
+    return node_value(w->model, node, &left, &right, w->variables);
 }
 
 /* ---- the sheet */
@@ -814,16 +887,37 @@ static void judge(struct read *r, struct piece site, struct piece cond, struct p
 static struct read answer;
 static const struct piece none;
 
-struct desk_listed oracle_list(const uint8_t *site, size_t site_len, const uint8_t *cond, size_t cond_len,
+struct desk_listed oracle_list(const uint8_t *site, size_t site_len, const uint8_t *cond, size_t cond_len, uint32_t limit,
                                uint8_t *set, size_t set_len, uint8_t *work, size_t work_len)
 {
     struct read *r = &answer;
     memset(set, 0, set_len);
     memset(work, 0, work_len);
     if (set_len != DESK_SET_BYTES || work_len != DESK_WORK_BYTES)
-        return (struct desk_listed){1, 0, 0};
+        return (struct desk_listed){1, 0, 0, 0};
+    if (limit > DESK_LIMIT_MAX)
+        return (struct desk_listed){16, 0, 0, 0};
     judge(r, (struct piece){site, site_len}, (struct piece){cond, cond_len}, none);
-    return (struct desk_listed){r->reason, r->where, r->reason ? 0 : list(&r->before, r->table, r->count, set)};
+    if (r->reason)
+        return (struct desk_listed){r->reason, r->where, 0, 0};
+    struct found found = list(&r->before, r->table, r->count);
+    if (found.rounds > limit)
+        return (struct desk_listed){15, 0, 0, 0};
+    return (struct desk_listed){0, 0, set_write(&found.set, set), found.rounds};
+}
+
+bool oracle_walk(const uint8_t *site, const uint8_t *cond, size_t cond_len, uint8_t *set, uint32_t *rounds)
+{
+    enum { STEPS = 800, DEEPEST = 100 };
+    struct read *r = &answer;
+    judge(r, (struct piece){site, DESK_SITE_BYTES}, (struct piece){cond, cond_len}, none);
+    struct walk w = {.model = &r->before, .table = r->table, .steps = STEPS};
+    if (r->reason || r->count > DEEPEST)
+        return false;
+    struct slots slots = walk(&w, r->count - 1);
+    set_write(&slots, set);
+    *rounds = w.rounds;
+    return w.steps > 0;
 }
 
 struct desk_applied oracle_apply(const uint8_t *site, size_t site_len, const uint8_t *sheet, size_t sheet_len,
@@ -899,13 +993,32 @@ static bool file_fault(const uint8_t *file, size_t length, struct piece *site, s
     return false;
 }
 
-struct desk_done oracle_job(const uint8_t *file, size_t file_len, uint8_t *site, size_t site_len, uint8_t *table, size_t table_len,
-                            uint8_t *after, size_t after_len, uint8_t *today, size_t today_len,
+/* Items 2 to 14. */
+static void judge_file(struct read *r, const uint8_t *file, size_t length)
+{
+    struct piece pieces[3];
+    r->reason = 2;
+    r->where = 0;
+    if (!file_fault(file, length, &pieces[0], &pieces[1], &pieces[2]))
+        judge(r, pieces[0], pieces[1], pieces[2]);
+}
+
+bool oracle_rounds(const uint8_t *file, size_t file_len, uint32_t *after, uint32_t *today)
+{
+    struct read *r = &answer;
+    judge_file(r, file, file_len);
+    if (r->reason)
+        return false;
+    *after = list(&r->after, r->table, r->count).rounds;
+    *today = list(&r->before, r->rewritten, r->rewritten_count).rounds;
+    return true;
+}
+
+struct desk_done oracle_job(const uint8_t *file, size_t file_len, uint32_t limit, uint8_t *site, size_t site_len,
+                            uint8_t *table, size_t table_len, uint8_t *after, size_t after_len, uint8_t *today, size_t today_len,
                             uint8_t *classes, size_t classes_len, uint8_t *work, size_t work_len)
 {
     struct read *r = &answer;
-    struct desk_done done = {0, 0, 0, 0, 0, 0};
-    struct piece pieces[3];
     memset(site, 0, site_len);
     memset(table, 0, table_len);
     memset(after, 0, after_len);
@@ -913,24 +1026,22 @@ struct desk_done oracle_job(const uint8_t *file, size_t file_len, uint8_t *site,
     memset(classes, 0, classes_len);
     memset(work, 0, work_len);
     if (site_len != DESK_SITE_BYTES || table_len != DESK_TABLE_BYTES || after_len != DESK_SET_BYTES || today_len != DESK_SET_BYTES ||
-        classes_len != DESK_CLASSES_BYTES || work_len != DESK_WORK_BYTES) {
-        done.reason = 1;
-        return done;
-    }
-    if (file_fault(file, file_len, &pieces[0], &pieces[1], &pieces[2])) {
-        done.reason = 2;
-        return done;
-    }
-    judge(r, pieces[0], pieces[1], pieces[2]);
-    done.reason = r->reason;
-    done.where = r->where;
+        classes_len != DESK_CLASSES_BYTES || work_len != DESK_WORK_BYTES)
+        return (struct desk_done){.reason = 1};
+    if (limit > DESK_LIMIT_MAX)
+        return (struct desk_done){.reason = 16};
+    judge_file(r, file, file_len);
     if (r->reason)
-        return done;
+        return (struct desk_done){.reason = r->reason, .where = r->where};
+    struct found one = list(&r->after, r->table, r->count), other = list(&r->before, r->rewritten, r->rewritten_count);
+    if (one.rounds > limit || other.rounds > limit)
+        return (struct desk_done){.reason = 15};
     model_write(&r->after, site);
     table_write(r->rewritten, (size_t)r->rewritten_count, table);
-    done.nodes = (uint32_t)r->rewritten_count;
-    done.after = list(&r->after, r->table, r->count, after);
-    done.today = list(&r->before, r->rewritten, r->rewritten_count, today);
-    done.classes = number_classes(&r->after, classes);
-    return done;
+    return (struct desk_done){.after = set_write(&one.set, after),
+                              .today = set_write(&other.set, today),
+                              .nodes = (uint32_t)r->rewritten_count,
+                              .classes = number_classes(&r->after, classes),
+                              .after_rounds = one.rounds,
+                              .today_rounds = other.rounds};
 }

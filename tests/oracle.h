@@ -17,7 +17,7 @@ enum {
     LINKS = GENERAL + FUNCTIONAL,
     EVERYWHERE = 2 * LINKS, /* the way behind the links and their reverses */
     WAYS = EVERYWHERE + 1,
-    REASONS = DESK_TABLE_FULL + 1,
+    REASONS = DESK_LIMIT + 1,
     SHEET_BYTES = DESK_EDITS_MAX * DESK_EDIT_BYTES
 };
 
@@ -91,7 +91,7 @@ void model_read(struct model *model, const uint8_t *site);
 /* Makes one edit; false, and nothing is changed, if it does not go through. */
 bool model_edit(struct model *model, const uint8_t *edit);
 
-struct desk_listed oracle_list(const uint8_t *site, size_t site_len, const uint8_t *cond, size_t cond_len,
+struct desk_listed oracle_list(const uint8_t *site, size_t site_len, const uint8_t *cond, size_t cond_len, uint32_t limit,
                                uint8_t *set, size_t set_len, uint8_t *work, size_t work_len);
 struct desk_applied oracle_apply(const uint8_t *site, size_t site_len, const uint8_t *sheet, size_t sheet_len,
                                  uint8_t *result, size_t result_len);
@@ -99,8 +99,16 @@ struct desk_rewritten oracle_rewrite(const uint8_t *cond, size_t cond_len, const
                                      uint8_t *result, size_t result_len);
 struct desk_rewritten oracle_through(const uint8_t *sheet, size_t sheet_len, uint8_t *result, size_t result_len);
 struct desk_classed oracle_classes(const uint8_t *site, size_t site_len, uint8_t *classes, size_t classes_len);
-struct desk_done oracle_job(const uint8_t *file, size_t file_len, uint8_t *site, size_t site_len, uint8_t *table, size_t table_len,
-                            uint8_t *after, size_t after_len, uint8_t *today, size_t today_len,
+struct desk_done oracle_job(const uint8_t *file, size_t file_len, uint32_t limit, uint8_t *site, size_t site_len,
+                            uint8_t *table, size_t table_len, uint8_t *after, size_t after_len, uint8_t *today, size_t today_len,
                             uint8_t *classes, size_t classes_len, uint8_t *work, size_t work_len);
+
+/* The set and the rounds once more for an accepted site and condition: the tree is walked path by path, and nothing is shared or kept. False,
+ * and nothing is said, where the tree has too many nodes for that. */
+bool oracle_walk(const uint8_t *site, const uint8_t *cond, size_t cond_len, uint8_t *set, uint32_t *rounds);
+
+/* The rounds of the condition on the site after, and of the rewritten table on the site, of a job that items 2 to 14 accept; each at most one
+ * more than the highest limit. False for any other job. */
+bool oracle_rounds(const uint8_t *file, size_t file_len, uint32_t *after, uint32_t *today);
 
 #endif

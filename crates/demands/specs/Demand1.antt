@@ -9,6 +9,7 @@ use Prim.Native.Nat.{ℕ, _≤_}
 use lib.ListN.{length, replicate}
 use Rattle.verdict.specs.declared.Verdict.the-variants.{Accepted}
 use Rattle.refusals.specs.Refusal.{lastItem}
+use Rattle.listing.specs.declared.Found.{Found}
 use Rattle.list_entry.specs.Listing.{ListAfter}
 use Rattle.apply_entry.specs.Applying.{SiteAfter}
 use Rattle.through.specs.Through.{through}
@@ -32,34 +33,38 @@ Zeroed b b′ = b′ ≡ replicate (length b) 0
 
 -- ---- the job
 
--- the site after, the rewritten table, both lists and the classes after, with their counts, from the three pieces of the file
-abbrev pub FullJob : (file : List ℕ) (b b′ : Buffers) (after today nodes classes : ℕ) → Type 0
+-- the site after, the rewritten table, both lists and the classes after, with their counts and rounds, from the three pieces of the file
+abbrev pub FullJob : (file : List ℕ) (b b′ : Buffers) (after today : Found) (nodes classes : ℕ) → Type 0
 FullJob file b b′ after today nodes classes = JobAfter Accepted (siteIn file) (conditionIn file) (sheetIn file) b b′ after today nodes classes
 
--- the five result buffers and the work buffer are zeros, and the four counts are 0
-pub record ZeroJob (b b′ : Buffers) (after today nodes classes : ℕ) : Type 0 where
+-- the five result buffers and the work buffer are zeros, and the four counts and the rounds of both lists are 0
+pub record ZeroJob (b b′ : Buffers) (after today : Found) (nodes classes : ℕ) : Type 0 where
   pub changed-zero : Zeroed (b .changed) (b′ .changed)
   pub table-zero : Zeroed (b .table) (b′ .table)
   pub after-zero : Zeroed (b .after) (b′ .after)
   pub today-zero : Zeroed (b .today) (b′ .today)
   pub classes-zero : Zeroed (b .classes) (b′ .classes)
   pub work-zero : Zeroed (b .work) (b′ .work)
-  pub none-after : after ≡ 0
-  pub none-today : today ≡ 0
+  pub none-after : after .count ≡ 0
+  pub none-today : today .count ≡ 0
   pub no-nodes : nodes ≡ 0
   pub no-classes : classes ≡ 0
+  pub no-rounds-after : after .rounds ≡ 0
+  pub no-rounds-today : today .rounds ≡ 0
 
 unfoldable pub Demand1Job : Type 0
 Demand1Job =
-    (file : List ℕ) (b b′ : Buffers) (reason fault after today nodes classes : ℕ) → ReturnedJob file b b′ reason fault after today nodes classes
+    (limit : ℕ) (file : List ℕ) (b b′ : Buffers) (reason fault : ℕ) (after today : Found) (nodes classes : ℕ)
+    → ReturnedJob limit file b b′ reason fault after today nodes classes
     → Answers reason fault (FullJob file b b′ after today nodes classes) (ZeroJob b b′ after today nodes classes)
 
 -- ---- the other functions, one by one: what each leaves after the verdict Accepted, or zeros
 
 unfoldable pub Demand1List : Type 0
 Demand1List =
-    (site table set set′ work work′ : List ℕ) (reason fault n : ℕ) → ReturnedList site table set set′ work work′ reason fault n
-    → Answers reason fault (ListAfter Accepted site table set set′ work work′ n) (Zeroed set set′ × (Zeroed work work′ × (n ≡ 0)))
+    (limit : ℕ) (site table set set′ work work′ : List ℕ) (reason fault : ℕ) (f : Found) → ReturnedList limit site table set set′ work work′ reason fault f
+    → Answers reason fault (ListAfter Accepted site table set set′ work work′ f)
+    (Zeroed set set′ × (Zeroed work work′ × ((f .count ≡ 0) × (f .rounds ≡ 0))))
 
 unfoldable pub Demand1Apply : Type 0
 Demand1Apply =

@@ -1,15 +1,15 @@
 -- The demands on the entry points together, over bytes. Demand 2: the rewritten condition lists today exactly what the condition lists
--- after the sheet. Demand 3: two slots have one class number after the sheet exactly if no closed condition without slot numbers, of any
+-- after the sheet, where neither list is refused with item 15. Demand 3: two slots have one class number after the sheet exactly if no closed condition without slot numbers, of any
 -- length, rewritten through the sheet, tells them apart today.
 use mathlib.Core.Path.{_≡_}
-use mathlib.Core.Logic.{_↔_}
+use mathlib.Core.Logic.{_↔_, _≢_}
 use mathlib.Core.Bool.{true}
 use mathlib.Core.List.{List}
 use Prim.Native.Nat.{ℕ, _*_, _≤_, _<_}
 use lib.ListN.{length, getD, take}
 use Rattle.bitset.specs.Set.{setBytes}
 use Rattle.verdict.specs.declared.Verdict.the-variants.{Accepted}
-use Rattle.limits.specs.Limits.{slots, tableNodes, tableBytes}
+use Rattle.limits.specs.Limits.{slots, tableNodes, tableBytes, highestLimit}
 use Rattle.semantics.specs.Holds.{Env, Distinguishes}
 use Rattle.semantics.specs.Table.{Node, formOf, ClosedTable}
 use Rattle.semantics.specs.Edit as edits
@@ -22,11 +22,11 @@ use Rattle.condition.specs.Refusal.{conditionVerdict}
 use Rattle.sheet.specs.Bytes.{editsOf}
 use Rattle.sheet.specs.Refusal.{sheetVerdict}
 use Rattle.rewriting.specs.Rewriting.{rewritten}
-use Rattle.listing.specs.Listed.{workBytes, Listed}
+use Rattle.listing.specs.Listed.{workBytes, Listed, foundOf}
 use Rattle.classes_entry.specs.Refusal.{classesBytes}
 use Rattle.desk.specs.Returned.{ReturnedList, ReturnedApply, ReturnedRewrite, ReturnedClasses}
 
--- ---- a call of each entry point: buffers of the stated lengths, and whatever it returns and leaves in them (′). That each call returns
+-- ---- a call of each entry point: buffers of the stated lengths, a limit up to the highest, and whatever it returns and leaves in them (′). That each call returns
 -- so is the contract of its export, which holds for all inputs
 
 pub record ApplyCall (site sheet : List ℕ) : Type 0 where
@@ -47,6 +47,7 @@ pub record RewriteCall (table sheet : List ℕ) : Type 0 where
   pub returned : ReturnedRewrite table sheet result result′ reason fault nodes
 
 pub record ListCall (site table : List ℕ) : Type 0 where
+  pub limit : ℕ
   pub set : List ℕ
   pub set′ : List ℕ
   pub work : List ℕ
@@ -54,9 +55,11 @@ pub record ListCall (site table : List ℕ) : Type 0 where
   pub reason : ℕ
   pub fault : ℕ
   pub count : ℕ
+  pub rounds : ℕ
+  pub limit-fits : limit ≤ highestLimit
   pub set-size : length set ≡ setBytes
   pub work-size : length work ≡ workBytes
-  pub returned : ReturnedList site table set set′ work work′ reason fault count
+  pub returned : ReturnedList limit site table set set′ work work′ reason fault (foundOf count rounds)
 
 pub record ClassCall (site : List ℕ) : Type 0 where
   pub classes : List ℕ
@@ -103,7 +106,7 @@ pub record ListsAgree (site table sheet changed newTable today after : List ℕ)
 -- site today, and the condition listed on the site after
 pub record SameLists {site table sheet : List ℕ} (applied : ApplyCall site sheet) (rewrote : RewriteCall table sheet)
     (today : ListCall site (rewrittenTable rewrote)) (after : ListCall (applied .result′) table) : Type 0 where
-  -- no call refuses: listing accepts the rewritten table, and the site after
+  -- no call refuses: listing accepts the rewritten table, and the site after. Their limits need not be the same
   pub applies : applied .reason ≡ 0
   pub rewrites : rewrote .reason ≡ 0
   pub lists-today : today .reason ≡ 0
@@ -114,7 +117,7 @@ unfoldable pub Demand2 : Type 0
 Demand2 =
     (site table sheet : List ℕ) → Runnable site table sheet
     → (applied : ApplyCall site sheet) (rewrote : RewriteCall table sheet)
-    → (today : ListCall site (rewrittenTable rewrote)) (after : ListCall (applied .result′) table)
+    → (today : ListCall site (rewrittenTable rewrote)) (after : ListCall (applied .result′) table) → today .reason ≢ 15 → after .reason ≢ 15
     → SameLists applied rewrote today after
 
 -- ---- demand 3

@@ -4,3 +4,5 @@ pub mod Demand1
 pub mod Demands
 pub mod Through
 pub mod Job
+pub mod Same
+pub mod Rounds

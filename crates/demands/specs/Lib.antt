@@ -6,5 +6,7 @@ pub mod Demands
 pub mod Through
 -- the demands on a whole job
 pub mod Job
+-- the demands on the limit
+pub mod Rounds
 -- what is proved of them
 pub mod Laws

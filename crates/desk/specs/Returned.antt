@@ -6,8 +6,10 @@ use Prim.Native.Nat.{ℕ}
 use lib.ListN.{length}
 use Rattle.verdict.specs.Verdict.{reasonOf, faultOf}
 use Rattle.verdict.specs.declared.Verdict.{Verdict}
-use Rattle.list_entry.specs.Refusal.{listVerdict}
-use Rattle.list_entry.specs.Listing.{ListAfter}
+use Rattle.verdict.specs.declared.Verdict.the-variants.{Accepted}
+use Rattle.listing.specs.declared.Found.{Found}
+use Rattle.list_entry.specs.Refusal.{listInputs, listVerdict}
+use Rattle.list_entry.specs.Listing.{SiteMakes, ListAfter}
 use Rattle.apply_entry.specs.Refusal.{applyVerdict}
 use Rattle.apply_entry.specs.Applying.{SiteAfter}
 use Rattle.through.specs.Through.{through}
@@ -18,8 +20,8 @@ use Rattle.classes_entry.specs.Refusal.{classesVerdict}
 use Rattle.classes_entry.specs.Classing.{ClassesAfter}
 use Rattle.trailer.specs.Pieces.{siteIn, conditionIn, sheetIn}
 use Rattle.job_run.specs.Buffers.{Buffers}
-use Rattle.job_run.specs.Job.{JobAfter}
-use Rattle.job_entry.specs.Refusal.{jobVerdict}
+use Rattle.job_run.specs.Job.{JobMakes, JobAfter}
+use Rattle.job_entry.specs.Refusal.{jobInputs, jobVerdict}
 
 -- the verdict `due` is returned in numbers: the reason, 0 where no item is met, and W, the fault; and what is left is what `After` says of
 -- that verdict
@@ -28,10 +30,12 @@ pub record Returned (due : Verdict) (After : Verdict → Type 0) (reason fault :
   pub fault-is : fault ≡ faultOf due
   pub left : After due
 
--- listing, with the count of the slots
-abbrev pub ReturnedList : (site table set set′ work work′ : List ℕ) (reason fault n : ℕ) → Type 0
-ReturnedList site table set set′ work work′ reason fault n =
-    Returned (listVerdict (length set) (length work) site table) (λ v. ListAfter v site table set set′ work work′ n) reason fault
+-- listing, with the count of the slots and the rounds. `made` is how many rounds listing makes; where an item before 15 is met, it does not
+-- matter
+pub record ReturnedList (limit : ℕ) (site table set set′ work work′ : List ℕ) (reason fault : ℕ) (f : Found) : Type 0 where
+  pub made : ℕ
+  pub makes : listInputs (length set) (length work) limit site table ≡ Accepted → SiteMakes site table made
+  pub returned : Returned (listVerdict (length set) (length work) limit site table made) (λ v. ListAfter v site table set set′ work work′ f) reason fault
 
 -- applying, with no count
 abbrev pub ReturnedApply : (site sheet result result′ : List ℕ) (reason fault : ℕ) → Type 0
@@ -53,7 +57,11 @@ abbrev pub ReturnedClasses : (site classes classes′ : List ℕ) (reason fault 
 ReturnedClasses site classes classes′ reason fault n =
     Returned (classesVerdict (length classes) site) (λ v. ClassesAfter v site classes classes′ n) reason fault
 
--- a job, with how many slots are listed after and today, the rewritten nodes and the different class numbers
-abbrev pub ReturnedJob : (file : List ℕ) (b b′ : Buffers) (reason fault after today nodes classes : ℕ) → Type 0
-ReturnedJob file b b′ reason fault after today nodes classes =
-    Returned (jobVerdict b file) (λ v. JobAfter v (siteIn file) (conditionIn file) (sheetIn file) b b′ after today nodes classes) reason fault
+-- a job, with the counts and the rounds of the lists after and today, the rewritten nodes and the different class numbers. `after-made` and
+-- `today-made` are how many rounds the lists make; where an item before 15 is met, they do not matter
+pub record ReturnedJob (limit : ℕ) (file : List ℕ) (b b′ : Buffers) (reason fault : ℕ) (after today : Found) (nodes classes : ℕ) : Type 0 where
+  pub after-made : ℕ
+  pub today-made : ℕ
+  pub makes : jobInputs b limit file ≡ Accepted → JobMakes (siteIn file) (conditionIn file) (sheetIn file) after-made today-made
+  pub returned : Returned (jobVerdict b limit file after-made today-made)
+      (λ v. JobAfter v (siteIn file) (conditionIn file) (sheetIn file) b b′ after today nodes classes) reason fault

@@ -5,15 +5,17 @@ ghost use Rattle.desk.specs.Returned.{ReturnedList, ReturnedApply, Retur
 ghost use mathlib.Core.Path.{_≡_};
 ghost use Rattle.verdict.specs.Verdict.{reasonOf, faultOf};
 ghost use Rattle.rewriting.specs.Answer as made;
+ghost use Rattle.listing.specs.Listed.{foundOf};
 ghost use Rattle.job_run.specs.Buffers.{buffersOf};
 ghost use Rattle.job_run.specs.Answer.{verdictOf, afterOf, todayOf, nodesOf, classesOf};
 
-// In each answer the reason is the number of the item that is met, 0 where none is, and the fault is W.
+// In each answer the reason is the number of the item that is met, 0 where none is, and the fault is W. The rounds are those that listing made.
 #[repr(C)]
 pub struct ListAnswer {
     pub reason: u32,
     pub fault: u32,
     pub count: u32,
+    pub rounds: u32,
 }
 
 #[repr(C)]
@@ -36,7 +38,7 @@ pub struct ClassesAnswer {
     pub count: u32,
 }
 
-// The slots listed on the site after and today, the rewritten nodes, and the different class numbers.
+// The slots listed on the site after and today, the rewritten nodes, the different class numbers, and the rounds of the two lists.
 #[repr(C)]
 pub struct JobAnswer {
     pub reason: u32,
@@ -45,21 +47,30 @@ pub struct JobAnswer {
     pub today: u32,
     pub nodes: u32,
     pub classes: u32,
+    pub after_rounds: u32,
+    pub today_rounds: u32,
 }
 
 #[no_mangle]
-pub extern "C" fn desk_list(site: &[u8], cond: &[u8], set: &mut [u8], work: &mut [u8]) -> ListAnswer
-    ensures { λ r. ⌜ ReturnedList (now (site .entry)) (now (cond .entry)) (now (set .entry)) (now (set .exit)) (now (work .entry)) (now (work .exit)) (r .reason) (r .fault) (r .count) ⌝ }
+pub extern "C" fn desk_list(
+    site: &[u8],
+    cond: &[u8],
+    limit: u32,
+    set: &mut [u8],
+    work: &mut [u8],
+) -> ListAnswer
+    ensures { λ r. ⌜ ReturnedList limit (now (site .entry)) (now (cond .entry)) (now (set .entry)) (now (set .exit)) (now (work .entry)) (now (work .exit)) (r .reason) (r .fault) (foundOf (r .count) (r .rounds)) ⌝ }
 {
-    let answer = list_entry::list(site, cond, set, work);
+    let answer = list_entry::list(site, cond, limit, set, work);
     let v = list_entry::verdict(answer);
     let reason = verdict::reason(v);
     let fault = verdict::fault(v);
-    let count = list_entry::count(answer);
+    let found = list_entry::found(answer);
     ListAnswer {
         reason: reason,
         fault: fault,
-        count: count,
+        count: found.count,
+        rounds: found.rounds,
     }
 }
 
@@ -121,19 +132,21 @@ pub extern "C" fn desk_classes(site: &[u8], classes: &mut [u8]) -> ClassesAnswer
     }
 }
 
-// The answer of a job in numbers: no item, and its counts; or the item and W, and counts of 0.
+// The answer of a job in numbers: no item, its counts and its rounds; or the item and W, and zeros.
 fn in_numbers(r: Job) -> JobAnswer
     ensures { λ a. ⌜ (a .reason ≡ reasonOf (verdictOf r)) × (a .fault ≡ faultOf (verdictOf r)) ⌝ }
-    ensures { λ a. ⌜ (a .after ≡ afterOf r) × ((a .today ≡ todayOf r) × ((a .nodes ≡ nodesOf r) × (a .classes ≡ classesOf r))) ⌝ }
+    ensures { λ a. ⌜ (foundOf (a .after) (a .«after_rounds») ≡ afterOf r) × ((foundOf (a .today) (a .«today_rounds») ≡ todayOf r) × ((a .nodes ≡ nodesOf r) × (a .classes ≡ classesOf r))) ⌝ }
 {
     match r {
         Job::Done(after, today, nodes, classes) => JobAnswer {
             reason: 0,
             fault: 0,
-            after: after,
-            today: today,
+            after: after.count,
+            today: today.count,
             nodes: nodes,
             classes: classes,
+            after_rounds: after.rounds,
+            today_rounds: today.rounds,
         },
         Job::Refused(item, fault) => JobAnswer {
             reason: item as u32,
@@ -142,6 +155,8 @@ fn in_numbers(r: Job) -> JobAnswer
             today: 0,
             nodes: 0,
             classes: 0,
+            after_rounds: 0,
+            today_rounds: 0,
         },
     }
 }
@@ -149,6 +164,7 @@ fn in_numbers(r: Job) -> JobAnswer
 #[no_mangle]
 pub extern "C" fn desk_job(
     file: &[u8],
+    limit: u32,
     changed: &mut [u8],
     table: &mut [u8],
     after: &mut [u8],
@@ -156,7 +172,7 @@ pub extern "C" fn desk_job(
     classes: &mut [u8],
     work: &mut [u8],
 ) -> JobAnswer
-    ensures { λ r. ⌜ ReturnedJob (now (file .entry)) (buffersOf (now (changed .entry)) (now (table .entry)) (now (after .entry)) (now (today .entry)) (now (classes .entry)) (now (work .entry))) (buffersOf (now (changed .exit)) (now (table .exit)) (now (after .exit)) (now (today .exit)) (now (classes .exit)) (now (work .exit))) (r .reason) (r .fault) (r .after) (r .today) (r .nodes) (r .classes) ⌝ }
+    ensures { λ r. ⌜ ReturnedJob limit (now (file .entry)) (buffersOf (now (changed .entry)) (now (table .entry)) (now (after .entry)) (now (today .entry)) (now (classes .entry)) (now (work .entry))) (buffersOf (now (changed .exit)) (now (table .exit)) (now (after .exit)) (now (today .exit)) (now (classes .exit)) (now (work .exit))) (r .reason) (r .fault) (foundOf (r .after) (r .«after_rounds»)) (foundOf (r .today) (r .«today_rounds»)) (r .nodes) (r .classes) ⌝ }
 {
-    in_numbers(job_entry::run(file, changed, table, after, today, classes, work))
+    in_numbers(job_entry::run(file, limit, changed, table, after, today, classes, work))
 }

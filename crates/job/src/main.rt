@@ -1,8 +1,9 @@
-// Reads a job on standard input and prints its answer. The buffer has one byte more than the longest job, so a longer one is seen to be
-// too long.
+// Reads a job on standard input and prints its answer under the highest limit on rounds. The buffer has one byte more than the longest job, so
+// a longer one is seen to be too long.
 use bitset::SET_BYTES;
 use bitset::SET_SLOTS;
 use libc::STDIN_FILENO;
+use limits::HIGHEST_LIMIT;
 use limits::TABLE_BYTES;
 use listing::WORK_BYTES;
 use site::SITE_BYTES;
@@ -17,6 +18,7 @@ fn answer(file: &[u8]) {
     let mut work = [0u8; WORK_BYTES];
     let r = job_entry::run(
         file,
+        HIGHEST_LIMIT,
         &mut changed,
         &mut table,
         &mut after,

@@ -10,7 +10,7 @@ use Rattle.limits.specs.Limits.{tableBytes}
 use Rattle.trailer.specs.Refusal.{trailerVerdict}
 use Rattle.trailer.specs.Pieces.{siteIn, conditionIn, sheetIn}
 use Rattle.listing.specs.Listed.{workBytes}
-use Rattle.refusals.specs.Refusal.{bufferVerdict}
+use Rattle.refusals.specs.Refusal.{bufferVerdict, limitVerdict, roundsVerdict}
 use Rattle.classes_entry.specs.Refusal.{classesBytes}
 use Rattle.job_run.specs.Buffers.{Buffers}
 use Rattle.job_run.specs.Refusal.{piecesVerdict}
@@ -25,9 +25,14 @@ buffersVerdict b =
     then bufferVerdict (length (b .classes)) classesBytes
     then bufferVerdict (length (b .work)) workBytes
 
--- the job: 1, then 2 of the file, then 3 to 14 of its pieces
-unfoldable pub jobVerdict : Buffers → (file : List ℕ) → Verdict
-jobVerdict b file =
+-- the job, all items but 15: 1, then 16, then 2 of the file, then 3 to 14 of its pieces
+unfoldable pub jobInputs : Buffers → (limit : ℕ) (file : List ℕ) → Verdict
+jobInputs b limit file =
     buffersVerdict b
+    then limitVerdict limit
     then trailerVerdict file
     then piecesVerdict (siteIn file) (conditionIn file) (sheetIn file)
+
+-- the job, where its lists make a rounds on the site after and t today: 15 of each, under the whole limit, comes last
+unfoldable pub jobVerdict : Buffers → (limit : ℕ) (file : List ℕ) (a t : ℕ) → Verdict
+jobVerdict b limit file a t = jobInputs b limit file then roundsVerdict limit a then roundsVerdict limit t

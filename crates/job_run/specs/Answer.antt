@@ -1,7 +1,9 @@
--- The number, W and counts for each case of the answer of a job.
+-- The number, W, counts and rounds for each case of the answer of a job.
 use Prim.Native.Nat.{ℕ}
 use Rattle.verdict.specs.declared.Verdict.{Verdict}
 use Rattle.verdict.specs.declared.Verdict.the-variants as verdict
+use Rattle.listing.specs.declared.Found.{Found}
+use Rattle.listing.specs.Listed.{foundOf}
 use Rattle.job_run.specs.declared.Job.{Job}
 use Rattle.job_run.specs.declared.Job.the-variants.{Done, Refused}
 
@@ -10,14 +12,14 @@ abbrev pub verdictOf : Job → Verdict
 verdictOf (Done a t n c) = verdict.Accepted
 verdictOf (Refused item w) = verdict.Refused item w
 
--- the slots listed on the site after, and today; the nodes of the rewritten table; the different class numbers
-abbrev pub afterOf : Job → ℕ
+-- the count and the rounds of the lists on the site after, and today; the nodes of the rewritten table; the different class numbers
+abbrev pub afterOf : Job → Found
 afterOf (Done a t n c) = a
-afterOf (Refused item w) = 0
+afterOf (Refused item w) = foundOf 0 0
 
-abbrev pub todayOf : Job → ℕ
+abbrev pub todayOf : Job → Found
 todayOf (Done a t n c) = t
-todayOf (Refused item w) = 0
+todayOf (Refused item w) = foundOf 0 0
 
 abbrev pub nodesOf : Job → ℕ
 nodesOf (Done a t n c) = n

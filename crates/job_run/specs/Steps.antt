@@ -12,27 +12,27 @@ use Rattle.site.specs.Site.{siteOf}
 use Rattle.condition.specs.Bytes.{tableOf}
 use Rattle.condition.specs.Refusal.{conditionVerdict}
 use Rattle.even_rule.specs.Free.{FreeRows}
-use Rattle.limits.specs.Limits.{tableNodes}
+use Rattle.limits.specs.Limits.{tableNodes, highestLimit}
+use Rattle.refusals.specs.Refusal.{roundsVerdict}
 use Rattle.listing.specs.Listed.{workBytes, Listed}
 use Rattle.bitset.specs.Set.{setBytes}
-use Rattle.classes.specs.Classes.{Classes, different}
 use Rattle.rewriting.specs.declared.Rewriting.{Rewriting}
 use Rattle.rewriting.specs.declared.Rewriting.the-variants.{Rewritten}
 use Rattle.rewriting.specs.Answer as rewriting
 use Rattle.rewriting.specs.Rewriting.{TableAfter, rewritten}
 use Rattle.apply_entry.specs.Applying.{SiteAfter}
-use Rattle.classes_entry.specs.Refusal.{classesBytes}
+use Rattle.list_entry.specs.Listing.{SiteMakes}
 use Rattle.job_run.specs.declared.Job.{Job}
 use Rattle.job_run.specs.Buffers.{Buffers}
-use Rattle.job_run.specs.Job.{JobAfter}
+use Rattle.job_run.specs.Job.{JobMakes, JobAfter}
 use Rattle.job_run.specs.Answer.{verdictOf, afterOf, todayOf, nodesOf, classesOf}
 use Rattle.job_run.specs.Refusal.{piecesVerdict}
 
--- the four buffers that listing and numbering write have the stated lengths
-pub record Sets (after today classes work : List ℕ) : Type 0 where
+-- the limit can be taken, and the three buffers that listing writes have the stated lengths
+pub record Sets (limit : ℕ) (after today work : List ℕ) : Type 0 where
+  pub limit-fits : limit ≤ highestLimit
   pub after-size : length after ≡ setBytes
   pub today-size : length today ≡ setBytes
-  pub classes-size : length classes ≡ classesBytes
   pub work-size : length work ≡ workBytes
 
 -- the buffers of a refusal
@@ -65,17 +65,43 @@ pub record Prepared (first : Verdict) (site cond sheet free′ changed changed�
   pub verdict : rewriting.verdictOf r ≡ first then piecesVerdict site cond sheet
   pub made : (n : ℕ) → r ≡ Rewritten n → Made site cond sheet free′ changed changed′ table table′ n
 
--- the condition and the rewritten table are listed, and the slots of the changed site are numbered
-pub record Finished (site cond changed table : List ℕ) (n : ℕ) (after′ today′ classes′ work′ : List ℕ) (r : Job) : Type 0 where
-  pub verdict : verdictOf r ≡ Accepted
+-- the condition is listed on the changed site, and the first n nodes of the table on the site, with the counts and the rounds of r
+pub record BothListed (site cond changed table : List ℕ) (n : ℕ) (after′ today′ work′ : List ℕ) (r : Job) : Type 0 where
   pub nodes : nodesOf r ≡ n
-  pub list-after : Listed (siteOf changed) (formOf (tableOf cond)) after′ (afterOf r)
-  pub list-today : Listed (siteOf site) (formOf (tableOf (take (6 * n) table))) today′ (todayOf r)
-  pub classes-after : Classes (siteOf changed) classes′
-  pub classes-count : classesOf r ≡ different classes′
+  pub list-after : Listed (siteOf changed) (formOf (tableOf cond)) after′ (afterOf r .count)
+  pub after-makes : SiteMakes changed cond (afterOf r .rounds)
+  pub list-today : Listed (siteOf site) (formOf (tableOf (take (6 * n) table))) today′ (todayOf r .count)
+  pub today-makes : SiteMakes site (take (6 * n) table) (todayOf r .rounds)
   pub work-zero : work′ ≡ replicate workBytes 0
 
--- a job on these pieces, after the verdict `first` on all that is tested before them, answers r
-pub record Ran (first : Verdict) (site cond sheet : List ℕ) (b b′ : Buffers) (r : Job) : Type 0 where
-  pub verdict : verdictOf r ≡ first then piecesVerdict site cond sheet
+-- both are tried under the limit. Where one of them makes more rounds, r is item 15
+pub record BothTried (limit : ℕ) (site cond changed table : List ℕ) (n : ℕ) (after′ today′ work′ : List ℕ) (r : Job) : Type 0 where
+  pub after-made : ℕ
+  pub today-made : ℕ
+  pub after-makes : SiteMakes changed cond after-made
+  pub today-makes : SiteMakes site (take (6 * n) table) today-made
+  pub verdict : verdictOf r ≡ roundsVerdict limit after-made then roundsVerdict limit today-made
+  pub both : verdictOf r ≡ Accepted → BothListed site cond changed table n after′ today′ work′ r
+
+-- the site and the table are changed, and both lists are there
+pub record Lists (site cond sheet changed changed′ table table′ after′ today′ work′ : List ℕ) (r : Job) : Type 0 where
+  pub site-after : SiteAfter Accepted site sheet changed changed′
+  pub table-after : TableAfter Accepted (rewritten cond sheet) table table′ (nodesOf r)
+  pub both : BothListed site cond changed′ table′ (nodesOf r) after′ today′ work′ r
+
+-- the verdict of a job on these pieces, after the verdict `first` on all that is tested before them, is v, where its lists make so many rounds
+pub record Judged (first : Verdict) (limit : ℕ) (site cond sheet : List ℕ) (v : Verdict) : Type 0 where
+  pub after-made : ℕ
+  pub today-made : ℕ
+  pub makes : first then piecesVerdict site cond sheet ≡ Accepted → JobMakes site cond sheet after-made today-made
+  pub verdict : v ≡ (first then piecesVerdict site cond sheet) then roundsVerdict limit after-made then roundsVerdict limit today-made
+
+-- all but the class numbers is done, with the answer r
+pub record Tried (first : Verdict) (limit : ℕ) (site cond sheet changed changed′ table table′ after′ today′ work′ : List ℕ) (r : Job) : Type 0 where
+  pub judged : Judged first limit site cond sheet (verdictOf r)
+  pub lists : verdictOf r ≡ Accepted → Lists site cond sheet changed changed′ table table′ after′ today′ work′ r
+
+-- the job answers r
+pub record Ran (first : Verdict) (limit : ℕ) (site cond sheet : List ℕ) (b b′ : Buffers) (r : Job) : Type 0 where
+  pub judged : Judged first limit site cond sheet (verdictOf r)
   pub left : JobAfter (verdictOf r) site cond sheet b b′ (afterOf r) (todayOf r) (nodesOf r) (classesOf r)

@@ -1,5 +1,6 @@
 // The steps of a job on its pieces `site`, `cond` and `sheet`: they are judged; the sheet is applied, into `changed`, and the condition
 // rewritten, into `table`; and the rewritten table is listed, into `today`.
+use listing::Found;
 use rewriting::Rewriting;
 use verdict::Verdict;
 ghost use mathlib.Core.Path.{_≡_};
@@ -16,8 +17,8 @@ ghost use Rattle.condition.specs.Bytes.{tableOf};
 ghost use Rattle.condition.specs.Refusal.{conditionVerdict};
 ghost use Rattle.even_rule.specs.Free.{noMasks};
 ghost use Rattle.sheet.specs.Refusal.{sheetVerdict};
-ghost use Rattle.limits.specs.Limits.{tableBytes};
-ghost use Rattle.listing.specs.Listed.{workBytes, Listed};
+ghost use Rattle.limits.specs.Limits.{tableBytes, highestLimit};
+ghost use Rattle.listing.specs.Listed.{workBytes, Within};
 ghost use Rattle.job_steps.specs.Steps.{PiecesJudged, Changed};
 
 // Items 7 to 10 of the condition, then 11 and 12 of the sheet.
@@ -63,25 +64,34 @@ pub fn change(
     }
 }
 
-// What an accepted part of the rewritten table lists on a site.
-fn list(site: &[u8], part: &[u8], today: &mut [u8], work: &mut [u8]) -> u32
+// What an accepted part of the rewritten table lists on a site, where it makes no more rounds than the limit.
+fn list(site: &[u8], part: &[u8], limit: u32, today: &mut [u8], work: &mut [u8]) -> Found
     requires { ⌜ (length (now site) ≡ siteBytes) × (conditionVerdict (now part) ≡ Accepted) ⌝ }
+    requires { ⌜ limit ≤ highestLimit ⌝ }
     requires { ⌜ (length (now today) ≡ setBytes) × (length (now work) ≡ workBytes) ⌝ }
-    ensures { λ r. ⌜ Listed (siteOf (now (site .entry))) (formOf (tableOf (now (part .entry)))) (now (today .exit)) r ⌝ }
+    ensures { λ r. ⌜ Within limit (siteOf (now (site .entry))) (formOf (tableOf (now (part .entry)))) (now (today .exit)) r ⌝ }
     ensures { λ _. ⌜ now (work .exit) ≡ replicate workBytes 0 ⌝ }
 {
     let mut free = even_rule::no_masks();
     even_rule::check(part, &mut free);
-    listing::list(site, part, &free, today, work)
+    listing::list(site, part, &free, limit, today, work)
 }
 
-// What the first n nodes of the rewritten table list on a site.
-pub fn list_first(site: &[u8], table: &[u8], n: u32, today: &mut [u8], work: &mut [u8]) -> u32
+// What the first n nodes of the rewritten table list on a site, where they make no more rounds than the limit.
+pub fn list_first(
+    site: &[u8],
+    table: &[u8],
+    n: u32,
+    limit: u32,
+    today: &mut [u8],
+    work: &mut [u8],
+) -> Found
     requires { ⌜ (length (now site) ≡ siteBytes) × ((6 * n ≤ length (now table)) × (conditionVerdict (take (6 * n) (now table)) ≡ Accepted)) ⌝ }
+    requires { ⌜ limit ≤ highestLimit ⌝ }
     requires { ⌜ (length (now today) ≡ setBytes) × (length (now work) ≡ workBytes) ⌝ }
-    ensures { λ r. ⌜ Listed (siteOf (now (site .entry))) (formOf (tableOf (take (6 * n) (now (table .entry))))) (now (today .exit)) r ⌝ }
+    ensures { λ r. ⌜ Within limit (siteOf (now (site .entry))) (formOf (tableOf (take (6 * n) (now (table .entry))))) (now (today .exit)) r ⌝ }
     ensures { λ _. ⌜ now (work .exit) ≡ replicate workBytes 0 ⌝ }
 {
     let end = 6 * (n as usize);
-    list(site, &table[..end], today, work)
+    list(site, &table[..end], limit, today, work)
 }

@@ -37,6 +37,10 @@ nodeSize = 6
 abbrev pub tableBytes : ℕ
 tableBytes = nodeSize * tableNodes
 
+-- the highest limit on rounds that listing and the job take
+abbrev pub highestLimit : ℕ
+highestLimit = 1000000
+
 -- the kinds of node. Those up to the variable have no child, nor does the slot; `or` and `and` have two, and the others one
 abbrev pub trueNo : ℕ
 trueNo = 0

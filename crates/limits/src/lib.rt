@@ -22,6 +22,9 @@ pub const NODE_BYTES: usize = 6;
 
 pub const TABLE_BYTES: usize = NODE_BYTES * TABLE_NODES;
 
+// The highest limit on rounds that listing and the job take.
+pub const HIGHEST_LIMIT: u32 = 1000000;
+
 // The kinds of node. Those up to VAR have no child, nor does SLOT; OR and AND have two, and the others one.
 pub const TRUE: u8 = 0;
 

@@ -7,9 +7,17 @@ use Rattle.verdict.specs.declared.Verdict.{Verdict}
 use Rattle.site.specs.Refusal.{siteVerdict}
 use Rattle.condition.specs.Refusal.{conditionVerdict}
 use Rattle.listing.specs.Listed.{workBytes}
-use Rattle.refusals.specs.Refusal.{bufferVerdict}
+use Rattle.refusals.specs.Refusal.{bufferVerdict, limitVerdict, roundsVerdict}
 
--- listing: 1 of its two buffers, then 3 to 6, then 7 to 10
-unfoldable pub listVerdict : (setLen workLen : ℕ) (site table : List ℕ) → Verdict
-listVerdict setLen workLen site table =
-    bufferVerdict setLen setBytes then bufferVerdict workLen workBytes then siteVerdict site then conditionVerdict table
+-- listing, all items but 15: 1 of its two buffers, then 16, then 3 to 6, then 7 to 10
+unfoldable pub listInputs : (setLen workLen limit : ℕ) (site table : List ℕ) → Verdict
+listInputs setLen workLen limit site table =
+    bufferVerdict setLen setBytes
+    then bufferVerdict workLen workBytes
+    then limitVerdict limit
+    then siteVerdict site
+    then conditionVerdict table
+
+-- listing, where it makes n rounds: 15 comes last
+unfoldable pub listVerdict : (setLen workLen limit : ℕ) (site table : List ℕ) (n : ℕ) → Verdict
+listVerdict setLen workLen limit site table n = listInputs setLen workLen limit site table then roundsVerdict limit n

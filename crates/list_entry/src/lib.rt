@@ -1,31 +1,43 @@
 // Listing, for every input: the inputs are judged, then it lists or refuses.
 use bitset::SET_BYTES;
+use limits::HIGHEST_LIMIT;
+use listing::Found;
 use listing::WORK_BYTES;
 use verdict::Verdict;
 ghost use mathlib.Core.Path.{_≡_};
+ghost use Prim.Native.Nat.{_≤_};
 ghost use lib.ListN.{length, replicate};
-ghost use Rattle.even_rule.specs.Free.{noMasks};
-ghost use Rattle.list_entry.specs.Answer.{verdictOf, countOf};
-ghost use Rattle.list_entry.specs.Answered.{ListAnswered};
+ghost use Rattle.bitset.specs.Set.{setBytes};
+ghost use Rattle.limits.specs.Limits.{tableNodes, highestLimit};
+ghost use Rattle.verdict.specs.declared.Verdict.the-variants.{Accepted};
+ghost use Rattle.site.specs.Layout.{siteBytes};
+ghost use Rattle.condition.specs.Refusal.{conditionVerdict};
+ghost use Rattle.even_rule.specs.Free.{FreeRows, noMasks};
+ghost use Rattle.listing.specs.Listed.{workBytes};
+ghost use Rattle.list_entry.specs.Answer.{verdictOf, foundIn};
+ghost use Rattle.list_entry.specs.Answered.{ListTried, ListAnswered};
 ghost use Rattle.list_entry.specs.Inputs.{InputsJudged};
 
-// The answer of listing: how many slots the condition lists, or the item that is met and its W.
+// The answer of listing: how many slots the condition lists and how many rounds were made, or the item that is met and its W.
 pub enum Listing {
-    Listed(u32),
+    Listed(Found),
     Refused(u8, u16),
 }
 
-// The first of items 1, 3 to 6 and 7 to 10 that the inputs meet, from the lengths of the set and of the work buffer, the site and the
-// condition. The free variables of an accepted condition's nodes are written to `free`.
-fn judge(set: usize, work: usize, site: &[u8], cond: &[u8], free: &mut [u16]) -> Verdict
+// The first of items 1, 16, 3 to 6 and 7 to 10 that the inputs meet, from the lengths of the set and of the work buffer, the limit, the site
+// and the condition. The free variables of an accepted condition's nodes are written to `free`.
+fn judge(set: usize, work: usize, limit: u32, site: &[u8], cond: &[u8], free: &mut [u16]) -> Verdict
     requires { ⌜ now free ≡ noMasks ⌝ }
-    ensures { λ r. ⌜ InputsJudged set work (now (site .entry)) (now (cond .entry)) (now (free .exit)) r ⌝ }
+    ensures { λ r. ⌜ InputsJudged set work limit (now (site .entry)) (now (cond .entry)) (now (free .exit)) r ⌝ }
 {
     if set != SET_BYTES {
         return Verdict::Refused(1, 0);
     }
     if work != WORK_BYTES {
         return Verdict::Refused(1, 0);
+    }
+    if limit > HIGHEST_LIMIT {
+        return Verdict::Refused(16, 0);
     }
     let v = site::check(site);
     match v {
@@ -34,7 +46,7 @@ fn judge(set: usize, work: usize, site: &[u8], cond: &[u8], free: &mut [u16]) ->
     }
 }
 
-// The answer to inputs that meet an item: every result and work buffer becomes zeros.
+// The answer where an item is met: every result and work buffer becomes zeros.
 fn refused(set: &mut [u8], work: &mut [u8], item: u8, fault: u16) -> Listing
     ensures { λ r. ⌜ r ≡ Listing.Refused item fault ⌝ }
     ensures { λ _. ⌜ now (set .exit) ≡ replicate (length (now (set .entry))) 0 ⌝ }
@@ -45,14 +57,37 @@ fn refused(set: &mut [u8], work: &mut [u8], item: u8, fault: u16) -> Listing
     Listing::Refused(item, fault)
 }
 
-// Lists the condition on the site: writes the set, and answers how many slots it holds.
-pub fn list(site: &[u8], cond: &[u8], set: &mut [u8], work: &mut [u8]) -> Listing
-    ensures { λ r. ⌜ ListAnswered (now (site .entry)) (now (cond .entry)) (now (set .entry)) (now (set .exit)) (now (work .entry)) (now (work .exit)) (verdictOf r) (countOf r) ⌝ }
+// Lists the condition on the site, where no item is met before 15: more rounds are made than the limit.
+fn list_within(
+    site: &[u8],
+    cond: &[u8],
+    free: &[u16],
+    limit: u32,
+    set: &mut [u8],
+    work: &mut [u8],
+) -> Listing
+    requires { ⌜ length (now site) ≡ siteBytes ⌝ }
+    requires { ⌜ conditionVerdict (now cond) ≡ Accepted ⌝ }
+    requires { ⌜ (length (now free) ≡ tableNodes) × FreeRows (now cond) (now free) ⌝ }
+    requires { ⌜ limit ≤ highestLimit ⌝ }
+    requires { ⌜ (length (now set) ≡ setBytes) × (length (now work) ≡ workBytes) ⌝ }
+    ensures { λ r. ⌜ ListTried limit (now (site .entry)) (now (cond .entry)) (now (set .entry)) (now (set .exit)) (now (work .entry)) (now (work .exit)) (verdictOf r) (foundIn r) ⌝ }
+{
+    let found = listing::list(site, cond, free, limit, set, work);
+    if found.rounds > limit {
+        return refused(set, work, 15, 0);
+    }
+    Listing::Listed(found)
+}
+
+// Lists the condition on the site: writes the set, and answers how many slots it holds and how many rounds were made.
+pub fn list(site: &[u8], cond: &[u8], limit: u32, set: &mut [u8], work: &mut [u8]) -> Listing
+    ensures { λ r. ⌜ ListAnswered limit (now (site .entry)) (now (cond .entry)) (now (set .entry)) (now (set .exit)) (now (work .entry)) (now (work .exit)) (verdictOf r) (foundIn r) ⌝ }
 {
     let mut free = even_rule::no_masks();
-    let v = judge(set.len(), work.len(), site, cond, &mut free);
+    let v = judge(set.len(), work.len(), limit, site, cond, &mut free);
     match v {
-        Verdict::Accepted => Listing::Listed(listing::list(site, cond, &free, set, work)),
+        Verdict::Accepted => list_within(site, cond, &free, limit, set, work),
         Verdict::Refused(item, fault) => refused(set, work, item, fault),
     }
 }
@@ -67,12 +102,15 @@ pub fn verdict(r: Listing) -> Verdict
     }
 }
 
-// How many slots are listed, 0 for a refusal.
-pub fn count(r: Listing) -> u32
-    ensures { λ n. ⌜ n ≡ countOf r ⌝ }
+// How many slots are listed and how many rounds were made, 0 and 0 for a refusal.
+pub fn found(r: Listing) -> Found
+    ensures { λ f. ⌜ f ≡ foundIn r ⌝ }
 {
     match r {
-        Listing::Listed(n) => n,
-        Listing::Refused(_, _) => 0,
+        Listing::Listed(f) => f,
+        Listing::Refused(_, _) => Found {
+            count: 0,
+            rounds: 0,
+        },
     }
 }

@@ -1,5 +1,6 @@
--- Laws of the evaluator, by topic: kinds, what each call leaves, the rounds of a loop, the answer.
+-- Laws of the evaluator, by topic: kinds, rounds by the kind, what each call leaves, the rounds of a loop, the answer.
 pub mod Kinds
+pub mod Counts
 pub mod Memo
 pub mod Rounds
 pub mod Answer

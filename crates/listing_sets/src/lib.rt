@@ -15,10 +15,10 @@ ghost use mathlib.Core.Path.{_≡_};
 ghost use mathlib.Core.Logic.{_⊎_};
 ghost use mathlib.Core.Bool.{true, not, _&&_, _||_};
 ghost use Prim.Native.Nat.{_+_, _*_, _≤_, _<_};
-ghost use lib.ListN.{length, getD};
-ghost use Rattle.finite.specs.Tests.{same, bit};
+ghost use lib.ListN.{length};
+ghost use Rattle.finite.specs.Tests.{same};
 ghost use Rattle.bitset.specs.Set.{setBytes, setSlots, has, Is};
-ghost use Rattle.limits.specs.Limits.{variables, tableNodes, notNo, orNo, andNo, diaNo, boxNo, nuNo};
+ghost use Rattle.limits.specs.Limits.{notNo, orNo, andNo, diaNo, boxNo, nuNo};
 ghost use Rattle.semantics.specs.Holds.{Model};
 ghost use Rattle.semantics.specs.Table.{treeAt, nodesFit};
 ghost use Rattle.semantics.specs.Laws.FixedPoint.{none, full};
@@ -27,11 +27,8 @@ ghost use Rattle.semantics.specs.Laws.Agree.{_≐_};
 ghost use Rattle.site.specs.Layout.{siteBytes};
 ghost use Rattle.site.specs.Site.{siteOf};
 ghost use Rattle.condition.specs.Bytes.{nodeAt, tableOf};
-ghost use Rattle.listing_sets.specs.Offsets.{envBytes, setAt, SetWritten, Cleared};
+ghost use Rattle.listing_sets.specs.Offsets.{envBytes, setAt, valuation, SetWritten};
 ghost use Rattle.listing_sets.specs.Nodes.{startOf, nodeMakes};
-
-// The environment has a set for each variable.
-pub const ENV_BYTES: usize = SET_BYTES * limits::VARIABLES as usize;
 
 // Copies a set. The bound is not a constant, so that the compiler copies the set whole and not byte by byte.
 fn copy(dst: &mut [u8], src: &[u8])
@@ -106,42 +103,14 @@ fn single(s: usize) -> [u8; SET_BYTES]
     set
 }
 
-// Is the variable x free in node j?
-fn depends(free: &[u16], j: usize, x: usize) -> bool
-    requires { ⌜ (j < length (now free)) × (x < variables) ⌝ }
-    ensures { λ r. ⌜ r ≡ bit (getD (now (free .entry)) j 0) x ⌝ }
+// Set j of the buffer loses the slots of set k.
+pub fn subtract(buf: &mut [u8], j: usize, k: usize)
+    requires { ⌜ (setBytes * j + setBytes ≤ length (now buf)) × (setBytes * k + setBytes ≤ length (now buf)) ⌝ }
+    ensures { λ _. ⌜ SetWritten (now (buf .entry)) (now (buf .exit)) j (λ s. setAt (now (buf .entry)) j s && not (setAt (now (buf .entry)) k s)) ⌝ }
 {
-    (free[j] >> x) % 2 == 1
-}
-
-// Clears the flag of each of the first n nodes in which the variable x is free.
-fn stale(free: &[u16], fresh: &mut [u8], n: usize, x: usize)
-    requires { ⌜ (n ≤ tableNodes) × (x < variables) × (length (now free) ≡ tableNodes) × (length (now fresh) ≡ tableNodes) ⌝ }
-    ensures { λ _. ⌜ Cleared (now (free .entry)) (now (fresh .entry)) (now (fresh .exit)) n x ⌝ }
-{
-    let mut j = 0;
-    while j < n {
-        if depends(free, j, x) {
-            fresh[j] = 0;
-        }
-        j += 1;
-    }
-}
-
-// The variable x gets `set`. The sets of the nodes in which it is free are then no longer known.
-pub fn assign(
-    free: &[u16],
-    env: &mut [u8],
-    fresh: &mut [u8],
-    n: usize,
-    x: usize,
-    set: [u8; SET_BYTES],
-)
-    requires { ⌜ (n ≤ tableNodes) × (x < variables) × (length (now free) ≡ tableNodes) × (length (now env) ≡ envBytes) × (length (now fresh) ≡ tableNodes) ⌝ }
-    ensures { λ _. ⌜ SetWritten (now (env .entry)) (now (env .exit)) x (has set) × Cleared (now (free .entry)) (now (fresh .entry)) (now (fresh .exit)) n x ⌝ }
-{
-    store(env, x, set);
-    stale(free, fresh, n, x);
+    let mut kept = load(buf, k);
+    set_algebra::complement(&mut kept);
+    meet(buf, j, kept);
 }
 
 fn no_slots() -> [u8; SET_BYTES]
@@ -166,13 +135,13 @@ pub fn start(kind: u8) -> [u8; SET_BYTES]
     all_slots()
 }
 
-// The set of node i, which has no child.
-fn leaf_set(site: &[u8], table: &[u8], env: &[u8], i: usize) -> [u8; SET_BYTES]
-    requires { ⌜ (length (now site) ≡ siteBytes) × (length (now env) ≡ envBytes) ⌝ }
+// The set of node i, which has no child. Set v of `sets` is that of the variable v.
+fn leaf_set(site: &[u8], table: &[u8], sets: &[u8], i: usize) -> [u8; SET_BYTES]
+    requires { ⌜ (length (now site) ≡ siteBytes) × (envBytes ≤ length (now sets)) ⌝ }
     requires { ⌜ nodesFit 0 (tableOf (now table)) ≡ true ⌝ }
     requires { ⌜ 6 * i + 6 ≤ length (now table) ⌝ }
     requires { ⌜ (notNo ≤ nodeAt (now table) i .kind → nodeAt (now table) i .kind ≤ nuNo → ⊥) ⌝ }
-    ensures { λ r. ⌜ has r ≐ eval (siteOf (now (site .entry))) (setAt (now (env .entry))) (treeAt (tableOf (now (table .entry))) i) ⌝ }
+    ensures { λ r. ⌜ has r ≐ eval (siteOf (now (site .entry))) (valuation (now (sets .entry))) (treeAt (tableOf (now (table .entry))) i) ⌝ }
 {
     let k = condition::kind(table, i);
     match k {
@@ -180,20 +149,20 @@ fn leaf_set(site: &[u8], table: &[u8], env: &[u8], i: usize) -> [u8; SET_BYTES]
         HERE => load(site, 0),
         LABEL => load(site, 1 + condition::number(table, i)),
         NAME => single(site::place(site, condition::number(table, i))),
-        VAR => load(env, condition::number(table, i)),
+        VAR => load(sets, condition::number(table, i)),
         _ => single(wide(condition::param(table, i))),
     }
 }
 
 // Writes the set of node i, which has no child, as set i of the work buffer.
-pub fn put_leaf(site: &[u8], table: &[u8], env: &[u8], work: &mut [u8], i: usize)
-    requires { ⌜ (length (now site) ≡ siteBytes) × (length (now env) ≡ envBytes) × (setBytes * i + setBytes ≤ length (now work)) ⌝ }
+pub fn put_leaf(site: &[u8], table: &[u8], sets: &[u8], work: &mut [u8], i: usize)
+    requires { ⌜ (length (now site) ≡ siteBytes) × (envBytes ≤ length (now sets)) × (setBytes * i + setBytes ≤ length (now work)) ⌝ }
     requires { ⌜ nodesFit 0 (tableOf (now table)) ≡ true ⌝ }
     requires { ⌜ 6 * i + 6 ≤ length (now table) ⌝ }
     requires { ⌜ (notNo ≤ nodeAt (now table) i .kind → nodeAt (now table) i .kind ≤ nuNo → ⊥) ⌝ }
-    ensures { λ _. ⌜ SetWritten (now (work .entry)) (now (work .exit)) i (eval (siteOf (now (site .entry))) (setAt (now (env .entry))) (treeAt (tableOf (now (table .entry))) i)) ⌝ }
+    ensures { λ _. ⌜ SetWritten (now (work .entry)) (now (work .exit)) i (eval (siteOf (now (site .entry))) (valuation (now (sets .entry))) (treeAt (tableOf (now (table .entry))) i)) ⌝ }
 {
-    let set = leaf_set(site, table, env, i);
+    let set = leaf_set(site, table, sets, i);
     store(work, i, set);
 }
 

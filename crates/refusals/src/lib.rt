@@ -1,1 +1,1 @@
-// How many items there are, item 1, and laws of all items: definitions and laws alone, in specs/.
+// How many items there are, items 1, 15 and 16, and laws of all items: definitions and laws alone, in specs/.

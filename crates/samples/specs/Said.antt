@@ -12,6 +12,7 @@ use Rattle.semantics.specs.Holds.{Env, Model, Holds}
 use Rattle.semantics.specs.Table.{Node, treeAt, formOf, nodesFit, evenTable}
 use Rattle.semantics.specs.Edit.{DS, goes, Valid, sheet, sheetLegal, sheetGoes}
 use Rattle.semantics.specs.Block.{rewriteSheet}
+use Rattle.rounds.specs.Makes.{Makes}
 use Rattle.samples.specs.Site.{model}
 use Rattle.samples.specs.Rows.{Slots, has, Expected, lists, stuckAt, oddAt, Row}
 
@@ -34,12 +35,14 @@ pub record Sound (r : Row) : Type 0 where
   pub is-closed : closed (formOf (r .table)) ≡ true
 
 -- the sheet goes through and the loops keep the even rule; for every valuation, the condition holds after the sheet at the slots of the set
--- alone, and so does the rewritten condition today
-pub record Lists (r : Row) (S : Slots) (c k : ℕ) : Type 0 where
+-- alone, and so does the rewritten condition today; and listing them makes just so many rounds
+pub record Lists (r : Row) (S : Slots) (c k a t : ℕ) : Type 0 where
   pub goes-through : sheetGoes (r .edits) (before r) ≡ true
   pub even-rule : evenTable (r .table) ≡ true
   pub holds-after : (ρ : Env) (s : ℕ) → s < slots → Holds (after r) ρ (formOf (r .table)) s ↔ (has S s ≡ true)
   pub holds-today : (ρ : Env) (s : ℕ) → s < slots → Holds (before r) ρ (formOf (rewritten r)) s ↔ (has S s ≡ true)
+  pub makes-after : (ρ : Env) → Makes (after r) ρ (formOf (r .table)) a
+  pub makes-today : (ρ : Env) → Makes (before r) ρ (formOf (rewritten r)) t
   pub slot-count : count slots (has S) ≡ c
   pub node-count : length (rewritten r) ≡ k
 
@@ -55,7 +58,7 @@ pub record Odd (r : Row) (w : ℕ) : Type 0 where
   pub lowest : first (length (r .table)) (λ i. not (even (treeAt (r .table) i))) ≡ w
 
 abbrev pub Says : Row → Expected → Type 0
-Says r (lists S c k) = Lists r S c k
+Says r (lists S c k a t) = Lists r S c k a t
 Says r (stuckAt w) = Stuck r w
 Says r (oddAt w) = Odd r w
 

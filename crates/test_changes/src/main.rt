@@ -1,9 +1,10 @@
 // Reads sites, conditions and sheets on standard input and prints for each three what the desk answers: the bytes that applying changes,
 // behind their offsets; the rewritten table; the lists of the condition on the site after and of the rewritten table today; and the condition for
-// going through, with its list today.
+// going through, with its list today. Lists have the highest limit on rounds.
 // A refusal is printed as `refused N W`. What a buffer should not hold, and a buffer of another length that is not refused, is said.
 use bitset::SET_BYTES;
 use libc::STDOUT_FILENO;
+use limits::HIGHEST_LIMIT;
 use limits::NODE_BYTES;
 use limits::TABLE_BYTES;
 use list_entry::Listing;
@@ -105,8 +106,8 @@ fn rewrite(cond: &[u8], sheet: &[u8], result: &mut [u8]) -> usize {
 
 fn show_list(answer: Listing, set: &[u8]) {
     match answer {
-        Listing::Listed(n) => {
-            io::print_decimal(STDOUT_FILENO, n as u64);
+        Listing::Listed(found) => {
+            io::print_decimal(STDOUT_FILENO, found.count as u64);
             io::write_all(STDOUT_FILENO, b" ");
             pieces::print_bytes(set);
         }
@@ -115,7 +116,7 @@ fn show_list(answer: Listing, set: &[u8]) {
 }
 
 fn print_list_in(site: &[u8], cond: &[u8], set: &mut [u8], work: &mut [u8]) {
-    show_list(list_entry::list(site, cond, set, work), set);
+    show_list(list_entry::list(site, cond, HIGHEST_LIMIT, set, work), set);
     io::write_all(STDOUT_FILENO, b"\n");
 }
 

@@ -1,12 +1,14 @@
-// Reads stored jobs on standard input and prints for each what the program `job` prints of it; behind an answer that is no refusal, what
-// else the job leaves: a checksum of the site after and of the table, and the class numbers, two hexadecimal digits each. The work
-// buffer has to come back as zeros, and so has every buffer of a refusal. Buffers of other lengths have to be refused with 1 and come
-// back as zeros too. Any buffer that does not is named after the answer.
+// Reads stored jobs on standard input, each with limits on rounds, and prints for each limit what the program `job` prints of it; behind an answer that
+// is no refusal, what else the job leaves: the rounds of both lists, a checksum of the site after and of the table, and the class numbers, two
+// hexadecimal digits each. The work buffer has to come back as zeros, and so has every buffer of a refusal. Buffers of other lengths have to be
+// refused with 1, whatever the limit is, and come back as zeros too. Any buffer that does not is named after the answer.
 use bitset::SET_BYTES;
 use bitset::SET_SLOTS;
 use job_run::Job;
+use libc::STDIN_FILENO;
 use libc::STDOUT_FILENO;
 use limits::TABLE_BYTES;
+use listing::Found;
 use listing::WORK_BYTES;
 use pieces::ROOM;
 use site::SITE_BYTES;
@@ -38,19 +40,17 @@ fn print_word(word: &[u8], n: u64) {
     io::print_decimal(STDOUT_FILENO, n);
 }
 
+fn print_rounds(after: Found, today: Found) {
+    print_word(b"rounds ", after.rounds as u64);
+    print_word(b" ", today.rounds as u64);
+}
+
 fn print_left(changed: &[u8], table: &[u8], classes: &[u8]) {
-    print_word(b"site ", checksum(changed));
+    print_word(b" site ", checksum(changed));
     print_word(b" table ", checksum(table));
     io::write_all(STDOUT_FILENO, b" numbers ");
     pieces::print_bytes(classes);
     io::write_all(STDOUT_FILENO, b"\n");
-}
-
-fn is_refused(answer: Job) -> bool {
-    match answer {
-        Job::Done(_, _, _, _) => false,
-        Job::Refused(_, _) => true,
-    }
 }
 
 fn is_item_1(answer: Job) -> bool {
@@ -91,16 +91,19 @@ fn say_results_left(changed: &[u8], table: &[u8], after: &[u8], today: &[u8], cl
 // Prints an answer and what the job has left.
 fn show(answer: Job, changed: &[u8], table: &[u8], after: &[u8], today: &[u8], classes: &[u8]) {
     print_answer(answer, after, today);
-    if is_refused(answer) {
-        say_results_left(changed, table, after, today, classes);
-    } else {
-        print_left(changed, table, classes);
+    match answer {
+        Job::Done(a, t, _, _) => {
+            print_rounds(a, t);
+            print_left(changed, table, classes);
+        }
+        Job::Refused(_, _) => say_results_left(changed, table, after, today, classes),
     }
 }
 
 // Does the job in the buffers that it is lent.
 fn run(
     file: &[u8],
+    limit: u32,
     changed: &mut [u8],
     table: &mut [u8],
     after: &mut [u8],
@@ -108,12 +111,12 @@ fn run(
     classes: &mut [u8],
     work: &mut [u8],
 ) {
-    let r = job_entry::run(file, changed, table, after, today, classes, work);
+    let r = job_entry::run(file, limit, changed, table, after, today, classes, work);
     show(r, changed, table, after, today, classes);
     pieces::say_left(work, b"work left\n");
 }
 
-fn answer(file: &[u8]) {
+fn answer(file: &[u8], limit: u32) {
     let mut changed = [170u8; SITE_BYTES];
     let mut table = [170u8; TABLE_BYTES];
     let mut after = [170u8; SET_BYTES];
@@ -122,6 +125,7 @@ fn answer(file: &[u8]) {
     let mut work = [170u8; WORK_BYTES];
     run(
         file,
+        limit,
         &mut changed,
         &mut table,
         &mut after,
@@ -132,7 +136,7 @@ fn answer(file: &[u8]) {
 }
 
 // Buffers that are a byte too short.
-fn try_short(file: &[u8]) {
+fn try_short(file: &[u8], limit: u32) {
     let mut changed = [170u8; SITE_BYTES - 1];
     let mut table = [170u8; TABLE_BYTES - 1];
     let mut after = [170u8; SET_BYTES - 1];
@@ -141,6 +145,7 @@ fn try_short(file: &[u8]) {
     let mut work = [170u8; WORK_BYTES - 1];
     run(
         file,
+        limit,
         &mut changed,
         &mut table,
         &mut after,
@@ -150,13 +155,37 @@ fn try_short(file: &[u8]) {
     );
 }
 
-// Does the job of the file that a buffer starts with.
-fn try_both(file: &[u8]) {
-    answer(file);
-    try_short(file);
+// The number of four bytes, low byte first.
+fn quad(b0: u8, b1: u8, b2: u8, b3: u8) -> u32 {
+    b0 as u32 + 256 * (b1 as u32) + 65536 * (b2 as u32) + 16777216 * (b3 as u32)
 }
 
-// Reads one job into a buffer of zeros and prints its answer; false at the end of the input. A piece alone is no longer than 65,535 bytes,
+fn read_limit() -> u32 {
+    let mut bytes = [0u8; 4];
+    io::read_full(STDIN_FILENO, &mut bytes);
+    quad(bytes[0], bytes[1], bytes[2], bytes[3])
+}
+
+// How many limits stand behind a job.
+fn read_count() -> u8 {
+    let mut bytes = [0u8; 1];
+    io::read_full(STDIN_FILENO, &mut bytes);
+    bytes[0]
+}
+
+fn try_both(file: &[u8], limit: u32) {
+    answer(file, limit);
+    try_short(file, limit);
+}
+
+// Does the job under each limit that stands behind it.
+fn try_limits(file: &[u8], count: u8) {
+    for k in 0..count {
+        try_both(file, read_limit());
+    }
+}
+
+// Reads one job into a buffer of zeros and prints its answers; false at the end of the input. A piece alone is no longer than 65,535 bytes,
 // so a job has as many zeros behind its piece as the piece's kind less 1.
 fn next_in(file: &mut [u8]) -> bool
     requires { ⌜ length (now file) ≡ room + 255 ⌝ }
@@ -167,7 +196,7 @@ fn next_in(file: &mut [u8]) -> bool
         return false;
     }
     let n = piece.len + (kind as usize - 1);
-    try_both(&file[0..n]);
+    try_limits(&file[0..n], read_count());
     true
 }
 

@@ -1,19 +1,26 @@
-// Reads pairs of a site and a condition on standard input and prints for each what listing answers: the count and the set, two
-// hexadecimal digits a byte, or `refused N W`. The work buffer has to come back as zeros, and so has the set of a refusal. Buffers of
-// other lengths have to be refused with 1 and come back as zeros too. Any buffer that does not is named after the answer.
+// Reads pairs of a site and a condition on standard input, each with limits on rounds, and prints for each limit what listing answers: the count, the
+// set, two hexadecimal digits a byte, and the rounds; or `refused N W`. The work buffer has to come back as zeros, and so has the set of a refusal.
+// Buffers of other lengths have to be refused with 1, whatever the limit is, and come back as zeros too. Any buffer that does not is named after the
+// answer.
 use bitset::SET_BYTES;
+use libc::STDIN_FILENO;
 use libc::STDOUT_FILENO;
 use list_entry::Listing;
+use listing::Found;
 use listing::WORK_BYTES;
 use pieces::ROOM;
 
+fn print_found(found: Found, set: &[u8]) {
+    io::print_decimal(STDOUT_FILENO, found.count as u64);
+    io::write_all(STDOUT_FILENO, b" ");
+    pieces::print_bytes(set);
+    io::write_all(STDOUT_FILENO, b" rounds ");
+    io::print_decimal(STDOUT_FILENO, found.rounds as u64);
+}
+
 fn print_answer(answer: Listing, set: &[u8]) {
     match answer {
-        Listing::Listed(n) => {
-            io::print_decimal(STDOUT_FILENO, n as u64);
-            io::write_all(STDOUT_FILENO, b" ");
-            pieces::print_bytes(set);
-        }
+        Listing::Listed(found) => print_found(found, set),
         Listing::Refused(item, w) => pieces::print_refusal(item, w),
     }
 }
@@ -42,8 +49,8 @@ fn show(answer: Listing, set: &[u8]) {
 }
 
 // Lists in the buffers that it is lent, and prints the answer.
-fn list(site: &[u8], cond: &[u8], set: &mut [u8], work: &mut [u8]) {
-    let r = list_entry::list(site, cond, set, work);
+fn list(site: &[u8], cond: &[u8], limit: u32, set: &mut [u8], work: &mut [u8]) {
+    let r = list_entry::list(site, cond, limit, set, work);
     show(r, set);
     pieces::say_left(work, b" work left");
     if is_refused(r) {
@@ -51,35 +58,60 @@ fn list(site: &[u8], cond: &[u8], set: &mut [u8], work: &mut [u8]) {
     }
 }
 
-fn answer(site: &[u8], cond: &[u8]) {
+fn answer(site: &[u8], cond: &[u8], limit: u32) {
     let mut set = [170u8; SET_BYTES];
     let mut work = [170u8; WORK_BYTES];
-    list(site, cond, &mut set, &mut work);
+    list(site, cond, limit, &mut set, &mut work);
 }
 
 // Buffers that are a byte too short.
-fn try_short(site: &[u8], cond: &[u8]) {
+fn try_short(site: &[u8], cond: &[u8], limit: u32) {
     let mut set = [170u8; SET_BYTES - 1];
     let mut work = [170u8; WORK_BYTES - 1];
-    list(site, cond, &mut set, &mut work);
+    list(site, cond, limit, &mut set, &mut work);
 }
 
-// Prints the line of a pair.
-fn print_line(site: &[u8], cond: &[u8]) {
-    answer(site, cond);
-    try_short(site, cond);
+// Prints the line of a pair and a limit.
+fn print_line(site: &[u8], cond: &[u8], limit: u32) {
+    answer(site, cond, limit);
+    try_short(site, cond, limit);
     io::write_all(STDOUT_FILENO, b"\n");
 }
 
-// Reads the condition that stands behind a site, and prints the line of the pair.
+// The number of four bytes, low byte first.
+fn quad(b0: u8, b1: u8, b2: u8, b3: u8) -> u32 {
+    b0 as u32 + 256 * (b1 as u32) + 65536 * (b2 as u32) + 16777216 * (b3 as u32)
+}
+
+fn read_limit() -> u32 {
+    let mut bytes = [0u8; 4];
+    io::read_full(STDIN_FILENO, &mut bytes);
+    quad(bytes[0], bytes[1], bytes[2], bytes[3])
+}
+
+// How many limits stand behind a pair.
+fn read_count() -> u8 {
+    let mut bytes = [0u8; 1];
+    io::read_full(STDIN_FILENO, &mut bytes);
+    bytes[0]
+}
+
+// Prints a line for each limit that stands behind the pair.
+fn print_lines(site: &[u8], cond: &[u8], count: u8) {
+    for k in 0..count {
+        print_line(site, cond, read_limit());
+    }
+}
+
+// Reads the condition that stands behind a site, and prints the lines of the pair.
 fn read_condition(site: &[u8]) {
     let mut cond = [0u8; ROOM];
     let piece = pieces::read(&mut cond);
     let n = piece.len;
-    print_line(site, &cond[0..n]);
+    print_lines(site, &cond[0..n], read_count());
 }
 
-// Reads one pair and prints its line; false at the end of the input.
+// Reads one pair and prints its lines; false at the end of the input.
 fn next() -> bool {
     let mut site = [0u8; ROOM];
     let piece = pieces::read(&mut site);

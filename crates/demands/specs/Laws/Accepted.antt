@@ -1,5 +1,5 @@
--- Each entry point's chain of items: inputs that meet no item are accepted, and the numbers of the items.
-use mathlib.Core.Path.{_≡_, sym, _∙_, ap}
+-- Each entry point's chain of items: inputs that meet no item are accepted, and the numbers of the items; the one number of rounds.
+use mathlib.Core.Path.{_≡_, refl, sym, _∙_, ap}
 use mathlib.Core.Bool.{false}
 use mathlib.Core.List.{List, _++_}
 use Prim.Native.Nat.{ℕ, _*_, _-_, _≤_}
@@ -15,8 +15,12 @@ use Rattle.site.specs.Layout.{siteBytes}
 use Rattle.site.specs.Site.{siteOf}
 use Rattle.site.specs.Refusal.{siteVerdict}
 use Rattle.limits.specs.Limits.{tableNodes, tableBytes}
+use Rattle.semantics.specs.Form.{Form}
+use Rattle.semantics.specs.Holds.{Env, Model}
 use Rattle.semantics.specs.Table.{Node}
 use Rattle.semantics.specs.Block.{rewriteTable}
+use Rattle.rounds.specs.Makes.{Makes}
+use Rattle.rounds.specs.Laws.Exact.{makes-unique}
 use Rattle.condition.specs.Bytes.{tableOf, bytesOf}
 use Rattle.condition.specs.Refusal.{conditionVerdict}
 use Rattle.condition.specs.Laws.Bytes.{length-table}
@@ -28,9 +32,9 @@ use Rattle.applying.specs.Refusal.{goesVerdict}
 use Rattle.rewriting.specs.Refusal.{tooLong, lengthVerdict}
 use Rattle.rewriting.specs.Rewriting.{rewritten, TableAfter}
 use Rattle.rewriting.specs.Laws.Grow.{table-grows, too-long-end}
-use Rattle.refusals.specs.Refusal.{bufferVerdict}
-use Rattle.refusals.specs.Laws.Items.{buffer-in, Numbered, numbered-then, numbered-buffer, numbered-site, numbered-condition, numbered-sheet, numbered-goes}
-use Rattle.list_entry.specs.Refusal.{listVerdict}
+use Rattle.refusals.specs.Refusal.{bufferVerdict, limitVerdict, roundsVerdict}
+use Rattle.refusals.specs.Laws.Items.{buffer-in, limit-in, Numbered, numbered-then, numbered-buffer, numbered-limit, numbered-rounds, numbered-site, numbered-condition, numbered-sheet, numbered-goes}
+use Rattle.list_entry.specs.Refusal.{listInputs, listVerdict}
 use Rattle.list_entry.specs.Laws.Refusal.{Accepts}
 use Rattle.apply_entry.specs.Refusal.{applyVerdict}
 use Rattle.apply_entry.specs.Laws.Refusal.{Appliable}
@@ -40,8 +44,8 @@ use Rattle.classes_entry.specs.Refusal.{classesBytes, classesVerdict}
 use Rattle.classes_entry.specs.Laws.Refusal as classes
 use Rattle.job_run.specs.Buffers.{Buffers}
 use Rattle.job_run.specs.Laws.Refusal.{pieces-in}
-use Rattle.job_entry.specs.Refusal.{jobVerdict}
-use Rattle.job_entry.specs.Laws.Refusal.{sized-in, JobAccepted}
+use Rattle.job_entry.specs.Refusal.{jobInputs, jobVerdict}
+use Rattle.job_entry.specs.Laws.Refusal.{sized-in, JobAccepted, inputs-numbered}
 use Rattle.desk.specs.Returned.{Returned}
 
 -- ---- a rewritten table fits exactly if it was too long after no edit: it never gets shorter
@@ -67,11 +71,18 @@ pub table-left : {due : Verdict} (xs : List Node) (result result′ : List ℕ) 
 unfolding TableAfter
 table-left xs result result′ a r = rw a at (r .left)
 
--- ---- no item is met
+-- ---- listing makes one number of rounds
 
-pub list-accepted : (setLen workLen : ℕ) (site table : List ℕ) → Accepts setLen workLen site table → listVerdict setLen workLen site table ≡ Accepted
-unfolding listVerdict
-list-accepted setLen workLen site table a = rw (buffer-in (a .set-size), buffer-in (a .work-size), a .site-accepted) (a .table-accepted)
+pub same-makes : (M : Model) (φ : Form) (m n : ℕ) → ((ρ : Env) → Makes M ρ φ m) → ((ρ : Env) → Makes M ρ φ n) → m ≡ n
+same-makes M φ m n p q = let none : Env = λ v x. false in makes-unique M φ none none (λ v o x k. refl) m n (p none) (q none)
+
+-- ---- no item is met; of listing and the job, none but 15
+
+pub list-accepted : (setLen workLen limit : ℕ) (site table : List ℕ) → Accepts setLen workLen limit site table
+    → listInputs setLen workLen limit site table ≡ Accepted
+unfolding listInputs
+list-accepted setLen workLen limit site table a =
+    rw (buffer-in (a .set-size), buffer-in (a .work-size), limit-in (a .limit-fits), a .site-accepted) (a .table-accepted)
 
 pub apply-accepted : (resultLen : ℕ) (site sheet : List ℕ) → Appliable resultLen site sheet → applyVerdict resultLen site sheet ≡ Accepted
 unfolding applyVerdict goesVerdict
@@ -89,18 +100,24 @@ pub classes-accepted : (classesLen : ℕ) (site : List ℕ) → classes.Accepts 
 unfolding classesVerdict
 classes-accepted classesLen site a = rw (buffer-in (a .classes-size)) (a .site-accepted)
 
-pub job-accepted : (b : Buffers) (file : List ℕ) → JobAccepted b file → jobVerdict b file ≡ Accepted
-unfolding jobVerdict
-job-accepted b file a = rw (sized-in b (a .sized), a .trailer-accepted) (pieces-in _ _ _ (a .pieces))
+pub job-accepted : (b : Buffers) (limit : ℕ) (file : List ℕ) → JobAccepted b limit file → jobInputs b limit file ≡ Accepted
+unfolding jobInputs
+job-accepted b limit file a = rw (sized-in b (a .sized), limit-in (a .limit-fits), a .trailer-accepted) (pieces-in _ _ _ (a .pieces))
 
--- ---- the numbers of the items; of rewriting, the condition for going through and the job `rewrite-numbered`, `through-numbered` and `job-numbered` say it
+-- ---- the numbers of the items; of rewriting and the condition for going through `rewrite-numbered` and `through-numbered` say it
 
-pub list-numbered : (setLen workLen : ℕ) (site table : List ℕ) → Numbered (listVerdict setLen workLen site table)
-unfolding listVerdict
-list-numbered setLen workLen site table =
+list-inputs-numbered : (setLen workLen limit : ℕ) (site table : List ℕ) → Numbered (listInputs setLen workLen limit site table)
+unfolding listInputs
+list-inputs-numbered setLen workLen limit site table =
     numbered-then (bufferVerdict setLen setBytes) _ (numbered-buffer setLen setBytes)
     (numbered-then (bufferVerdict workLen workBytes) _ (numbered-buffer workLen workBytes)
-    (numbered-then (siteVerdict site) _ (numbered-site site) (numbered-condition table)))
+    (numbered-then (limitVerdict limit) _ (numbered-limit limit)
+    (numbered-then (siteVerdict site) _ (numbered-site site) (numbered-condition table))))
+
+pub list-numbered : (setLen workLen limit : ℕ) (site table : List ℕ) (n : ℕ) → Numbered (listVerdict setLen workLen limit site table n)
+unfolding listVerdict
+list-numbered setLen workLen limit site table n =
+    numbered-then (listInputs setLen workLen limit site table) (roundsVerdict limit n) (list-inputs-numbered setLen workLen limit site table) (numbered-rounds limit n)
 
 pub apply-numbered : (resultLen : ℕ) (site sheet : List ℕ) → Numbered (applyVerdict resultLen site sheet)
 unfolding applyVerdict
@@ -113,3 +130,9 @@ pub classes-numbered : (classesLen : ℕ) (site : List ℕ) → Numbered (classe
 unfolding classesVerdict
 classes-numbered classesLen site =
     numbered-then (bufferVerdict classesLen classesBytes) _ (numbered-buffer classesLen classesBytes) (numbered-site site)
+
+pub job-numbered : (b : Buffers) (limit : ℕ) (file : List ℕ) (a t : ℕ) → Numbered (jobVerdict b limit file a t)
+unfolding jobVerdict
+job-numbered b limit file a t =
+    numbered-then (jobInputs b limit file) _ (inputs-numbered b limit file)
+    (numbered-then (roundsVerdict limit a) (roundsVerdict limit t) (numbered-rounds limit a) (numbered-rounds limit t))

@@ -18,9 +18,8 @@ use Rattle.rewrite_entry.specs.Laws.Refusal.{rewrite-numbered, through-numbered
 use Rattle.classes_entry.specs.Classing.{ClassesAfter}
 use Rattle.trailer.specs.Pieces.{siteIn, conditionIn, sheetIn}
 use Rattle.job_run.specs.Job.{JobAfter}
-use Rattle.job_entry.specs.Laws.Refusal.{job-numbered}
 use Rattle.desk.specs.Returned.{Returned}
-use Rattle.demands.specs.Laws.Accepted.{list-numbered, apply-numbered, classes-numbered}
+use Rattle.demands.specs.Laws.Accepted.{list-numbered, apply-numbered, classes-numbered, job-numbered}
 use Rattle.demands.specs.Demand1.{Answers, Zeroed, Demand1Job, Demand1List, Demand1Apply, Demand1Rewrite, Demand1Through, Demand1Classes, Demand1}
 
 -- what is left after a verdict is the full answer after Accepted, and zeros after each refusal
@@ -39,7 +38,7 @@ answers After f z (Refused item k) n r = record {
 
 demand-1-job : Demand1Job
 unfolding Demand1Job SiteAfter TableAfter SetAfter ClassesAfter
-demand-1-job file b b′ reason fault after today nodes classes r =
+demand-1-job limit file b b′ reason fault after today nodes classes r =
     answers (λ v. JobAfter v (siteIn file) (conditionIn file) (sheetIn file) b b′ after today nodes classes)
     (λ l. l)
     (λ n k l.
@@ -50,18 +49,20 @@ demand-1-job file b b′ reason fault after today nodes classes r =
       today-zero = l .list-today .0;
       classes-zero = l .classes-after .0;
       work-zero = l .work-zero;
-      none-after = l .list-after .1;
-      none-today = l .list-today .1;
+      none-after = l .list-after .1 .0;
+      none-today = l .list-today .1 .0;
       no-nodes = l .table-after .0;
       no-classes = l .classes-after .1;
+      no-rounds-after = l .list-after .1 .1;
+      no-rounds-today = l .list-today .1 .1;
     })
-    _ (job-numbered b file) r
+    _ (job-numbered b limit file (r .after-made) (r .today-made)) (r .returned)
 
 demand-1-list : Demand1List
 unfolding Demand1List SetAfter
-demand-1-list site table set set′ work work′ reason fault n r =
-    answers (λ v. ListAfter v site table set set′ work work′ n) (λ p. p) (λ item k p. (p .set-after .0, (p .work-zero, p .set-after .1)))
-    _ (list-numbered (length set) (length work) site table) r
+demand-1-list limit site table set set′ work work′ reason fault f r =
+    answers (λ v. ListAfter v site table set set′ work work′ f) (λ p. p) (λ item k p. (p .set-after .0, (p .work-zero, p .set-after .1)))
+    _ (list-numbered (length set) (length work) limit site table (r .made)) (r .returned)
 
 demand-1-apply : Demand1Apply
 unfolding Demand1Apply SiteAfter

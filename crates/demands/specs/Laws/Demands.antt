@@ -1,11 +1,12 @@
 -- The demands are met.
-use mathlib.Core.Path.{_≡_}
-use mathlib.Core.Logic.{Iff·trans}
+use mathlib.Core.Path.{_≡_, _∙_, ap}
+use mathlib.Core.Logic.{_≢_, Iff·trans}
 use mathlib.Core.Bool.{true, false}
 use mathlib.Core.List.{List, _++_}
 use Prim.Native.Nat.{ℕ, _*_, _-_, _<_}
 use native.Mathlib.Omega.{arith}
 use lib.ListN.{length, getD, replicate}
+use Rattle.verdict.specs.Verdict.{reasonOf}
 use Rattle.verdict.specs.declared.Verdict.the-variants.{Accepted}
 use Rattle.limits.specs.Limits.{slots, tableBytes}
 use Rattle.semantics.specs.Table.{formOf}
@@ -26,32 +27,49 @@ use Rattle.applying.specs.Laws.After.{after-accepted}
 use Rattle.classes_entry.specs.Refusal.{classesVerdict}
 use Rattle.classes_entry.specs.Classing.{ClassesAfter}
 use Rattle.rewriting.specs.Laws.Accepted.{taken-table, rewritten-accepted}
-use Rattle.listing.specs.Listed.{Listed}
+use Rattle.refusals.specs.Refusal.{roundsVerdict}
+use Rattle.refusals.specs.Laws.Items.{rounds-else}
+use Rattle.listing.specs.Listed.{Listed, foundOf}
 use Rattle.listing.specs.Laws.Same.{same-lists}
-use Rattle.list_entry.specs.Refusal.{listVerdict}
-use Rattle.list_entry.specs.Listing.{SetAfter}
+use Rattle.list_entry.specs.Refusal.{listInputs, listVerdict}
+use Rattle.list_entry.specs.Listing.{SiteMakes, SetAfter}
 use Rattle.apply_entry.specs.Refusal.{applyVerdict}
 use Rattle.apply_entry.specs.Applying.{SiteWritten, SiteAfter}
 use Rattle.rewrite_entry.specs.Refusal.{rewriteVerdict}
 use Rattle.rewriting.specs.Refusal.{tooLong}
 use Rattle.rewriting.specs.Rewriting.{rewritten}
-use Rattle.demands.specs.Demands.{ApplyCall, RewriteCall, ListCall, rewrittenTable, Runnable, SameLists, Demand2, Going, Demand3, ClassCall, SameClasses}
-use Rattle.demands.specs.Laws.Accepted.{fits-short, reason-none, table-left, list-accepted, apply-accepted, rewrite-accepted, classes-accepted}
+use Rattle.demands.specs.Demands.{ApplyCall, RewriteCall, ListCall, rewrittenTable, Runnable, ListsAgree, SameLists, Demand2, Going, Demand3, ClassCall, SameClasses}
+use Rattle.demands.specs.Laws.Accepted.{fits-short, reason-none, same-makes, table-left, list-accepted, apply-accepted, rewrite-accepted, classes-accepted}
 
 -- ---- listing an accepted condition on an accepted site
 
 module _ {site table : List ℕ} (a : siteVerdict site ≡ Accepted) (b : conditionVerdict table ≡ Accepted) (c : ListCall site table) where
-  list-goes : listVerdict (length (c .set)) (length (c .work)) site table ≡ Accepted
-  list-goes =
-      list-accepted (length (c .set)) (length (c .work)) site table
-      (record { set-size = c .set-size; work-size = c .work-size; site-accepted = a; table-accepted = b })
+  pub list-inputs : listInputs (length (c .set)) (length (c .work)) (c .limit) site table ≡ Accepted
+  list-inputs =
+      list-accepted (length (c .set)) (length (c .work)) (c .limit) site table
+      (record { set-size = c .set-size; work-size = c .work-size; limit-fits = c .limit-fits; site-accepted = a; table-accepted = b })
 
-  pub list-reason : c .reason ≡ 0
-  list-reason = reason-none list-goes (c .returned)
+  -- where it makes n rounds, nothing but item 15 is left to test
+  pub list-due : (n : ℕ) → SiteMakes site table n
+      → listVerdict (length (c .set)) (length (c .work)) (c .limit) site table (c .returned .made) ≡ roundsVerdict (c .limit) n
+  unfolding listVerdict
+  list-due n m = rw (list-inputs, same-makes (siteOf site) (formOf (tableOf table)) (c .returned .made) n (c .returned .makes list-inputs) m)
 
-  pub listed : Listed (siteOf site) (formOf (tableOf table)) (c .set′) (c .count)
-  unfolding SetAfter
-  listed = (rw list-goes at (c .returned .left)) .set-after
+  module _ (h : c .reason ≢ 15) where
+    list-goes : listVerdict (length (c .set)) (length (c .work)) (c .limit) site table (c .returned .made) ≡ Accepted
+    list-goes =
+        let d = list-due (c .returned .made) (c .returned .makes list-inputs) in
+        d ∙ rounds-else (c .limit) (c .returned .made) (λ e. h (c .returned .returned .reason-is ∙ ap reasonOf d ∙ e))
+
+    pub list-reason : c .reason ≡ 0
+    list-reason = reason-none list-goes (c .returned .returned)
+
+    pub list-set : SetAfter Accepted site table (c .set) (c .set′) (foundOf (c .count) (c .rounds))
+    list-set = (rw list-goes at (c .returned .returned .left)) .set-after
+
+    pub listed : Listed (siteOf site) (formOf (tableOf table)) (c .set′) (c .count)
+    unfolding SetAfter
+    listed = list-set .0
 
 -- ---- a sheet that goes through
 
@@ -111,42 +129,42 @@ module _ {site table sheet : List ℕ} (j : Runnable site table sheet) where
     table-accepted =
         rewritten-accepted table sheet (j .table-accepted) (j .going .sheet-accepted) short _ (c .result′) (c .nodes) (written .0) (written .1)
 
-    is-rewritten : tableOf (rewrittenTable c) ≡ rewritten table sheet
+    pub is-rewritten : tableOf (rewrittenTable c) ≡ rewritten table sheet
     is-rewritten = taken-table (rewritten table sheet) _ (c .result′) (c .nodes) (written .0) (written .1)
 
   -- ---- both lists
 
-  both-lists : (a : ApplyCall site sheet) (r : RewriteCall table sheet) (t : ListCall site (rewrittenTable r)) (u : ListCall (a .result′) table)
-      → SameLists a r t u
-  both-lists a r t u =
-      let p = listed (j .going .site-accepted) (table-accepted r) t in
-      let q = listed (left-accepted (j .going) a) (j .table-accepted) u in
+  pub lists-agree : {changed newTable today after : List ℕ} {t a : ℕ} → tableOf newTable ≡ rewritten table sheet
+      → siteOf changed ≡ edits.sheet (editsOf sheet) (siteOf site)
+      → Listed (siteOf site) (formOf (tableOf newTable)) today t → Listed (siteOf changed) (formOf (tableOf table)) after a
+      → ListsAgree site table sheet changed newTable today after t a
+  lists-agree is-new effects p q =
       let s = accepted-sound table (j .table-accepted) in
       let e =
       same-lists
       (editsOf sheet) (legal (j .going)) (siteOf site) (valid (j .going)) (j .going .goes-through)
       (tableOf table) (s .fits) (omega (arith, s .some, length-table table))
-      (rw (is-rewritten r) at p) (rw (site-left (j .going) a .effects) at q)
+      (rw is-new at p) (rw effects at q)
       in
+      record { same-set = e .0; same-count = e .1; today-listed = p; after-listed = q; blocks = is-new; effects = effects }
+
+  both-lists : (a : ApplyCall site sheet) (r : RewriteCall table sheet) (t : ListCall site (rewrittenTable r)) (u : ListCall (a .result′) table)
+      → t .reason ≢ 15 → u .reason ≢ 15 → SameLists a r t u
+  both-lists a r t u h k =
+      let new-site = left-accepted (j .going) a in
       record {
         applies = apply-reason (j .going) a;
         rewrites = rewrite-reason r;
-        lists-today = list-reason (j .going .site-accepted) (table-accepted r) t;
-        lists-after = list-reason (left-accepted (j .going) a) (j .table-accepted) u;
+        lists-today = list-reason (j .going .site-accepted) (table-accepted r) t h;
+        lists-after = list-reason new-site (j .table-accepted) u k;
         agree =
-            record {
-              same-set = e .0;
-              same-count = e .1;
-              today-listed = p;
-              after-listed = q;
-              blocks = is-rewritten r;
-              effects = site-left (j .going) a .effects;
-            };
+            lists-agree (is-rewritten r) (site-left (j .going) a .effects)
+            (listed (j .going .site-accepted) (table-accepted r) t h) (listed new-site (j .table-accepted) u k);
       }
 
 pub demand-2 : Demand2
 unfolding Demand2
-demand-2 site table sheet j a r t u = both-lists j a r t u
+demand-2 site table sheet j a r t u h k = both-lists j a r t u h k
 
 -- ---- classes
 

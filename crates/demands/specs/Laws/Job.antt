@@ -1,52 +1,83 @@
--- The demands on a job are met: a job stands for five calls of the entry points, and theirs are.
+-- The demands on a job are met: what it leaves is what the entry points leave one by one, and theirs are.
 use mathlib.Core.Path.{_≡_, sym, _∙_, ap}
 use mathlib.Core.List.{List}
-use Prim.Native.Nat.{ℕ}
+use Prim.Native.Nat.{ℕ, _≤_}
 use native.Mathlib.Omega.{arith}
 use lib.ListN.{length}
-use Rattle.bitset.specs.Set.{setBytes}
-use Rattle.verdict.specs.Verdict.{reasonOf, faultOf}
+use Rattle.verdict.specs.Verdict.{reasonOf, faultOf, _then_}
+use Rattle.verdict.specs.declared.Verdict.{Verdict}
 use Rattle.verdict.specs.declared.Verdict.the-variants.{Accepted}
-use Rattle.site.specs.Refusal.{siteVerdict}
-use Rattle.condition.specs.Refusal.{conditionVerdict}
+use Rattle.semantics.specs.Edit as edits
+use Rattle.site.specs.Site.{siteOf}
+use Rattle.condition.specs.Bytes.{tableOf}
+use Rattle.sheet.specs.Bytes.{editsOf}
+use Rattle.rewriting.specs.Rewriting.{TableAfter, rewritten}
+use Rattle.rewriting.specs.Laws.Accepted.{taken-table}
 use Rattle.trailer.specs.Pieces.{siteIn, conditionIn, sheetIn}
+use Rattle.refusals.specs.Refusal.{roundsVerdict}
+use Rattle.refusals.specs.Laws.Items.{then-out, rounds-in, rounds-out}
+use Rattle.listing.specs.Listed.{foundOf}
 use Rattle.list_entry.specs.Listing.{SetAfter}
-use Rattle.job_run.specs.Job.{JobAfter}
-use Rattle.job_entry.specs.Refusal.{jobVerdict}
-use Rattle.job_entry.specs.Laws.Refusal.{job-accepts, job-reason}
-use Rattle.demands.specs.Demands.{Runnable, ApplyCall, RewriteCall, ListCall, ClassCall, rewrittenTable, Demand2, Demand3}
-use Rattle.demands.specs.Job.{JobCall, RunnableFile, JobAgrees, DemandJob}
-use Rattle.demands.specs.Laws.Accepted.{fits-short, short-fits, list-accepted, apply-accepted, rewrite-accepted, classes-accepted, job-accepted}
-use Rattle.demands.specs.Laws.Demands.{left-accepted, table-accepted, demand-2, demand-3}
+use Rattle.apply_entry.specs.Applying.{SiteAfter}
+use Rattle.job_run.specs.Job.{JobMakes, JobAfter}
+use Rattle.job_entry.specs.Refusal.{jobInputs, jobVerdict}
+use Rattle.job_entry.specs.Laws.Refusal.{job-accepts}
+use Rattle.demands.specs.Demands.{Runnable, ApplyCall, ClassCall, Demand3}
+use Rattle.demands.specs.Job.{JobCall, jobTable, RunnableFile, RoundsFit, JobAgrees, DemandJob}
+use Rattle.demands.specs.Laws.Accepted.{fits-short, short-fits, same-makes, apply-accepted, classes-accepted, job-accepted, job-numbered}
+use Rattle.demands.specs.Laws.Demands.{left-accepted, lists-agree, demand-3}
 
--- ---- refused only where an item is met
+module _ {file : List ℕ} (c : JobCall file) where
+  -- the verdict of the call
+  abbrev pub dueOf : Verdict
+  dueOf = jobVerdict (c .lent) (c .limit) file (c .returned .after-made) (c .returned .today-made)
 
-module _ (file : List ℕ) (c : JobCall file) where
-  runs : RunnableFile file → c .reason ≡ 0
-  runs r =
-      c .returned .reason-is
-      ∙ ap reasonOf
-      (job-accepted (c .lent) file
-      (record {
-        sized = c .sized;
-        trailer-accepted = r .trailer-accepted;
-        pieces =
-            record {
-              site-accepted = r .pieces .going .site-accepted;
-              cond-accepted = r .pieces .table-accepted;
-              sheet-accepted = r .pieces .going .sheet-accepted;
-              goes = r .pieces .going .goes-through;
-              short = fits-short (conditionIn file) (sheetIn file) (r .pieces .table-accepted) (omega (arith, r .pieces .table-fits));
-            };
-      }))
+  -- ---- refused only where an item is met
+
+  module _ (r : RunnableFile file) where
+    pub job-inputs : jobInputs (c .lent) (c .limit) file ≡ Accepted
+    job-inputs =
+        job-accepted (c .lent) (c .limit) file
+        (record {
+          sized = c .sized;
+          limit-fits = c .limit-fits;
+          trailer-accepted = r .trailer-accepted;
+          pieces =
+              record {
+                site-accepted = r .pieces .going .site-accepted;
+                cond-accepted = r .pieces .table-accepted;
+                sheet-accepted = r .pieces .going .sheet-accepted;
+                goes = r .pieces .going .goes-through;
+                short = fits-short (conditionIn file) (sheetIn file) (r .pieces .table-accepted) (omega (arith, r .pieces .table-fits));
+              };
+        })
+
+    -- where its lists make a and t rounds, nothing but item 15 is left to test
+    pub job-due : (a t : ℕ) → JobMakes (siteIn file) (conditionIn file) (sheetIn file) a t → dueOf ≡ roundsVerdict (c .limit) a then roundsVerdict (c .limit) t
+    unfolding jobVerdict
+    job-due a t m =
+        let k = c .returned .makes job-inputs in
+        rw (job-inputs, same-makes _ _ _ _ (k .after) (m .after), same-makes _ _ _ _ (k .today) (m .today))
+
+    runs : RoundsFit (c .limit) file → c .reason ≡ 0
+    runs f =
+        let a : f .after ≤ c .limit = omega (arith, f .after-fits) in
+        let t : f .today ≤ c .limit = omega (arith, f .today-fits) in
+        let fit : roundsVerdict (c .limit) (f .after) then roundsVerdict (c .limit) (f .today) ≡ Accepted = rw (rounds-in a, rounds-in t) in
+        c .returned .returned .reason-is ∙ ap reasonOf (job-due (f .after) (f .today) (f .makes) ∙ fit)
 
   module _ (e : c .reason ≡ 0) where
-    accepted : jobVerdict (c .lent) file ≡ Accepted
-    accepted = job-reason (c .lent) file (sym (c .returned .reason-is) ∙ e)
+    accepted : dueOf ≡ Accepted
+    accepted = job-numbered (c .lent) (c .limit) file _ _ .accepts (sym (c .returned .returned .reason-is) ∙ e)
+
+    parts : (jobInputs (c .lent) (c .limit) file ≡ Accepted)
+        × (roundsVerdict (c .limit) (c .returned .after-made) then roundsVerdict (c .limit) (c .returned .today-made) ≡ Accepted)
+    unfolding jobVerdict
+    parts = then-out (jobInputs (c .lent) (c .limit) file) _ accepted
 
     runnable : RunnableFile file
     runnable =
-        let a = job-accepts (c .lent) file accepted in
+        let a = job-accepts (c .lent) (c .limit) file (parts .0) in
         record {
           trailer-accepted = a .trailer-accepted;
           pieces =
@@ -57,10 +88,35 @@ module _ (file : List ℕ) (c : JobCall file) where
               };
         }
 
-    left : JobAfter Accepted (siteIn file) (conditionIn file) (sheetIn file) (c .lent) (c .lent′) (c .after) (c .today) (c .nodes) (c .classes)
-    left = rw accepted at (c .returned .left)
+    fit : RoundsFit (c .limit) file
+    fit =
+        let p = then-out (roundsVerdict (c .limit) (c .returned .after-made)) _ (parts .1) in
+        record {
+          after = c .returned .after-made;
+          today = c .returned .today-made;
+          makes = c .returned .makes (parts .0);
+          after-fits = rounds-out (c .limit) (c .returned .after-made) (p .0);
+          today-fits = rounds-out (c .limit) (c .returned .today-made) (p .1);
+        }
 
-    -- ---- the five calls, each on the job's own buffers
+    left : JobAfter Accepted (siteIn file) (conditionIn file) (sheetIn file) (c .lent) (c .lent′) (foundOf (c .after) (c .after-rounds))
+        (foundOf (c .today) (c .today-rounds)) (c .nodes) (c .classes)
+    left = rw accepted at (c .returned .returned .left)
+
+    effects : siteOf (c .lent′ .changed) ≡ edits.sheet (editsOf (sheetIn file)) (siteOf (siteIn file))
+    unfolding SiteAfter
+    effects = left .site-after .effects
+
+    is-rewritten : tableOf (jobTable c) ≡ rewritten (conditionIn file) (sheetIn file)
+    unfolding TableAfter
+    is-rewritten = let t = left .table-after in taken-table (rewritten (conditionIn file) (sheetIn file)) _ (c .lent′ .table) (c .nodes) (t .0) (t .1)
+
+    -- the rounds that are returned are those that its lists make
+    pub job-makes : JobMakes (siteIn file) (conditionIn file) (sheetIn file) (c .after-rounds) (c .today-rounds)
+    unfolding SetAfter
+    job-makes = record { after = rw effects at (left .list-after .1); today = rw is-rewritten at (left .list-today .1) }
+
+    -- ---- two calls, each on the job's own buffers
 
     pieces : Runnable (siteIn file) (conditionIn file) (sheetIn file)
     pieces = runnable .pieces
@@ -84,61 +140,6 @@ module _ (file : List ℕ) (c : JobCall file) where
           returned = record { reason-is = sym (ap reasonOf v); fault-is = sym (ap faultOf v); left = rw v (left .site-after) };
         }
 
-    abbrev rewriteCall : RewriteCall (conditionIn file) (sheetIn file)
-    rewriteCall =
-        let v =
-        rewrite-accepted (length (c .lent .table)) (conditionIn file) (sheetIn file)
-        (record {
-          result-size = c .sized .table-size;
-          table-accepted = pieces .table-accepted;
-          sheet-accepted = pieces .going .sheet-accepted;
-          short = fits-short (conditionIn file) (sheetIn file) (pieces .table-accepted) (omega (arith, pieces .table-fits));
-        }) in
-        record {
-          result = c .lent .table;
-          result′ = c .lent′ .table;
-          reason = 0;
-          fault = 0;
-          nodes = c .nodes;
-          result-size = c .sized .table-size;
-          returned = record { reason-is = sym (ap reasonOf v); fault-is = sym (ap faultOf v); left = rw v (left .table-after) };
-        }
-
-    -- the call of listing for the list today, or for the list after
-    abbrev lists : (site table set set′ : List ℕ) (n : ℕ) → siteVerdict site ≡ Accepted → conditionVerdict table ≡ Accepted → length set ≡ setBytes
-        → SetAfter Accepted site table set set′ n → ListCall site table
-    lists site table set set′ n a b size after =
-        let v =
-        list-accepted (length set) (length (c .lent .work)) site table
-        (record { set-size = size; work-size = c .sized .work-size; site-accepted = a; table-accepted = b }) in
-        record {
-          set = set;
-          set′ = set′;
-          work = c .lent .work;
-          work′ = c .lent′ .work;
-          reason = 0;
-          fault = 0;
-          count = n;
-          set-size = size;
-          work-size = c .sized .work-size;
-          returned =
-              record {
-                reason-is = sym (ap reasonOf v);
-                fault-is = sym (ap faultOf v);
-                left = rw v (record { set-after = after; work-zero = left .work-zero });
-              };
-        }
-
-    abbrev todayCall : ListCall (siteIn file) (rewrittenTable rewriteCall)
-    todayCall =
-        lists (siteIn file) (rewrittenTable rewriteCall) (c .lent .today) (c .lent′ .today) (c .today) (pieces .going .site-accepted)
-        (table-accepted pieces rewriteCall) (c .sized .today-size) (left .list-today)
-
-    abbrev afterCall : ListCall (applyCall .result′) (conditionIn file)
-    afterCall =
-        lists (applyCall .result′) (conditionIn file) (c .lent .after) (c .lent′ .after) (c .after) (left-accepted (pieces .going) applyCall)
-        (pieces .table-accepted) (c .sized .after-size) (left .list-after)
-
     abbrev classCall : ClassCall (applyCall .result′)
     classCall =
         let v =
@@ -157,13 +158,13 @@ module _ (file : List ℕ) (c : JobCall file) where
     -- ---- what they agree on, the job does
 
     agrees : JobAgrees c
-    unfolding Demand2 Demand3
+    unfolding SetAfter Demand3
     agrees =
         record {
-          lists = demand-2 (siteIn file) (conditionIn file) (sheetIn file) pieces applyCall rewriteCall todayCall afterCall .agree;
+          lists = lists-agree pieces is-rewritten effects (left .list-today .0) (left .list-after .0);
           numbers = demand-3 (siteIn file) (sheetIn file) (pieces .going) applyCall classCall .same-numbers;
         }
 
 pub demand-job : DemandJob
 unfolding DemandJob
-demand-job file c = ((runnable file c, runs file c), agrees file c)
+demand-job file c = ((λ e. (runnable c e, fit c e), λ p. runs c (p .0) (p .1)), agrees c)

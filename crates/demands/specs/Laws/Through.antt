@@ -1,6 +1,6 @@
 -- The demand on the condition for going through is met.
-use mathlib.Core.Path.{_≡_, refl, _∙_}
-use mathlib.Core.Logic.{inl, inr}
+use mathlib.Core.Path.{_≡_, refl, _∙_, ap}
+use mathlib.Core.Logic.{_≢_, inl, inr}
 use mathlib.Core.Bool.{Bool, true, false, not, cond}
 use mathlib.Core.List.{List, _++_}
 use Prim.Native.Nat.{ℕ, _*_, _-_, _≤_}
@@ -15,6 +15,7 @@ use Rattle.semantics.specs.Edit as edits
 use Rattle.semantics.specs.Block.{emit}
 use Rattle.through.specs.Through.{throughEdit, oneTrue, through}
 use Rattle.through.specs.Laws.Through.{through-says}
+use Rattle.through.specs.Laws.Loopless.{through-makes}
 use Rattle.site.specs.Site.{siteOf}
 use Rattle.site.specs.Laws.Valid.{site-valid}
 use Rattle.condition.specs.Bytes.{tableOf, bytesOf}
@@ -25,13 +26,14 @@ use Rattle.applying.specs.Refusal.{goesVerdict}
 use Rattle.rewriting.specs.Laws.Grow.{through-grows, too-long-end}
 use Rattle.rewriting.specs.Laws.Accepted.{taken, taken-table, through-bytes-accepted}
 use Rattle.listing.specs.Laws.Same.{like-listed}
+use Rattle.list_entry.specs.Listing.{SiteMakes}
 use Rattle.apply_entry.specs.Refusal.{applyVerdict}
-use Rattle.refusals.specs.Laws.Items.{buffer-in}
+use Rattle.refusals.specs.Laws.Items.{buffer-in, rounds-in}
 use Rattle.rewrite_entry.specs.Refusal.{throughVerdict}
 use Rattle.demands.specs.Demands.{ApplyCall, ListCall}
 use Rattle.demands.specs.Through.{ThroughCall, throughTable, Foreseeable, Foretold, DemandThrough}
 use Rattle.demands.specs.Laws.Accepted.{through-accepted, reason-none, table-left}
-use Rattle.demands.specs.Laws.Demands.{list-reason, listed}
+use Rattle.demands.specs.Laws.Demands.{list-due, list-reason, listed}
 
 module _ {site sheet : List ℕ} (j : Foreseeable site sheet) where
   abbrev es : List edits.Edit
@@ -72,13 +74,20 @@ module _ {site sheet : List ℕ} (j : Foreseeable site sheet) where
     -- ---- and listed
 
     module _ (t : ListCall site (throughTable c)) where
+      -- no round is made, so that the limit does not matter
+      no-round : t .reason ≢ 15
+      no-round e =
+          let made : SiteMakes site (throughTable c) 0 = λ ρ. rw is-through (through-makes es (siteOf site) ρ) in
+          let v = list-due (j .site-accepted) table-accepted t 0 made ∙ rounds-in (omega arith) in
+          absurd (omega (arith, e, t .returned .returned .reason-is ∙ ap reasonOf v))
+
       -- whether the sheet goes through
       abbrev goes : Bool
       goes = edits.sheetGoes es (siteOf site)
 
       through-listed : (t .set′ ≡ replicate setBytes (cond goes 255 0)) × (t .count ≡ cond goes slots 0)
       through-listed =
-          like-listed goes (rw is-through at (listed (j .site-accepted) table-accepted t)) (λ ρ s k. through-says es legal (siteOf site) valid ρ s k)
+          like-listed goes (rw is-through at (listed (j .site-accepted) table-accepted t no-round)) (λ ρ s k. through-says es legal (siteOf site) valid ρ s k)
 
       -- ---- beside applying
 
@@ -97,7 +106,7 @@ module _ {site sheet : List ℕ} (j : Foreseeable site sheet) where
             let l = rw g at through-listed in let r = rw g at apply-reason in
             record {
               makes = reason-none made-goes (c .returned);
-              lists = list-reason (j .site-accepted) table-accepted t;
+              lists = list-reason (j .site-accepted) table-accepted t no-round;
               goes-or-not = inl r;
               all-listed = (λ _. l, λ _. r);
               none-listed = (λ e. absurd (omega (arith, r, e)), λ p. absurd (omega (arith, l .1, p .1)));
@@ -106,7 +115,7 @@ module _ {site sheet : List ℕ} (j : Foreseeable site sheet) where
             let l = rw g at through-listed in let r = rw g at apply-reason in
             record {
               makes = reason-none made-goes (c .returned);
-              lists = list-reason (j .site-accepted) table-accepted t;
+              lists = list-reason (j .site-accepted) table-accepted t no-round;
               goes-or-not = inr r;
               all-listed = (λ e. absurd (omega (arith, r, e)), λ p. absurd (omega (arith, l .1, p .1)));
               none-listed = (λ _. l, λ _. r);

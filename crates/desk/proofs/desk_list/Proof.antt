@@ -16,8 +16,8 @@ reason-requires c κs = search needs
 fault-requires : tie.Need-fault-requires
 fault-requires c κs = search needs
 
-count-requires : tie.Need-count-requires
-count-requires c κs = search needs
+found-requires : tie.Need-found-requires
+found-requires c κs = search needs
 
 same-length : tie.Need-same-length
 same-length c = search needs
@@ -26,7 +26,7 @@ same-length-2 : tie.Need-same-length-2
 same-length-2 c = search needs
 
 returns : tie.Need-returns
-returns c = let l = c .before .before .before .before .before .before .before .before .list in returned-list (l .result) (l .ensures) (c .before .before .before .verdict .ensures) (c .before .before .reason .ensures) (c .before .fault .ensures) (c .count .ensures)
+returns c = let l = c .before .before .before .before .before .before .before .before .list in returned-list (l .result) (l .ensures) (c .before .before .before .verdict .ensures) (c .before .before .reason .ensures) (c .before .fault .ensures) (c .found .ensures)
 
 pub desk-list-spec : {M : Type 1} → statement M
 desk-list-spec =
@@ -36,7 +36,7 @@ desk-list-spec =
     verdict-requires
     reason-requires
     fault-requires
-    count-requires
+    found-requires
     same-length
     same-length-2
     returns)

@@ -6,7 +6,8 @@ use Rattle.verdict.specs.Verdict.{reasonOf, faultOf}
 use Rattle.verdict.specs.declared.Verdict.{Verdict}
 use Rattle.semantics.specs.Table.{Node}
 use Rattle.list_entry.specs.declared.Listing.{Listing}
-use Rattle.list_entry.specs.Answer.{verdictOf, countOf}
+use Rattle.listing.specs.declared.Found.{Found}
+use Rattle.list_entry.specs.Answer.{verdictOf, foundIn}
 use Rattle.list_entry.specs.Listing.{ListAfter}
 use Rattle.list_entry.specs.Answered.{ListAnswered}
 use Rattle.apply_entry.specs.Applying.{SiteAfter}
@@ -34,10 +35,16 @@ returned After a l h e f = record { reason-is = e ∙ ap reasonOf (h ∙ a); fau
 
 -- ---- listing
 
-module _ {site table set set′ work work′ : List ℕ} where
-  pub returned-list : (r : Listing) → ListAnswered site table set set′ work work′ (verdictOf r) (countOf r) → {v : Verdict} → v ≡ verdictOf r
-      → {reason fault n : ℕ} → reason ≡ reasonOf v → fault ≡ faultOf v → n ≡ countOf r → ReturnedList site table set set′ work work′ reason fault n
-  returned-list r a h {n = n} e f g = returned (λ v. ListAfter v site table set set′ work work′ n) (a .verdict) (rw g (a .left)) h e f
+module _ {limit : ℕ} {site table set set′ work work′ : List ℕ} where
+  pub returned-list : (r : Listing) → ListAnswered limit site table set set′ work work′ (verdictOf r) (foundIn r) → {v : Verdict} → v ≡ verdictOf r
+      → {reason fault : ℕ} {found : Found} → reason ≡ reasonOf v → fault ≡ faultOf v → found ≡ foundIn r
+      → ReturnedList limit site table set set′ work work′ reason fault found
+  returned-list r a h {found = found} e f g =
+      record {
+        made = a .made;
+        makes = a .makes;
+        returned = returned (λ v. ListAfter v site table set set′ work work′ found) (a .verdict) (rw g (a .left)) h e f;
+      }
 
 -- ---- applying
 
@@ -64,12 +71,18 @@ module _ {site classes classes′ : List ℕ} where
 
 -- ---- a job
 
-module _ {file : List ℕ} {b b′ : Buffers} where
+module _ {limit : ℕ} {file : List ℕ} {b b′ : Buffers} where
   pub returned-job : (r : Job)
-      → JobAnswered file b b′ (job.verdictOf r) (job.afterOf r) (job.todayOf r) (job.nodesOf r) (job.classesOf r)
-      → {reason fault after today nodes classes : ℕ} → (reason ≡ reasonOf (job.verdictOf r)) × (fault ≡ faultOf (job.verdictOf r))
+      → JobAnswered limit file b b′ (job.verdictOf r) (job.afterOf r) (job.todayOf r) (job.nodesOf r) (job.classesOf r)
+      → {reason fault : ℕ} {after today : Found} {nodes classes : ℕ} → (reason ≡ reasonOf (job.verdictOf r)) × (fault ≡ faultOf (job.verdictOf r))
       → (after ≡ job.afterOf r) × ((today ≡ job.todayOf r) × ((nodes ≡ job.nodesOf r) × (classes ≡ job.classesOf r)))
-      → ReturnedJob file b b′ reason fault after today nodes classes
+      → ReturnedJob limit file b b′ reason fault after today nodes classes
   returned-job r a {after = after} {today = today} {nodes = nodes} {classes = classes} e f =
-      returned (λ v. JobAfter v (siteIn file) (conditionIn file) (sheetIn file) b b′ after today nodes classes)
-      (a .verdict) (rw (f .0, f .1 .0, f .1 .1 .0, f .1 .1 .1) (a .left)) refl (e .0) (e .1)
+      record {
+        after-made = a .after-made;
+        today-made = a .today-made;
+        makes = a .makes;
+        returned =
+            returned (λ v. JobAfter v (siteIn file) (conditionIn file) (sheetIn file) b b′ after today nodes classes)
+            (a .verdict) (rw (f .0, f .1 .0, f .1 .1 .0, f .1 .1 .1) (a .left)) refl (e .0) (e .1);
+      }

@@ -1,7 +1,7 @@
--- `job_entry::run` meets its contract: items 1 and 2 are judged, the pieces are taken, and the job runs on them.
+-- `job_entry::run` meets its contract: items 1, 16 and 2 are judged, the pieces are taken, and the job runs on them.
 use native.Mathlib.Omega.{arith}
 use borrow.Author.Needs.{needs}
-use Rattle.job_entry.specs.Laws.Job.{sized, answered-ran}
+use Rattle.job_entry.specs.Laws.Job.{passed, answered-ran}
 use Rattle.job_entry.proofs.run.Statement.{statement}
 use Rattle.job_entry.proofs.run.Tie as tie
 
@@ -28,7 +28,7 @@ run-requires c κs =
     let fits = c .before .before .before .before .before .before .before .before .before .before .before .sizes-fit .ensures in
     let cuts = c .before .before .before .before .before .before .before .before .before .before .read .ensures in
     let judged = c .before .before .before .before .before .before .before .before .before .judge .ensures in
-    sized fits cuts judged
+    passed fits cuts judged
 
 same-length : tie.Need-same-length
 same-length c = omega arith

@@ -1,28 +1,28 @@
--- What a job knows of inputs that it does not refuse; the reason 0 says that it does not.
-use mathlib.Core.Path.{_≡_, refl, sym}
+-- What a job knows of inputs that meet no item but 15, and the numbers of these items.
+use mathlib.Core.Path.{_≡_, refl}
 use mathlib.Core.Bool.{Bool, true, false, not, _&&_, cond}
 use mathlib.Core.List.{List}
-use Prim.Native.Nat.{ℕ}
+use Prim.Native.Nat.{ℕ, _≤_}
 use native.Mathlib.Omega.{arith}
 use lib.ListN.{length}
 use Rattle.finite.specs.Tests.{same}
 use Rattle.bitset.specs.Set.{setBytes}
-use Rattle.verdict.specs.Verdict.{reasonOf, _then_}
+use Rattle.verdict.specs.Verdict.{_then_}
 use Rattle.verdict.specs.Laws.{then-assoc}
 use Rattle.verdict.specs.declared.Verdict.{Verdict}
 use Rattle.verdict.specs.declared.Verdict.the-variants.{Accepted, Refused}
 use Rattle.site.specs.Layout.{siteBytes}
-use Rattle.limits.specs.Limits.{tableBytes}
+use Rattle.limits.specs.Limits.{tableBytes, highestLimit}
 use Rattle.trailer.specs.Refusal.{item2, trailerVerdict}
 use Rattle.trailer.specs.Pieces.{siteIn, conditionIn, sheetIn}
 use Rattle.listing.specs.Listed.{workBytes}
-use Rattle.refusals.specs.Refusal.{bufferVerdict}
+use Rattle.refusals.specs.Refusal.{bufferVerdict, limitVerdict}
 use Rattle.classes_entry.specs.Refusal.{classesBytes}
-use Rattle.refusals.specs.Laws.Items.{buffer-in, buffer-out, then-out, Numbered, numbered-accepted, numbered-item, numbered-then, numbered-buffer}
+use Rattle.refusals.specs.Laws.Items.{buffer-in, buffer-out, limit-out, then-out, Numbered, numbered-accepted, numbered-item, numbered-then, numbered-buffer, numbered-limit}
 use Rattle.job_run.specs.Buffers.{Buffers, Sized}
 use Rattle.job_run.specs.Refusal.{piecesVerdict}
 use Rattle.job_run.specs.Laws.Refusal.{PiecesAccepted, pieces-out, pieces-numbered}
-use Rattle.job_entry.specs.Refusal.{buffersVerdict, jobVerdict}
+use Rattle.job_entry.specs.Refusal.{buffersVerdict, jobInputs}
 use Rattle.job_entry.specs.Steps.{sizesFit, sizesVerdict}
 
 -- ---- item 1
@@ -76,26 +76,33 @@ sized-in b s =
       buffer-in (s .work-size),
     )
 
-module _ (b : Buffers) (file : List ℕ) where
-  -- ---- the chain: items 1 and 2, then 3 to 14
+module _ (b : Buffers) (limit : ℕ) (file : List ℕ) where
+  -- ---- the chain: items 1, 16 and 2, then 3 to 14
 
-  pub job-then : jobVerdict b file ≡ (buffersVerdict b then trailerVerdict file) then piecesVerdict (siteIn file) (conditionIn file) (sheetIn file)
-  unfolding jobVerdict
-  job-then = sym (then-assoc (buffersVerdict b) (trailerVerdict file) (piecesVerdict (siteIn file) (conditionIn file) (sheetIn file)))
+  pub job-then : jobInputs b limit file
+      ≡ (buffersVerdict b then limitVerdict limit then trailerVerdict file) then piecesVerdict (siteIn file) (conditionIn file) (sheetIn file)
+  unfolding jobInputs
+  job-then =
+      let l = limitVerdict limit in
+      let t = trailerVerdict file in
+      let p = piecesVerdict (siteIn file) (conditionIn file) (sheetIn file) in
+      rw (then-assoc (buffersVerdict b) (l then t) p, then-assoc l t p)
 
   -- ---- what is accepted
 
   pub record JobAccepted : Type 0 where
     pub sized : Sized b
+    pub limit-fits : limit ≤ highestLimit
     pub trailer-accepted : trailerVerdict file ≡ Accepted
     pub pieces : PiecesAccepted (siteIn file) (conditionIn file) (sheetIn file)
 
-  pub job-accepts : jobVerdict b file ≡ Accepted → JobAccepted
-  unfolding jobVerdict
+  pub job-accepts : jobInputs b limit file ≡ Accepted → JobAccepted
+  unfolding jobInputs
   job-accepts e =
       let p = then-out (buffersVerdict b) _ e in
-      let q = then-out (trailerVerdict file) (piecesVerdict (siteIn file) (conditionIn file) (sheetIn file)) (p .1) in
-      record { sized = sized-out b (p .0); trailer-accepted = q .0; pieces = pieces-out _ _ _ (q .1) }
+      let l = then-out (limitVerdict limit) _ (p .1) in
+      let q = then-out (trailerVerdict file) (piecesVerdict (siteIn file) (conditionIn file) (sheetIn file)) (l .1) in
+      record { sized = sized-out b (p .0); limit-fits = limit-out limit (l .0); trailer-accepted = q .0; pieces = pieces-out _ _ _ (q .1) }
 
   -- ---- the numbers of its items
 
@@ -113,11 +120,9 @@ module _ (b : Buffers) (file : List ℕ) where
   unfolding trailerVerdict
   trailer-numbered = numbered-item (item2 file) 2 0 Accepted (omega arith) (omega arith) numbered-accepted
 
-  pub job-numbered : Numbered (jobVerdict b file)
-  unfolding jobVerdict
-  job-numbered =
+  pub inputs-numbered : Numbered (jobInputs b limit file)
+  unfolding jobInputs
+  inputs-numbered =
       numbered-then (buffersVerdict b) _ buffers-numbered
-      (numbered-then (trailerVerdict file) _ trailer-numbered (pieces-numbered (siteIn file) (conditionIn file) (sheetIn file)))
-
-  pub job-reason : reasonOf (jobVerdict b file) ≡ 0 → jobVerdict b file ≡ Accepted
-  job-reason = job-numbered .accepts
+      (numbered-then (limitVerdict limit) _ (numbered-limit limit)
+      (numbered-then (trailerVerdict file) _ trailer-numbered (pieces-numbered (siteIn file) (conditionIn file) (sheetIn file))))

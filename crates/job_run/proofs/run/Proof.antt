@@ -1,33 +1,24 @@
--- The pieces are prepared, then both lists and the class numbers are written or the job is refused.
+-- All but the class numbers is done, then the slots are numbered or the job is refused.
 use native.Mathlib.Omega.{arith}
+use Rattle.job_run.specs.Laws.Job.{sets-of, passed, changed-sized, ran-done, ran-refused}
 use borrow.Author.Needs.{needs}
-use Rattle.job_run.specs.Laws.Job.{sets-of, went, ran-done, ran-refused}
 use Rattle.job_run.proofs.run.Statement.{statement}
 use Rattle.job_run.proofs.run.Tie as tie
 
-no-masks-requires : tie.Need-no-masks-requires
-no-masks-requires c κs = search needs
-
-slice-aggregate-prepare : tie.Need-slice-aggregate-prepare
-slice-aggregate-prepare c = search needs
-
-prepare-requires : tie.Need-prepare-requires
-prepare-requires c κs =
-    let m = c .before .before .before in let lent = m .before .before .before .before .before .before .before .before .before .before .pre in
-    (m .no-masks .ensures, λ e. (lent e .changed-size, lent e .table-size))
+list-pieces-requires : tie.Need-list-pieces-requires
+list-pieces-requires c κs =
+    let lent = c .before .before .before .before .before .before .before .before .before .before .before .before .before .before .pre in
+    λ e. ((lent e .1 .changed-size, lent e .1 .table-size), sets-of (lent e .0) (lent e .1))
 
 enum-known-r : tie.Need-enum-known-r
 enum-known-r c = search needs
 
-slice-aggregate-finish : tie.Need-slice-aggregate-finish
-slice-aggregate-finish c = search needs
-
-finish-requires : tie.Need-finish-requires
-finish-requires c κs =
-    let ready = c .before .before .before .before .before .before .before .before .before .before .before .before .before .before .before .prepare .ensures in
-    let lent = c .before .before .before .before .before .before .before .before .before .before .before .before .before .before .before .before .before .before .before .before .before .before .before .before .before .before .before .before .before .pre in
-    let made = c .before .before .before .before .before .before .before .before .r .given .1 in
-    (ready .made _ made .listable, sets-of (lent (went ready made)))
+number-requires : tie.Need-number-requires
+number-requires c κs =
+    let tried = c .before .before .before .before .before .before .before .before .before .before .before .before .before .before .before .list-pieces .ensures in
+    let done = c .before .before .before .r .given .1 in
+    let lent = c .before .before .before .before .before .before .before .before .before .before .before .before .before .before .before .before .before .before .before .before .before .before .before .before .before .before .before .before .before .before .pre in
+    (changed-sized tried done, lent (passed tried done) .1 .classes-size)
 
 enum-known-r-2 : tie.Need-enum-known-r-2
 enum-known-r-2 c = search needs
@@ -55,10 +46,11 @@ same-length-6 c = omega arith
 
 returns : tie.Need-returns
 returns c =
-    let ready = c .before .before .before .before .before .before .before .before .before .before .before .before .before .before .before .before .before .before .before .before .before .before .before .before .prepare .ensures in
-    let lent = c .before .before .before .before .before .before .before .before .before .before .before .before .before .before .before .before .before .before .before .before .before .before .before .before .before .before .before .before .before .before .before .before .before .before .before .before .before .before .pre in
-    let made = c .before .before .before .before .before .before .before .before .before .before .before .before .before .before .before .before .before .r .given .1 in
-    ran-done ready made (lent (went ready made)) (c .before .before .before .before .before .before .before .before .finish .ensures)
+    let tried = c .before .before .before .before .before .before .before .before .before .before .before .before .before .before .before .before .before .before .list-pieces .ensures in
+    let done = c .before .before .before .before .before .before .r .given .1 in
+    let lent = c .before .before .before .before .before .before .before .before .before .before .before .before .before .before .before .before .before .before .before .before .before .before .before .before .before .before .before .before .before .before .before .before .before .pre in
+    let numbers = c .before .before .number .ensures in
+    ran-done tried done (lent (passed tried done) .1 .work-size) (numbers .0) (numbers .1)
 
 same-length-7 : tie.Need-same-length-7
 same-length-7 c = omega arith
@@ -80,21 +72,18 @@ same-length-12 c = omega arith
 
 returns-2 : tie.Need-returns-2
 returns-2 c =
-    let ready = c .before .before .before .before .before .before .before .before .before .before .before .before .before .before .before .before .before .before .before .before .before .before .before .before .before .before .before .prepare .ensures in
+    let tried = c .before .before .before .before .before .before .before .before .before .before .before .before .before .before .before .before .before .before .before .before .before .before .before .before .before .before .before .before .before .before .before .before .list-pieces .ensures in
     let met = c .before .before .before .before .before .before .before .before .before .before .before .before .before .before .before .before .before .before .before .before .r2 .given .1 in
     let zeros = c .before .before .before .before .before .before .before .before .before .before .before .before .refuse .ensures in
-    ran-refused ready met (zeros .0) (omega arith) (omega arith) (zeros .1)
+    ran-refused tried met (zeros .0) (omega arith) (omega arith) (omega arith) (omega arith) (omega arith) (zeros .1)
 
 pub run-spec : {M : Type 1} → statement M
 run-spec =
     tie.close
     (tie.spec
-    no-masks-requires
-    slice-aggregate-prepare
-    prepare-requires
+    list-pieces-requires
     enum-known-r
-    slice-aggregate-finish
-    finish-requires
+    number-requires
     enum-known-r-2
     refuse-requires
     same-length

@@ -1,26 +1,35 @@
 -- The answers of a job's parts, case by case.
 use mathlib.Core.Path.{_≡_, refl, sym, _∙_, ap}
 use mathlib.Core.List.{List}
-use Prim.Native.Nat.{ℕ, _*_, _-_}
+use Prim.Native.Nat.{ℕ, _*_, _-_, _≤_, _<_}
 use native.Mathlib.Omega.{arith}
-use lib.ListN.{length, replicate, length-append}
+use lib.ListN.{length, take, replicate, length-append}
 use Rattle.verdict.specs.Verdict.{_then_}
+use Rattle.verdict.specs.Laws.{refused}
 use Rattle.verdict.specs.declared.Verdict.{Verdict}
 use Rattle.verdict.specs.declared.Verdict.the-variants.{Accepted, Refused}
+use Rattle.semantics.specs.Table.{formOf}
+use Rattle.site.specs.Layout.{siteBytes}
+use Rattle.site.specs.Site.{siteOf}
 use Rattle.site.specs.Refusal.{siteVerdict}
 use Rattle.site.specs.Laws.Valid.{accepted-out}
-use Rattle.condition.specs.Bytes.{bytesOf}
+use Rattle.condition.specs.Bytes.{tableOf, bytesOf}
 use Rattle.condition.specs.Refusal.{conditionVerdict}
 use Rattle.condition.specs.Laws.Bytes.{length-bytes}
 use Rattle.sheet.specs.Refusal.{sheetVerdict}
-use Rattle.limits.specs.Limits.{tableNodes, tableBytes}
+use Rattle.limits.specs.Limits.{tableNodes, tableBytes, highestLimit}
 use Rattle.rewriting.specs.declared.Rewriting.{Rewriting}
 use Rattle.rewriting.specs.declared.Rewriting.the-variants as change
 use Rattle.rewriting.specs.Answer as rewriting
 use Rattle.rewriting.specs.Rewriting.{rewritten, TableAfter}
-use Rattle.rewriting.specs.Laws.Accepted.{rewritten-accepted}
-use Rattle.refusals.specs.Laws.Items.{then-out}
+use Rattle.rewriting.specs.Laws.Accepted.{taken-table, rewritten-accepted}
+use Rattle.refusals.specs.Laws.Items.{rounds-in, rounds-not, then-out}
+use Rattle.listing.specs.declared.Found.{Found}
+use Rattle.listing.specs.Listed.{workBytes, foundOf, Within}
+use Rattle.listing.specs.Laws.Answer.{accepted-makes}
 use Rattle.list_entry.specs.Listing.{SetAfter}
+use Rattle.list_entry.specs.Laws.Listing.{made-over, made-within, makes-found}
+use Rattle.classes.specs.Classes.{Classes, different}
 use Rattle.apply_entry.specs.Applying.{SiteAfter}
 use Rattle.classes_entry.specs.Classing.{ClassesAfter}
 use Rattle.job_steps.specs.Steps.{PiecesJudged, Changed}
@@ -28,8 +37,9 @@ use Rattle.job_run.specs.declared.Job.{Job}
 use Rattle.job_run.specs.declared.Job.the-variants as answer
 use Rattle.job_run.specs.Buffers.{Buffers, buffersOf, Sized}
 use Rattle.job_run.specs.Refusal.{piecesVerdict}
+use Rattle.job_run.specs.Answer.{verdictOf}
 use Rattle.job_run.specs.Job.{JobAfter}
-use Rattle.job_run.specs.Steps.{Sets, Zeros, Made, Prepared, Finished, Ran}
+use Rattle.job_run.specs.Steps.{Sets, Zeros, Made, Prepared, BothTried, Tried, Ran}
 use Rattle.job_run.specs.Laws.Refusal.{pieces-then, pieces-out}
 
 -- ---- the pieces are judged, applied and rewritten
@@ -84,66 +94,161 @@ module _ {first : Verdict} {site cond sheet free′ : List ℕ} {v : Verdict}
     made = λ n f. let z : _≡_ {A = ℕ} 0 1 = cc in absurd (omega arith);
   }
 
--- ---- a refusal leaves zeros
+-- ---- both lists are tried
 
-zeros-left : {site cond sheet : List ℕ} {b b′ : Buffers} {item fault : ℕ} → Zeros b b′ → JobAfter (Refused item fault) site cond sheet b b′ 0 0 0 0
-unfolding SiteAfter TableAfter SetAfter ClassesAfter
-zeros-left z = record {
-  site-after = z .changed-zero;
-  table-after = (refl, z .table-zero);
-  list-after = (z .after-zero, refl);
-  list-today = (z .today-zero, refl);
-  classes-after = (z .classes-zero, refl);
-  work-zero = z .work-zero;
-}
+module _ {limit n : ℕ} {site cond changed table after′ : List ℕ} {f : Found} (a : Within limit (siteOf changed) (formOf (tableOf cond)) after′ f) where
+  -- the first is over. The second makes some number of rounds, which does not matter
+  pub tried-after : limit < f .rounds → conditionVerdict (take (6 * n) table) ≡ Accepted → {today′ work′ : List ℕ}
+      → BothTried limit site cond changed table n after′ today′ work′ (answer.Refused 15 0)
+  tried-after h e =
+      let t = accepted-makes (siteOf site) (take (6 * n) table) e in
+      record {
+        after-made = a .made;
+        today-made = t .0;
+        after-makes = a .makes;
+        today-makes = t .1;
+        verdict = rw (rounds-not (made-over a h));
+        both = λ g. refused g;
+      }
 
--- ---- the job answers
+  module _ {today′ work′ : List ℕ} {g : Found} (h : f .rounds ≤ limit) (t : Within limit (siteOf site) (formOf (tableOf (take (6 * n) table))) today′ g) where
+    pub tried-today : limit < g .rounds → BothTried limit site cond changed table n after′ today′ work′ (answer.Refused 15 0)
+    tried-today k =
+        record {
+          after-made = a .made;
+          today-made = t .made;
+          after-makes = a .makes;
+          today-makes = t .makes;
+          verdict = rw (rounds-in (made-within a h), rounds-not (made-over t k));
+          both = λ g. refused g;
+        }
 
-pub sets-of : {b : Buffers} → Sized b → Sets (b .after) (b .today) (b .classes) (b .work)
-sets-of s = record { after-size = s .after-size; today-size = s .today-size; classes-size = s .classes-size; work-size = s .work-size }
+    pub tried-both : g .rounds ≤ limit → work′ ≡ replicate workBytes 0 → {c : ℕ}
+        → BothTried limit site cond changed table n after′ today′ work′ (answer.Done f g n c)
+    tried-both k z =
+        record {
+          after-made = a .made;
+          today-made = t .made;
+          after-makes = a .makes;
+          today-makes = t .makes;
+          verdict = rw (rounds-in (made-within a h), rounds-in (made-within t k));
+          both = λ _.
+              record {
+                nodes = refl;
+                list-after = a .listed h;
+                after-makes = makes-found a h;
+                list-today = t .listed k;
+                today-makes = makes-found t k;
+                work-zero = z;
+              };
+        }
+
+-- ---- all but the class numbers
 
 -- the site and the table were written, so nothing was refused first
 pub went : {first : Verdict} {site cond sheet free′ changed changed′ table table′ : List ℕ} {r : Rewriting}
     → Prepared first site cond sheet free′ changed changed′ table table′ r → {n : ℕ} → r ≡ change.Rewritten n → first ≡ Accepted
 went {first = first} p e = then-out first _ (sym (p .verdict) ∙ ap rewriting.verdictOf e) .0
 
-module _ {first : Verdict} {site cond sheet free′ : List ℕ} {b : Buffers} {changed′ table′ : List ℕ} {r : Rewriting}
-    (p : Prepared first site cond sheet free′ (b .changed) changed′ (b .table) table′ r) where
-  pub ran-done : {n : ℕ} → r ≡ change.Rewritten n → Sized b → {after′ today′ classes′ work′ : List ℕ} {j : Job}
-      → Finished site cond changed′ table′ n after′ today′ classes′ work′ j → Ran first site cond sheet b (buffersOf changed′ table′ after′ today′ classes′ work′) j
-  unfolding SetAfter ClassesAfter
-  ran-done {n = n} e s f =
-      let m = p .made n e in
+module _ {first : Verdict} {limit : ℕ} {site cond sheet free′ changed changed′ table table′ after′ today′ work′ : List ℕ} {r : Rewriting}
+    (p : Prepared first site cond sheet free′ changed changed′ table table′ r) where
+  pub tried-refused : {item fault : ℕ} → r ≡ change.Refused item fault
+      → Tried first limit site cond sheet changed changed′ table table′ after′ today′ work′ (answer.Refused item fault)
+  tried-refused e =
+      let d = sym (p .verdict) ∙ ap rewriting.verdictOf e in
       record {
-        verdict = f .verdict ∙ sym (ap rewriting.verdictOf e) ∙ p .verdict;
-        left =
-            rw (f .verdict, f .nodes)
-            (record {
-              site-after = m .site-after;
-              table-after = m .table-after;
-              list-after = f .list-after;
-              list-today = f .list-today;
-              classes-after = (f .classes-after, f .classes-count);
-              work-zero = f .work-zero ∙ ap (λ (k : ℕ). replicate k 0) (sym (s .work-size));
-            });
+        judged = record { after-made = 0; today-made = 0; makes = λ a. refused (sym d ∙ a); verdict = rw d };
+        lists = λ a. refused a;
       }
 
-  -- the site after and the table may have been written already
-  pub ran-refused : {item fault : ℕ} → r ≡ change.Refused item fault → {j : Job} → j ≡ answer.Refused item fault
-      → length changed′ ≡ length (b .changed) → length table′ ≡ length (b .table)
-      → {b′ : Buffers} → Zeros (buffersOf changed′ table′ (b .after) (b .today) (b .classes) (b .work)) b′ → Ran first site cond sheet b b′ j
-  ran-refused e f h i z =
+  pub tried-listed : {n : ℕ} → r ≡ change.Rewritten n → {j : Job} → BothTried limit site cond changed′ table′ n after′ today′ work′ j
+      → Tried first limit site cond sheet changed changed′ table table′ after′ today′ work′ j
+  unfolding SiteAfter TableAfter
+  tried-listed {n = n} e b =
+      let d = sym (p .verdict) ∙ ap rewriting.verdictOf e in
+      let m = p .made n e in
+      let table-is = taken-table (rewritten cond sheet) _ table′ n (m .table-after .0) (m .table-after .1) in
+      record {
+        judged =
+            record {
+              after-made = b .after-made;
+              today-made = b .today-made;
+              makes = λ _. record { after = rw (m .site-after .effects) at (b .after-makes); today = rw table-is at (b .today-makes) };
+              verdict = rw d (b .verdict);
+            };
+        lists = λ a.
+            let l = b .both a in record { site-after = m .site-after; table-after = rw (l .nodes) (m .table-after); both = rw (l .nodes) l };
+      }
+
+-- ---- a refusal leaves zeros
+
+zeros-left : {site cond sheet : List ℕ} {b b′ : Buffers} {item fault : ℕ} → Zeros b b′
+    → JobAfter (Refused item fault) site cond sheet b b′ (foundOf 0 0) (foundOf 0 0) 0 0
+unfolding SiteAfter TableAfter SetAfter ClassesAfter
+zeros-left z = record {
+  site-after = z .changed-zero;
+  table-after = (refl, z .table-zero);
+  list-after = (z .after-zero, (refl, refl));
+  list-today = (z .today-zero, (refl, refl));
+  classes-after = (z .classes-zero, refl);
+  work-zero = z .work-zero;
+}
+
+-- ---- the job answers
+
+pub sets-of : {limit : ℕ} {b : Buffers} → limit ≤ highestLimit → Sized b → Sets limit (b .after) (b .today) (b .work)
+sets-of h s = record { limit-fits = h; after-size = s .after-size; today-size = s .today-size; work-size = s .work-size }
+
+module _ {first : Verdict} {limit : ℕ} {site cond sheet changed changed′ table table′ after′ today′ work′ : List ℕ} {r : Job}
+    (p : Tried first limit site cond sheet changed changed′ table table′ after′ today′ work′ r) {a t : Found} {n z : ℕ} (e : r ≡ answer.Done a t n z) where
+  -- nothing was refused first
+  pub passed : first ≡ Accepted
+  passed =
+      let inputs = then-out (first then piecesVerdict site cond sheet) _ (sym (p .judged .verdict) ∙ ap verdictOf e) .0 in
+      then-out first _ inputs .0
+
+  pub changed-sized : length changed′ ≡ siteBytes
+  unfolding SiteAfter
+  changed-sized = p .lists (ap verdictOf e) .site-after .size
+
+module _ {first : Verdict} {limit : ℕ} {site cond sheet : List ℕ} {b : Buffers} {changed′ table′ after′ today′ work′ : List ℕ} {r : Job}
+    (p : Tried first limit site cond sheet (b .changed) changed′ (b .table) table′ after′ today′ work′ r) where
+  module _ {a t : Found} {n z : ℕ} (e : r ≡ answer.Done a t n z) where
+    pub ran-done : length (b .work) ≡ workBytes → {classes′ : List ℕ} {c : ℕ} → Classes (siteOf changed′) classes′ → c ≡ different classes′
+        → Ran first limit site cond sheet b (buffersOf changed′ table′ after′ today′ classes′ work′) (answer.Done a t n c)
+    unfolding SetAfter ClassesAfter
+    ran-done size k count =
+        let l = rw e at (p .lists (ap verdictOf e)) in
+        record {
+          judged = rw e at (p .judged);
+          left =
+              record {
+                site-after = l .site-after;
+                table-after = l .table-after;
+                list-after = (l .both .list-after, l .both .after-makes);
+                list-today = (l .both .list-today, l .both .today-makes);
+                classes-after = (k, count);
+                work-zero = l .both .work-zero ∙ ap (λ (k : ℕ). replicate k 0) (sym size);
+              };
+        }
+
+  -- the buffers may have been written already
+  pub ran-refused : {item fault : ℕ} → r ≡ answer.Refused item fault → {j : Job} → j ≡ answer.Refused item fault
+      → length changed′ ≡ length (b .changed) → length table′ ≡ length (b .table) → length after′ ≡ length (b .after)
+      → length today′ ≡ length (b .today) → length work′ ≡ length (b .work)
+      → {b′ : Buffers} → Zeros (buffersOf changed′ table′ after′ today′ (b .classes) work′) b′ → Ran first limit site cond sheet b b′ j
+  ran-refused e f h i k l m z =
       rw f
       (record {
-        verdict = sym (ap rewriting.verdictOf e) ∙ p .verdict;
+        judged = rw e at (p .judged);
         left =
             zeros-left
             (record {
               changed-zero = z .changed-zero ∙ ap (λ (k : ℕ). replicate k 0) h;
               table-zero = z .table-zero ∙ ap (λ (k : ℕ). replicate k 0) i;
-              after-zero = z .after-zero;
-              today-zero = z .today-zero;
+              after-zero = z .after-zero ∙ ap (λ (k : ℕ). replicate k 0) k;
+              today-zero = z .today-zero ∙ ap (λ (k : ℕ). replicate k 0) l;
               classes-zero = z .classes-zero;
-              work-zero = z .work-zero;
+              work-zero = z .work-zero ∙ ap (λ (k : ℕ). replicate k 0) m;
             });
       })

@@ -13,7 +13,7 @@ slice-aggregate-list : tie.Need-slice-aggregate-list
 slice-aggregate-list c = sym (length-take-le _ _ (omega arith))
 
 list-requires : tie.Need-list-requires
-list-requires c κs = let p = c .before .before .before .before .before .before .before .pre in ((p .0 .0, p .0 .1 .1), (p .1 .0, p .1 .1))
+list-requires c κs = let p = c .before .before .before .before .before .before .before .pre in ((p .0 .0, p .0 .1 .1), (omega arith, p .1 .1))
 
 same-length : tie.Need-same-length
 same-length c = search needs

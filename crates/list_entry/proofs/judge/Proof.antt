@@ -1,5 +1,5 @@
--- The items in order: the buffers, the site, the condition.
-use Rattle.list_entry.specs.Laws.Listing.{judged-set, judged-work, judged-site, judged-table}
+-- The items in order: the buffers, the limit, the site, the condition.
+use Rattle.list_entry.specs.Laws.Listing.{judged-set, judged-work, judged-limit, judged-site, judged-table}
 use mathlib.Core.Path.{sym, _∙_}
 use native.Mathlib.Omega.{arith}
 use borrow.Author.Needs.{needs}
@@ -11,6 +11,9 @@ returns c = judged-set (c .before .before .before .before .pre) (λ e. omega ari
 
 returns-2 : tie.Need-returns-2
 returns-2 c = judged-work (c .before .before .before .before .before .pre) (omega arith) (λ e. omega arith)
+
+returns-3 : tie.Need-returns-3
+returns-3 c = judged-limit (c .before .before .before .before .before .before .pre) (omega arith) (omega arith) (omega arith)
 
 check-requires : tie.Need-check-requires
 check-requires c κs = search needs
@@ -27,13 +30,13 @@ enum-known-v c = search needs
 same-length : tie.Need-same-length
 same-length c = search needs
 
-returns-3 : tie.Need-returns-3
-returns-3 c = judged-table (omega arith) (omega arith) (sym (c .before .before .before .before .before .before .check .ensures) ∙ c .before .before .before .before .enum-told .given .1) (c .before .before .check2 .ensures)
-
 returns-4 : tie.Need-returns-4
-returns-4 c =
-    let the-pre = c .before .before .before .before .before .before .before .before .before .pre in
-    judged-site the-pre (omega arith) (omega arith) (sym (c .before .before .before .check .ensures) ∙ c .before .v .given .1)
+returns-4 c = judged-table (omega arith) (omega arith) (omega arith) (sym (c .before .before .before .before .before .before .check .ensures) ∙ c .before .before .before .before .enum-told .given .1) (c .before .before .check2 .ensures)
+
+returns-5 : tie.Need-returns-5
+returns-5 c =
+    let start = c .before .before .before .before .before .before .before .before .before .before in
+    judged-site (start .pre) (omega arith) (omega arith) (omega arith) (sym (c .before .before .before .check .ensures) ∙ c .before .v .given .1)
 
 pub judge-spec : {M : Type 1} → statement M
 judge-spec =
@@ -41,10 +44,11 @@ judge-spec =
     (tie.spec
     returns
     returns-2
+    returns-3
     check-requires
     enum-told
     check-requires-2
     enum-known-v
     same-length
-    returns-3
-    returns-4)
+    returns-4
+    returns-5)

@@ -1,6 +1,6 @@
 -- `list_entry::list` meets its contract: it is judged, then it lists or refuses.
 use native.Mathlib.Omega.{arith}
-use Rattle.list_entry.specs.Laws.Listing.{accepts, free-rows, answered-listed, answered-refused}
+use Rattle.list_entry.specs.Laws.Listing.{accepts, free-rows, answered-tried, answered-refused}
 use Rattle.site.specs.Laws.Valid.{accepted-out}
 use borrow.Author.Needs.{needs}
 use Rattle.list_entry.proofs.list.Statement.{statement}
@@ -18,15 +18,17 @@ judge-requires c κs = search needs
 enum-told : tie.Need-enum-told
 enum-told c = search needs
 
-slice-aggregate-list : tie.Need-slice-aggregate-list
-slice-aggregate-list c = search needs
+slice-aggregate-list-within : tie.Need-slice-aggregate-list-within
+slice-aggregate-list-within c = search needs
 
-list-requires : tie.Need-list-requires
-list-requires c κs =
+list-within-requires : tie.Need-list-within-requires
+list-within-requires c κs =
     let j = c .before .before .before .before .before .before .judge in
     let e = c .before .before .before .enum-told .given .1 in
-    let k = accepts (j .ensures) e in
-    (accepted-out _ (k .site-accepted) .0, (k .table-accepted, ((omega arith, free-rows (j .ensures) e), (k .set-size, k .work-size))))
+    let k = accepts (j .ensures) e in (
+      accepted-out _ (k .site-accepted) .0,
+      (k .table-accepted, ((omega arith, free-rows (j .ensures) e), (k .limit-fits, (k .set-size, k .work-size)))),
+    )
 
 enum-known-v : tie.Need-enum-known-v
 enum-known-v c = search needs
@@ -42,10 +44,10 @@ same-length-2 c = search needs
 
 returns : tie.Need-returns
 returns c =
-    let l = c .before .before .before .before .list in
+    let l = c .before .before .before .before .list-within in
     let told = c .before .before .before .before .before .before .before .before .enum-told in
     let j = c .before .before .before .before .before .before .before .before .before .before .before .judge in
-    answered-listed (j .ensures) (told .given .1) (l .ensures .0) (l .ensures .1)
+    answered-tried (j .ensures) (told .given .1) (l .ensures)
 
 same-length-3 : tie.Need-same-length-3
 same-length-3 c = search needs
@@ -68,8 +70,8 @@ list-spec =
     slice-aggregate-judge
     judge-requires
     enum-told
-    slice-aggregate-list
-    list-requires
+    slice-aggregate-list-within
+    list-within-requires
     enum-known-v
     refused-requires
     same-length

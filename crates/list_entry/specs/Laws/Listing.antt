@@ -1,72 +1,132 @@
 -- The answers of listing, case by case.
-use mathlib.Core.Path.{_≡_, refl, sym, _∙_, ap}
+use mathlib.Core.Path.{_≡_, refl, sym, _∙_, ap, subst}
 use mathlib.Core.List.{List}
 use mathlib.Core.Logic.{_≢_}
-use Prim.Native.Nat.{ℕ}
-use lib.ListN.{length, replicate}
+use Prim.Native.Nat.{ℕ, _≤_, _<_}
+use native.Mathlib.Omega.{arith}
+use lib.ListN.{length, replicate, length-replicate}
 use Rattle.bitset.specs.Set.{setBytes}
+use Rattle.verdict.specs.Laws.{refused}
 use Rattle.verdict.specs.declared.Verdict.{Verdict}
 use Rattle.verdict.specs.declared.Verdict.the-variants.{Accepted, Refused}
+use Rattle.semantics.specs.Form.{Form}
+use Rattle.semantics.specs.Holds.{Env, Model}
 use Rattle.semantics.specs.Table.{formOf}
+use Rattle.rounds.specs.Makes.{Makes}
 use Rattle.site.specs.Site.{siteOf}
 use Rattle.site.specs.Refusal.{siteVerdict}
 use Rattle.condition.specs.Bytes.{tableOf}
 use Rattle.even_rule.specs.Free.{FreeRows, noMasks, FreeAfter, Checked}
-use Rattle.listing.specs.Listed.{workBytes, Listed}
+use Rattle.limits.specs.Limits.{highestLimit}
+use Rattle.listing.specs.declared.Found.{Found}
+use Rattle.listing.specs.Listed.{workBytes, Within}
 use Rattle.list_entry.specs.declared.Listing.{Listing}
 use Rattle.list_entry.specs.declared.Listing.the-variants as answer
-use Rattle.refusals.specs.Laws.Items.{buffer-in, buffer-not}
-use Rattle.list_entry.specs.Refusal.{listVerdict}
-use Rattle.list_entry.specs.Answer.{verdictOf, countOf}
+use Rattle.refusals.specs.Laws.Items.{buffer-in, buffer-not, limit-in, limit-not, rounds-in, rounds-not}
+use Rattle.list_entry.specs.Refusal.{listInputs, listVerdict}
+use Rattle.list_entry.specs.Answer.{verdictOf, foundIn}
 use Rattle.list_entry.specs.Listing.{SetAfter}
-use Rattle.list_entry.specs.Answered.{ListAnswered}
+use Rattle.list_entry.specs.Answered.{ListTried, ListAnswered}
 use Rattle.list_entry.specs.Inputs.{InputsJudged}
 use Rattle.list_entry.specs.Laws.Refusal.{Accepts, list-accepts}
 
 -- ---- the inputs are judged
 
-module _ {set work : ℕ} {site table masks : List ℕ} where
+module _ {set work limit : ℕ} {site table masks : List ℕ} where
   module _ (zeros : masks ≡ noMasks) where
-    pub judged-set : set ≢ setBytes → InputsJudged set work site table masks (Refused 1 0)
-    unfolding listVerdict FreeAfter
+    pub judged-set : set ≢ setBytes → InputsJudged set work limit site table masks (Refused 1 0)
+    unfolding listInputs FreeAfter
     judged-set h = record { verdict = rw (buffer-not h); masks-after = zeros }
 
-    pub judged-work : set ≡ setBytes → work ≢ workBytes → InputsJudged set work site table masks (Refused 1 0)
-    unfolding listVerdict FreeAfter
+    pub judged-work : set ≡ setBytes → work ≢ workBytes → InputsJudged set work limit site table masks (Refused 1 0)
+    unfolding listInputs FreeAfter
     judged-work e h = record { verdict = rw (buffer-in e, buffer-not h); masks-after = zeros }
 
-    pub judged-site : set ≡ setBytes → work ≡ workBytes → {item w : ℕ} → siteVerdict site ≡ Refused item w
-        → InputsJudged set work site table masks (Refused item w)
-    unfolding listVerdict FreeAfter
-    judged-site e f v = record { verdict = rw (buffer-in e, buffer-in f, v); masks-after = zeros }
+    pub judged-limit : set ≡ setBytes → work ≡ workBytes → highestLimit < limit → InputsJudged set work limit site table masks (Refused 16 0)
+    unfolding listInputs FreeAfter
+    judged-limit e f h = record { verdict = rw (buffer-in e, buffer-in f, limit-not h); masks-after = zeros }
 
-  pub judged-table : set ≡ setBytes → work ≡ workBytes → siteVerdict site ≡ Accepted → {r : Verdict} → Checked table masks r
-      → InputsJudged set work site table masks r
-  unfolding listVerdict
-  judged-table e f v k = record { verdict = rw (buffer-in e, buffer-in f, v) (k .verdict); masks-after = k .masks }
+    pub judged-site : set ≡ setBytes → work ≡ workBytes → limit ≤ highestLimit → {item w : ℕ} → siteVerdict site ≡ Refused item w
+        → InputsJudged set work limit site table masks (Refused item w)
+    unfolding listInputs FreeAfter
+    judged-site e f h v = record { verdict = rw (buffer-in e, buffer-in f, limit-in h, v); masks-after = zeros }
+
+  pub judged-table : set ≡ setBytes → work ≡ workBytes → limit ≤ highestLimit → siteVerdict site ≡ Accepted → {r : Verdict} → Checked table masks r
+      → InputsJudged set work limit site table masks r
+  unfolding listInputs
+  judged-table e f h v k = record { verdict = rw (buffer-in e, buffer-in f, limit-in h, v) (k .verdict); masks-after = k .masks }
 
   -- what is known of accepted ones
-  module _ {v : Verdict} (j : InputsJudged set work site table masks v) (e : v ≡ Accepted) where
-    pub accepts : Accepts set work site table
-    accepts = list-accepts set work site table (sym (j .verdict) ∙ e)
+  module _ {v : Verdict} (j : InputsJudged set work limit site table masks v) (e : v ≡ Accepted) where
+    pub accepts : Accepts set work limit site table
+    accepts = list-accepts set work limit site table (sym (j .verdict) ∙ e)
 
     pub free-rows : FreeRows table masks
     unfolding FreeAfter
     free-rows = rw e at (j .masks-after)
 
--- ---- listing answers
+-- ---- the number of rounds under a limit
 
-module _ {site table set set′ work work′ masks : List ℕ} {v : Verdict} (j : InputsJudged (length set) (length work) site table masks v) where
-  pub answered-listed : v ≡ Accepted → {n : ℕ} → Listed (siteOf site) (formOf (tableOf table)) set′ n → work′ ≡ replicate workBytes 0
-      → ListAnswered site table set set′ work work′ Accepted n
+module _ {limit : ℕ} {M : Model} {φ : Form} {set : List ℕ} {f : Found} (w : Within limit M φ set f) where
+  pub made-over : limit < f .rounds → limit < w .made
+  made-over h = omega (arith, w .number)
+
+  pub made-within : f .rounds ≤ limit → w .made ≤ limit
+  made-within h = omega (arith, w .number)
+
+  -- a number that is not over the limit is the one that is made
+  pub makes-found : f .rounds ≤ limit → (ρ : Env) → Makes M ρ φ (f .rounds)
+  makes-found h ρ = let e : w .made ≡ f .rounds = omega (arith, w .number) in subst (Makes M ρ φ) e (w .makes ρ)
+
+-- ---- listing is tried
+
+module _ {limit : ℕ} {site table set set′ work work′ : List ℕ} {f : Found} (w : Within limit (siteOf site) (formOf (tableOf table)) set′ f)
+    (zeros : work′ ≡ replicate workBytes 0) (work-size : length work ≡ workBytes) where
+  pub tried-within : f .rounds ≤ limit → ListTried limit site table set set′ work work′ Accepted f
   unfolding SetAfter
-  answered-listed e l z =
+  tried-within h =
       record {
-        verdict = sym e ∙ j .verdict;
-        left = record { set-after = l; work-zero = z ∙ ap (λ (k : ℕ). replicate k 0) (sym (accepts j e .work-size)) };
+        made = w .made;
+        makes = w .makes;
+        verdict = rw (rounds-in (made-within w h));
+        left = record { set-after = (w .listed h, makes-found w h); work-zero = zeros ∙ ap (λ (k : ℕ). replicate k 0) (sym work-size) };
       }
 
-  pub answered-refused : {item w : ℕ} → v ≡ Refused item w → {r : Listing} → r ≡ answer.Refused item w → set′ ≡ replicate (length set) 0
-      → work′ ≡ replicate (length work) 0 → ListAnswered site table set set′ work work′ (verdictOf r) (countOf r)
+  -- the set had been written
+  pub tried-over : limit < f .rounds → {r : Listing} → r ≡ answer.Refused 15 0 → length set ≡ setBytes → {set″ work″ : List ℕ}
+      → set″ ≡ replicate (length set′) 0 → work″ ≡ replicate (length work′) 0 → ListTried limit site table set set″ work work″ (verdictOf r) (foundIn r)
   unfolding SetAfter
-  answered-refused e f y z = rw f (record { verdict = sym e ∙ j .verdict; left = record { set-after = (y, refl); work-zero = z } })
+  tried-over h e set-size y z =
+      rw e
+      (record {
+        made = w .made;
+        makes = w .makes;
+        verdict = rw (rounds-not (made-over w h));
+        left =
+            record {
+              set-after = (y ∙ ap (λ (k : ℕ). replicate k 0) (w .size ∙ sym set-size), (refl, refl));
+              work-zero = z ∙ ap (λ (k : ℕ). replicate k 0) (ap length zeros ∙ length-replicate {A = ℕ} workBytes 0 ∙ sym work-size);
+            };
+      })
+
+-- ---- listing answers
+
+module _ {limit : ℕ} {site table set set′ work work′ masks : List ℕ} {v : Verdict}
+    (j : InputsJudged (length set) (length work) limit site table masks v) where
+  pub answered-tried : v ≡ Accepted → {u : Verdict} {f : Found} → ListTried limit site table set set′ work work′ u f
+      → ListAnswered limit site table set set′ work work′ u f
+  unfolding listVerdict
+  answered-tried e t = record { made = t .made; makes = λ _. t .makes; verdict = rw (sym (j .verdict) ∙ e) (t .verdict); left = t .left }
+
+  pub answered-refused : {item w : ℕ} → v ≡ Refused item w → {r : Listing} → r ≡ answer.Refused item w → set′ ≡ replicate (length set) 0
+      → work′ ≡ replicate (length work) 0 → ListAnswered limit site table set set′ work work′ (verdictOf r) (foundIn r)
+  unfolding listVerdict SetAfter
+  answered-refused e f y z =
+      let d = sym (j .verdict) ∙ e in
+      rw f
+      (record {
+        made = 0;
+        makes = λ a. refused (sym d ∙ a);
+        verdict = rw d;
+        left = record { set-after = (y, (refl, refl)); work-zero = z };
+      })

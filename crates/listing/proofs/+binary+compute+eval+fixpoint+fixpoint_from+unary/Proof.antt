@@ -1,24 +1,27 @@
 -- The evaluator, a cycle of calls. The measure: four times the node's number, 1 more for `fixpoint`, 2 more for `compute` and 3 more for `eval`.
-use mathlib.Core.Bool.{false}
+use mathlib.Core.Bool.{false, not}
 use mathlib.Core.Logic.{_⊎_, ⊎-elim, inl, inr}
-use mathlib.Core.Path.{_≡_, sym, _∙_, subst}
-use Prim.Native.Nat.{_+_, _-_, _*_, _≤_, ℕ, _<_}
+use mathlib.Core.Path.{_≡_, sym, _∙_, ap, subst}
+use Prim.Native.Nat.{_+_, _-_, _*_, _≤_, ℕ, _<_, min}
 use native.Mathlib.Omega.{arith}
-use borrow.Author.Tests.{ltb-true, ltb-false}
+use lib.ListN.{length-set}
+use borrow.Author.Tests.{ltb-true, ltb-false, leb-true, le-leb}
 use borrow.Fn.Kinds.{In}
 use borrow.Fn.PlainCycle.{Measures, is, falls, and}
-use Rattle.finite.specs.Laws.Bools.{either}
+use Rattle.finite.specs.Laws.Bools.{either, and-r}
 use Rattle.bitset.specs.Set.{setSlots, has}
 use Rattle.limits.specs.Limits.{notNo, diaNo, boxNo, muNo, nuNo}
 use Rattle.semantics.specs.Laws.Agree.{_≐_}
 use Rattle.site.specs.Site.{siteOf}
 use Rattle.condition.specs.Bytes.{nodeAt}
 use Rattle.listing_sets.specs.Laws.Nodes.{is-unary, is-binary, is-loop}
+use Rattle.listing_sets.specs.Laws.Offsets.{valuation-is}
 use Rattle.listing_sets.specs.Nodes.{nodeMakes, startOf}
-use Rattle.listing_sets.specs.Offsets.{setAt}
-use Rattle.listing.specs.State.{Evaluable, Done}
-use Rattle.listing.specs.Laws.Rounds.{Rounds, rounds-none, assigned, rounds-more, rounds-done, restored}
-use Rattle.listing.specs.Laws.Memo.{flags-moved, finish, was-known, leaf-done, flagged, again, done-same, since, child}
+use Rattle.listing_sets.specs.Offsets.{valuation}
+use Rattle.listing.specs.State.{nodeRounds}
+use Rattle.listing.specs.Laws.Rounds.{Rounds, rounds-none, assigned, rounds-more, rounds-number, rounds-done, restored, goes-on}
+use Rattle.listing.specs.Laws.Memo.{moved, finish, noted, was-known, leaf-done, again, second-number, second-done, child}
+use Rattle.listing.specs.Laws.Counts.{end-rounds, unary-rounds, binary-rounds, loop-rounds, loop-rests}
 use Rattle.listing.specs.Laws.Kinds.{unary-left, modal-in, loop-variable}
 use Rattle.listing.proofs.binary.Reads as binary
 use Rattle.listing.proofs.binary.Kinds as binary-kinds
@@ -42,212 +45,278 @@ use Rattle.condition.proofs.kind.Reads as kind-reads
 use Rattle.condition.proofs.left_child.Reads as left-child-reads
 use Rattle.condition.proofs.number.Reads as number-reads
 use Rattle.condition.proofs.right_child.Reads as right-child-reads
+use Rattle.listing.proofs.leaf.Reads as leaf-reads
+use Rattle.listing.proofs.least.Reads as least-reads
+use Rattle.listing.proofs.left.Reads as left-reads
 use Rattle.listing.proofs.same_set.Reads as same-set-reads
-use Rattle.listing_sets.proofs.assign.Reads as assign-reads
+use Rattle.listing_memo.proofs.assign.Reads as assign-reads
+use Rattle.listing_memo.proofs.keep.Reads as keep-reads
+use Rattle.listing_memo.proofs.known.Reads as known-reads
 use Rattle.listing_sets.proofs.load.Reads as load-reads
 use Rattle.listing_sets.proofs.put_binary.Reads as put-binary-reads
-use Rattle.listing_sets.proofs.put_leaf.Reads as put-leaf-reads
 use Rattle.listing_sets.proofs.put_unary.Reads as put-unary-reads
 use Rattle.listing_sets.proofs.start.Reads as start-reads
 use Rattle.listing_sets.proofs.store.Reads as store-reads
 use Rattle.listing.proofs.+binary+compute+eval+fixpoint+fixpoint_from+unary.{statement}
 use Rattle.listing.proofs.+binary+compute+eval+fixpoint+fixpoint_from+unary.Tie.{close}
 
-abbrev μ-binary : Measures 6 binary-kinds.ps ℕ
-μ-binary κs a = 4 * a .1 .1 .1 .1 .1 .1 .0
+abbrev μ-binary : Measures 5 binary-kinds.ps ℕ
+μ-binary κs a = 4 * a .1 .1 .1 .1 .1 .0
 
-abbrev μ-compute : Measures 6 compute-kinds.ps ℕ
-μ-compute κs a = 4 * a .1 .1 .1 .1 .1 .1 .0 + 2
+abbrev μ-compute : Measures 5 compute-kinds.ps ℕ
+μ-compute κs a = 4 * a .1 .1 .1 .1 .1 .0 + 2
 
-abbrev μ-eval : Measures 6 eval-kinds.ps ℕ
-μ-eval κs a = 4 * a .1 .1 .1 .1 .1 .1 .0 + 3
+abbrev μ-eval : Measures 5 eval-kinds.ps ℕ
+μ-eval κs a = 4 * a .1 .1 .1 .1 .1 .0 + 3
 
-abbrev μ-fixpoint : Measures 6 fixpoint-kinds.ps ℕ
-μ-fixpoint κs a = 4 * a .1 .1 .1 .1 .1 .1 .0 + 1
+abbrev μ-fixpoint : Measures 5 fixpoint-kinds.ps ℕ
+μ-fixpoint κs a = 4 * a .1 .1 .1 .1 .1 .0 + 1
 
-abbrev μ-fixpoint-from : Measures 6 fixpoint-from-kinds.ps ℕ
-μ-fixpoint-from κs a = 4 * a .1 .1 .1 .1 .1 .1 .0
+abbrev μ-fixpoint-from : Measures 5 fixpoint-from-kinds.ps ℕ
+μ-fixpoint-from κs a = 4 * a .1 .1 .1 .1 .1 .0
 
-abbrev μ-unary : Measures 6 unary-kinds.ps ℕ
-μ-unary κs a = 4 * a .1 .1 .1 .1 .1 .1 .0
+abbrev μ-unary : Measures 5 unary-kinds.ps ℕ
+μ-unary κs a = 4 * a .1 .1 .1 .1 .1 .0
 
-abbrev binary-at : ℕ → In 6 binary-kinds.ps
-binary-at t = and 6 binary-kinds.ps (is 6 binary-kinds.ps μ-binary t) binary.Pre
+abbrev binary-at : ℕ → In 5 binary-kinds.ps
+binary-at t = and 5 binary-kinds.ps (is 5 binary-kinds.ps μ-binary t) binary.Pre
 
-abbrev binary-below : ℕ → In 6 binary-kinds.ps
-binary-below t = and 6 binary-kinds.ps (falls 6 binary-kinds.ps _<_ μ-binary t) binary.Pre
+abbrev binary-below : ℕ → In 5 binary-kinds.ps
+binary-below t = and 5 binary-kinds.ps (falls 5 binary-kinds.ps _<_ μ-binary t) binary.Pre
 
-abbrev compute-at : ℕ → In 6 compute-kinds.ps
-compute-at t = and 6 compute-kinds.ps (is 6 compute-kinds.ps μ-compute t) compute.Pre
+abbrev compute-at : ℕ → In 5 compute-kinds.ps
+compute-at t = and 5 compute-kinds.ps (is 5 compute-kinds.ps μ-compute t) compute.Pre
 
-abbrev compute-below : ℕ → In 6 compute-kinds.ps
-compute-below t = and 6 compute-kinds.ps (falls 6 compute-kinds.ps _<_ μ-compute t) compute.Pre
+abbrev compute-below : ℕ → In 5 compute-kinds.ps
+compute-below t = and 5 compute-kinds.ps (falls 5 compute-kinds.ps _<_ μ-compute t) compute.Pre
 
-abbrev eval-at : ℕ → In 6 eval-kinds.ps
-eval-at t = and 6 eval-kinds.ps (is 6 eval-kinds.ps μ-eval t) eval.Pre
+abbrev eval-at : ℕ → In 5 eval-kinds.ps
+eval-at t = and 5 eval-kinds.ps (is 5 eval-kinds.ps μ-eval t) eval.Pre
 
-abbrev eval-below : ℕ → In 6 eval-kinds.ps
-eval-below t = and 6 eval-kinds.ps (falls 6 eval-kinds.ps _<_ μ-eval t) eval.Pre
+abbrev eval-below : ℕ → In 5 eval-kinds.ps
+eval-below t = and 5 eval-kinds.ps (falls 5 eval-kinds.ps _<_ μ-eval t) eval.Pre
 
-abbrev fixpoint-at : ℕ → In 6 fixpoint-kinds.ps
-fixpoint-at t = and 6 fixpoint-kinds.ps (is 6 fixpoint-kinds.ps μ-fixpoint t) fixpoint.Pre
+abbrev fixpoint-at : ℕ → In 5 fixpoint-kinds.ps
+fixpoint-at t = and 5 fixpoint-kinds.ps (is 5 fixpoint-kinds.ps μ-fixpoint t) fixpoint.Pre
 
-abbrev fixpoint-below : ℕ → In 6 fixpoint-kinds.ps
+abbrev fixpoint-below : ℕ → In 5 fixpoint-kinds.ps
 fixpoint-below t =
-    and 6 fixpoint-kinds.ps (falls 6 fixpoint-kinds.ps _<_ μ-fixpoint t) fixpoint.Pre
+    and 5 fixpoint-kinds.ps (falls 5 fixpoint-kinds.ps _<_ μ-fixpoint t) fixpoint.Pre
 
-abbrev fixpoint-from-at : ℕ → In 6 fixpoint-from-kinds.ps
-fixpoint-from-at t = and 6 fixpoint-from-kinds.ps (is 6 fixpoint-from-kinds.ps μ-fixpoint-from t) fixpoint-from.Pre
+abbrev fixpoint-from-at : ℕ → In 5 fixpoint-from-kinds.ps
+fixpoint-from-at t =
+    and 5 fixpoint-from-kinds.ps (is 5 fixpoint-from-kinds.ps μ-fixpoint-from t) fixpoint-from.Pre
 
-abbrev fixpoint-from-below : ℕ → In 6 fixpoint-from-kinds.ps
-fixpoint-from-below t = and 6 fixpoint-from-kinds.ps (falls 6 fixpoint-from-kinds.ps _<_ μ-fixpoint-from t) fixpoint-from.Pre
+abbrev fixpoint-from-below : ℕ → In 5 fixpoint-from-kinds.ps
+fixpoint-from-below t =
+    and
+    5
+    fixpoint-from-kinds.ps
+    (falls 5 fixpoint-from-kinds.ps _<_ μ-fixpoint-from t)
+    fixpoint-from.Pre
 
-abbrev unary-at : ℕ → In 6 unary-kinds.ps
-unary-at t = and 6 unary-kinds.ps (is 6 unary-kinds.ps μ-unary t) unary.Pre
+abbrev fixpoint-calls : ℕ → fixpoint-lts.Claims
+fixpoint-calls t = (kind-reads.Asked, kind-reads.Learnt, start-reads.Asked, start-reads.Learnt, fixpoint-from-below t, fixpoint-from.Post)
 
-abbrev unary-below : ℕ → In 6 unary-kinds.ps
-unary-below t = and 6 unary-kinds.ps (falls 6 unary-kinds.ps _<_ μ-unary t) unary.Pre
+abbrev unary-at : ℕ → In 5 unary-kinds.ps
+unary-at t = and 5 unary-kinds.ps (is 5 unary-kinds.ps μ-unary t) unary.Pre
+
+abbrev unary-below : ℕ → In 5 unary-kinds.ps
+unary-below t = and 5 unary-kinds.ps (falls 5 unary-kinds.ps _<_ μ-unary t) unary.Pre
 
 abbrev binary-calls : ℕ → binary-lts.Claims
-binary-calls t = (left-child-reads.Asked, left-child-reads.Learnt, eval-below t, eval.Post, load-reads.Asked, load-reads.Learnt, right-child-reads.Asked, right-child-reads.Learnt, put-binary-reads.Asked, put-binary-reads.Learnt)
+binary-calls t = (left-child-reads.Asked, left-child-reads.Learnt, eval-below t, eval.Post, load-reads.Asked, load-reads.Learnt, right-child-reads.Asked, right-child-reads.Learnt, left-reads.Asked, left-reads.Learnt, put-binary-reads.Asked, put-binary-reads.Learnt)
 
 binary-left-child-requires : (t : ℕ) → binary-lts.Need-left-child-requires (binary-calls t) (binary-at t) binary.Post
 binary-left-child-requires t c κs =
-    let p = c .before .before .before .before .pre .1 in
+    let start = c .before .before .before in
+    let p = start .pre .1 in
     (p .0 .fits, (p .1 .0, omega (arith, p .1 .1)))
-
-binary-element-copy-out-if1 : (t : ℕ) → binary-lts.Need-element-copy-out-if1 (binary-calls t) (binary-at t) binary.Post
-binary-element-copy-out-if1 t c = omega (arith, c .before .before .before .before .before .pre, c .left-child .ensures)
 
 binary-eval-requires : (t : ℕ) → binary-lts.Need-eval-requires (binary-calls t) (binary-at t) binary.Post
 binary-eval-requires t c κs =
-    let start = c .before .before .before .before .before .before .before .before .before .before in
+    let start = c .before .before .before .before .before .before .before in
+    let the-left-child = c .before .before .before .left-child in
     let p = start .pre .1 in
-    (omega (arith, start .pre, c .before .before .before .before .before .left-child .ensures), (p .0, omega (arith, p .1 .0, c .before .before .before .before .before .left-child .ensures)))
-
--- the left child's set is there: its flag was set, or its call has written it
-binary-left : (t : ℕ) (c : binary-lts.Joined1 (binary-calls t) (binary-at t) binary.Post)
-    → let a = c .before .before .before .before .before .before .before .args in
-    Done (a .site .now) (a .table .now) (a .env .now) (c .if1 .env) (c .if1 .fresh) (c .if1 .work) (c .before .before .left-child .result)
-binary-left t c =
-    let p = c .before .before .before .before .before .before .before .pre .1 in
-    either (c .if1 .came)
-    (λ u. done-same (u .4 .ensures) (u .7) (u .8) (u .9))
-    (λ u. done-same (was-known (p .0) (omega (arith, p .1 .0, c .before .before .left-child .ensures)) (u .0 .left)) (u .1) (u .2) (u .3))
-
-binary-load-requires : (t : ℕ) → binary-lts.Need-load-requires (binary-calls t) (binary-at t) binary.Post
-binary-load-requires t c κs =
-    let start = c .before .before .before .before .before .before .before .before in
-    omega (arith, start .pre, c .before .before .before .left-child .ensures, binary-left t (c .before) .work-size)
-
-binary-right-child-requires : (t : ℕ) → binary-lts.Need-right-child-requires (binary-calls t) (binary-at t) binary.Post
-binary-right-child-requires t c κs =
-    let start = c .before .before .before .before .before .before .before .before .before in
-    let p = start .pre .1 in
-    (p .0 .fits, (p .1 .0, p .1 .1))
-
-binary-element-copy-out-if2 : (t : ℕ) → binary-lts.Need-element-copy-out-if2 (binary-calls t) (binary-at t) binary.Post
-binary-element-copy-out-if2 t c =
-    let start = c .before .before .before .before .before .before .before .before .before .before in
-    omega (arith, start .pre, c .right-child .ensures)
-
-binary-eval-requires-2 : (t : ℕ) → binary-lts.Need-eval-requires-2 (binary-calls t) (binary-at t) binary.Post
-binary-eval-requires-2 t c κs =
-    let start = c .before .before .before .before .before .before .before .before .before .before .before .before .before .before .before in
-    let met = c .before .before .before .before .before .before .before .before in
-    let p = start .pre .1 in
-    (omega (arith, start .pre, c .before .before .before .before .before .right-child .ensures), (again (p .0) (binary-left t met), omega (arith, p .1 .0, c .before .before .before .before .before .right-child .ensures)))
-
--- then the right child's
-binary-right : (t : ℕ) (c : binary-lts.Joined2 (binary-calls t) (binary-at t) binary.Post)
-    → let a = c .before .before .before .before .before .before .before .before .before .before .before .before .args in
-    Done (a .site .now) (a .table .now) (a .env .now) (c .if2 .env) (c .if2 .fresh) (c .if2 .work) (c .before .before .right-child .result)
-binary-right t c =
-    let p = c .before .before .before .before .before .before .before .before .before .before .before .before .pre .1 in
-    let d = binary-left t (c .before .before .before .before .before) in
-    since d
-    (either (c .if2 .came)
-    (λ u. done-same (u .4 .ensures) (u .7) (u .8) (u .9))
-    (λ u. done-same (was-known (again (p .0) d) (omega (arith, p .1 .0, c .before .before .right-child .ensures)) (u .0 .left)) (u .1) (u .2) (u .3)))
-
-binary-load-requires-2 : (t : ℕ) → binary-lts.Need-load-requires-2 (binary-calls t) (binary-at t) binary.Post
-binary-load-requires-2 t c κs =
-    let start = c .before .before .before .before .before .before .before .before .before .before .before .before .before in
-    omega (arith, start .pre, c .before .before .before .right-child .ensures, binary-right t (c .before) .work-size)
-
-binary-put-binary-requires : (t : ℕ) → binary-lts.Need-put-binary-requires (binary-calls t) (binary-at t) binary.Post
-binary-put-binary-requires t c κs =
-    let start = c .before .before .before .before .before .before .before .before .before .before .before .before .before .before .before in
-    let p = start .pre .1 in
-    (p .1 .0, (omega (arith, start .pre, binary-right t (c .before .before .before) .work-size), p .1 .1))
+    (omega (arith, start .pre, the-left-child .ensures), (p .0, omega (arith, p .1 .0, the-left-child .ensures)))
 
 binary-same-length : (t : ℕ) → binary-lts.Need-same-length (binary-calls t) (binary-at t) binary.Post
 binary-same-length t c =
-    let start = c .before .before .before .before .before .before .before .before .before .before .before .before .before .before .before .before .before .before in
-    omega (arith, start .pre, binary-right t (c .before .before .before .before .before .before) .work-size, c .before .before .put-binary .kept)
+    let start = c .before .before .before .before .before .before .before .before .before .before .before .before in
+    let the-eval = c .before .before .before .before .eval in
+    omega (arith, start .pre, the-eval .ensures .sized)
 
 binary-returns : (t : ℕ) → binary-lts.Need-returns (binary-calls t) (binary-at t) binary.Post
 binary-returns t c =
-    let start = c .before .before .before .before .before .before .before .before .before .before .before .before .before .before .before .before .before .before in
-    let met = c .before .before .before .before .before .before .before .before .before .before .before in
-    let the-left-child = c .before .before .before .before .before .before .before .before .before .before .before .before .before .left-child in
-    let the-right-child = c .before .before .before .before .before .before .before .before .right-child in
-    let the-load = c .before .before .before .before .before .before .before .before .before .load in
+    let start = c .before .before .before .before .before .before .before .before .before .before .before .before in
+    let the-eval = c .before .before .before .before .eval in
+    let the-left-child = c .before .before .before .before .before .before .before .before .left-child in
     let a = start .args in
     let p = start .pre .1 in
+    let v = the-eval .ensures in
     let S = a .table .now in
-    let P = has (the-load .result) in
-    let Q = has (c .before .before .before .before .load2 .result) in
+    let ρ = valuation (a .sets .now) in
+    let sum = binary-rounds S (p .0 .fits) (a .i) (p .1 .0) (siteOf (a .site .now)) ρ (p .1 .1 .0) (p .1 .1 .1) in
+    let first = ap (nodeRounds (a .site .now) S ρ) (the-left-child .ensures .0) in
+    record {
+      sized = v .sized;
+      number = omega (arith, v .number, c .if1 .taken, p .0 .budget .to, sum, first);
+      done = λ h. absurd (omega (arith, c .if1 .taken, h));
+    }
+
+binary-load-requires : (t : ℕ) → binary-lts.Need-load-requires (binary-calls t) (binary-at t) binary.Post
+binary-load-requires t c κs =
+    let start = c .before .before .before .before .before .before .before .before .before .before .before .before .before in
+    let the-left-child = c .before .before .before .before .before .before .before .before .before .left-child in
+    let the-eval = c .before .before .before .before .before .eval in
+    omega (arith, start .pre, the-left-child .ensures, the-eval .ensures .sized)
+
+binary-right-child-requires : (t : ℕ) → binary-lts.Need-right-child-requires (binary-calls t) (binary-at t) binary.Post
+binary-right-child-requires t c κs =
+    let start = c .before .before .before .before .before .before .before .before .before .before .before .before .before .before in
+    let p = start .pre .1 in
+    (p .0 .fits, (p .1 .0, p .1 .1))
+
+binary-left-requires : (t : ℕ) → binary-lts.Need-left-requires (binary-calls t) (binary-at t) binary.Post
+binary-left-requires t c κs =
+    let start = c .before .before .before .before .before .before .before .before .before .before .before .before .before .before .before in
+    let the-if1 = c .before .before .before .if1 in
+    let p = start .pre .1 in
+    (omega (arith, the-if1 .left), omega (arith, the-if1 .left, p .0 .budget .from))
+
+binary-eval-requires-2 : (t : ℕ) → binary-lts.Need-eval-requires-2 (binary-calls t) (binary-at t) binary.Post
+binary-eval-requires-2 t c κs =
+    let start = c .before .before .before .before .before .before .before .before .before .before .before .before .before .before .before .before .before .before .before in
+    let the-right-child = c .before .before .before .before .right-child in
+    let the-eval = c .before .before .before .before .before .before .before .before .before .before .before .eval in
+    let the-if1 = c .before .before .before .before .before .before .before .if1 in
+    let the-left = c .before .before .before .left in
+    let p = start .pre .1 in (
+      omega (arith, start .pre, the-right-child .ensures),
+      (again (the-eval .ensures) (omega (arith, the-if1 .left)) (the-left .ensures .0) (the-left .ensures .1) (p .0), omega (arith, p .1 .0, the-right-child .ensures)),
+    )
+
+binary-load-requires-2 : (t : ℕ) → binary-lts.Need-load-requires-2 (binary-calls t) (binary-at t) binary.Post
+binary-load-requires-2 t c κs =
+    let start = c .before .before .before .before .before .before .before .before .before .before .before .before .before .before .before .before .before .before .before .before .before .before .before in
+    let the-right-child = c .before .before .before .before .before .before .before .before .right-child in
+    let the-eval2 = c .before .before .before .eval2 in
+    omega (arith, start .pre, the-right-child .ensures, the-eval2 .ensures .sized)
+
+binary-put-binary-requires : (t : ℕ) → binary-lts.Need-put-binary-requires (binary-calls t) (binary-at t) binary.Post
+binary-put-binary-requires t c κs =
+    let start = c .before .before .before .before .before .before .before .before .before .before .before .before .before .before .before .before .before .before .before .before .before .before .before .before .before in
+    let the-eval2 = c .before .before .before .before .before .eval2 in
+    let p = start .pre .1 in
+    (p .1 .0, (omega (arith, start .pre, the-eval2 .ensures .sized), p .1 .1))
+
+binary-add-result : (t : ℕ) → binary-lts.Need-add-result (binary-calls t) (binary-at t) binary.Post
+binary-add-result t c =
+    let start = c .before .before .before .before .before .before .before .before .before .before .before .before .before .before .before .before .before .before .before .before .before .before .before .before .before .before .before .before in
+    let the-if1 = c .before .before .before .before .before .before .before .before .before .before .before .before .before .before .before .before .if1 in
+    let the-eval = c .before .before .before .before .before .before .before .before .before .before .before .before .before .before .before .before .before .before .before .before .eval in
+    let the-left = c .before .before .before .before .before .before .before .before .before .before .before .before .left in
+    let the-eval2 = c .before .before .before .before .before .before .before .before .eval2 in
+    let p = start .pre .1 in
+    omega (arith, p .0 .budget, the-if1 .left, the-eval .ensures .number, the-left .ensures .1, the-eval2 .ensures .number)
+
+binary-same-length-2 : (t : ℕ) → binary-lts.Need-same-length-2 (binary-calls t) (binary-at t) binary.Post
+binary-same-length-2 t c =
+    let start = c .before .before .before .before .before .before .before .before .before .before .before .before .before .before .before .before .before .before .before .before .before .before .before .before .before .before .before .before in
+    let the-eval2 = c .before .before .before .before .before .before .before .before .eval2 in
+    omega (arith, start .pre, the-eval2 .ensures .sized, c .before .before .put-binary .kept)
+
+binary-returns-2 : (t : ℕ) → binary-lts.Need-returns-2 (binary-calls t) (binary-at t) binary.Post
+binary-returns-2 t c =
+    let start = c .before .before .before .before .before .before .before .before .before .before .before .before .before .before .before .before .before .before .before .before .before .before .before .before .before .before .before .before in
+    let the-eval = c .before .before .before .before .before .before .before .before .before .before .before .before .before .before .before .before .before .before .before .before .eval in
+    let the-eval2 = c .before .before .before .before .before .before .before .before .eval2 in
+    let the-load = c .before .before .before .before .before .before .before .before .before .before .before .before .before .before .load in
+    let the-load2 = c .before .before .before .before .load2 in
+    let the-if1 = c .before .before .before .before .before .before .before .before .before .before .before .before .before .before .before .before .if1 in
+    let the-left-child = c .before .before .before .before .before .before .before .before .before .before .before .before .before .before .before .before .before .before .before .before .before .before .before .before .left-child in
+    let the-right-child = c .before .before .before .before .before .before .before .before .before .before .before .before .before .right-child in
+    let the-left = c .before .before .before .before .before .before .before .before .before .before .before .before .left in
+    let a = start .args in
+    let p = start .pre .1 in
+    let v = the-eval .ensures in
+    let w = the-eval2 .ensures in
+    let S = a .table .now in
     let M = siteOf (a .site .now) in
-    let d = binary-right t (c .before .before .before .before .before .before) in
-    finish {P = nodeMakes M (nodeAt S (a .i)) P Q} (d .env-size) (d .fresh-size) (omega (arith, d .work-size, c .before .before .put-binary .kept)) (d .kept) (d .flags-right) (c .before .before .put-binary .ensures M)
-    (is-binary S (p .0 .fits) (a .i) (p .1 .0) M (setAt (a .env .now)) P Q
-    (child (binary-left t met) (the-load .ensures) (the-left-child .ensures .0))
-    (p .1 .1 .0) (p .1 .1 .1)
-    (child d (c .before .before .before .before .load2 .ensures) (the-right-child .ensures .0)))
+    let ρ = valuation (a .sets .now) in
+    let P = has (the-load .result) in
+    let Q = has (the-load2 .result) in
+    let within : the-eval .result ≤ a .budget .limit = omega (arith, the-if1 .left) in
+    let sum = binary-rounds S (p .0 .fits) (a .i) (p .1 .0) M ρ (p .1 .1 .0) (p .1 .1 .1) in
+    let first = ap (nodeRounds (a .site .now) S ρ) (the-left-child .ensures .0) in
+    let second = ap (nodeRounds (a .site .now) S ρ) (the-right-child .ensures .0) in
+    let b = second-number v within (the-left .ensures .0) (the-left .ensures .1) w in
+    record {
+      sized = record { sets-size = w .sized .sets-size; made-size = w .sized .made-size; work-size = omega (arith, w .sized, c .before .before .put-binary .kept) };
+      number = omega (arith, v .number, b, sum, first, second);
+      done = λ h.
+          let d = second-done v within (the-left .ensures .0) (the-left .ensures .1) w h in
+          finish {P = nodeMakes M (nodeAt S (a .i)) P Q} (d .memo) (d .values) (c .before .before .put-binary .ensures M)
+          (is-binary S (p .0 .fits) (a .i) (p .1 .0) M ρ P Q
+          (child (v .done within) (the-load .ensures) (the-left-child .ensures .0)) (p .1 .1 .0) (p .1 .1 .1) (child d (the-load2 .ensures) (the-right-child .ensures .0)));
+    }
 
 abbrev compute-calls : ℕ → compute-lts.Claims
-compute-calls t = (kind-reads.Asked, kind-reads.Learnt, binary-below t, binary.Post, fixpoint-below t, fixpoint.Post, put-leaf-reads.Asked, put-leaf-reads.Learnt, unary-below t, unary.Post)
+compute-calls t = (kind-reads.Asked, kind-reads.Learnt, binary-below t, binary.Post, fixpoint-below t, fixpoint.Post, leaf-reads.Asked, leaf-reads.Learnt, unary-below t, unary.Post)
 
 compute-kind-requires : (t : ℕ) → compute-lts.Need-kind-requires (compute-calls t) (compute-at t) compute.Post
-compute-kind-requires t c κs = c .before .before .before .before .pre .1 .1
+compute-kind-requires t c κs =
+    let start = c .before .before .before in
+    start .pre .1 .1
 
 compute-binary-requires : (t : ℕ) → compute-lts.Need-binary-requires (compute-calls t) (compute-at t) compute.Post
 compute-binary-requires t c κs =
-    let start = c .before .before .before .before .before .before .before .before .before .before .before in
+    let start = c .before .before .before .before .before .before .before .before .before .before in
+    let the-kind = c .before .before .before .before .before .before .kind in
+    let the-match = c .before .before .before .before .before .match in
+    let the-if1 = c .before .before .before .before .if1 in
+    let the-if2 = c .before .before .before .if2 in
     let p = start .pre .1 in
-    (omega (arith, start .pre), (p .0, (p .1, (omega (arith, c .before .before .before .before .before .before .kind .ensures, c .before .before .before .before .before .match .rest .1, c .before .before .before .before .if1 .left), omega (arith, c .before .before .before .before .before .before .kind .ensures, c .before .before .before .if2 .taken)))))
+    (omega (arith, start .pre), (p .0, (p .1, (omega (arith, the-kind .ensures, the-match .rest .1, the-if1 .left), omega (arith, the-kind .ensures, the-if2 .taken)))))
 
 compute-fixpoint-requires : (t : ℕ) → compute-lts.Need-fixpoint-requires (compute-calls t) (compute-at t) compute.Post
 compute-fixpoint-requires t c κs =
-    let start = c .before .before .before .before .before .before .before .before .before .before .before .before .before in
+    let start = c .before .before .before .before .before .before .before .before .before .before .before .before in
+    let the-kind = c .before .before .before .before .before .before .before .before .kind in
+    let the-if3 = c .before .before .before .before .if3 in
+    let the-if4 = c .before .before .before .if4 in
     let p = start .pre .1 in
-    (omega (arith, start .pre), (p .0, (p .1, (omega (arith, c .before .before .before .before .before .before .before .before .kind .ensures, c .before .before .before .before .if3 .left), omega (arith, c .before .before .before .before .before .before .before .before .kind .ensures, c .before .before .before .if4 .taken)))))
+    (omega (arith, start .pre), (p .0, (p .1, (omega (arith, the-kind .ensures, the-if3 .left), omega (arith, the-kind .ensures, the-if4 .taken)))))
 
-compute-put-leaf-requires : (t : ℕ) → compute-lts.Need-put-leaf-requires (compute-calls t) (compute-at t) compute.Post
-compute-put-leaf-requires t c κs =
-    let start = c .before .before .before .before .before .before .before .before .before .before in
-    let met = c .before .before .before in
+-- what is left has no child
+compute-leaf : (t : ℕ) (c : compute-lts.Joined1 (compute-calls t) (compute-at t) compute.Post)
+    → let a = c .before .before .before .before .before .before .args in
+    notNo ≤ nodeAt (a .table .now) (a .i) .kind → nodeAt (a .table .now) (a .i) .kind ≤ nuNo → ⊥
+compute-leaf t c h l =
+    let k = c .before .before .kind .ensures in
+    either (c .if1 .came) (λ u. omega (arith, k, u .taken)) (λ u. omega (arith, k, u .3 .left))
+
+compute-leaf-requires : (t : ℕ) → compute-lts.Need-leaf-requires (compute-calls t) (compute-at t) compute.Post
+compute-leaf-requires t c κs =
+    let start = c .before .before .before .before .before .before .before .before .before in
     let p = start .pre .1 in (
-      (p .0 .site-size, p .0 .env-size, omega (arith, start .pre)),
+      (p .0 .site-size, p .0 .sized .sets-size, p .0 .sized .work-size),
       (
-        p .0 .fits,
-        (
-          p .1,
-          λ h l.
-              either (met .if1 .came) (λ u. omega (arith, c .before .before .before .before .before .kind .ensures, u .taken)) (λ u. omega (arith, c .before .before .before .before .before .kind .ensures, u .3 .left)),
-        ),
+        (p .0 .short, p .0 .fits),
+        (p .1, compute-leaf t (c .before .before .before)),
       ),
     )
 
 compute-unary-requires : (t : ℕ) → compute-lts.Need-unary-requires (compute-calls t) (compute-at t) compute.Post
 compute-unary-requires t c κs =
-    let start = c .before .before .before .before .before .before .before .before .before in
+    let start = c .before .before .before .before .before .before .before .before in
+    let the-match = c .before .before .before .match in
+    let the-kind = c .before .before .before .before .kind in
     let a = start .args in
     let p = start .pre .1 in
     let k : ℕ = nodeAt (a .table .now) (a .i) .kind in
     let q : (k ≡ notNo) ⊎ ((k ≡ diaNo) ⊎ (k ≡ boxNo)) =
-    either (c .before .before .before .match .came) (λ u. inl (sym (c .before .before .before .before .kind .ensures) ∙ u .keys1)) (λ u. inr (modal-in k (omega (arith, c .before .before .before .before .kind .ensures, u .2)) (omega (arith, c .before .before .before .before .kind .ensures, u .3)))) in
+    either (the-match .came) (λ u. inl (sym (the-kind .ensures) ∙ u .keys1)) (λ u. inr (modal-in k (omega (arith, the-kind .ensures, u .2)) (omega (arith, the-kind .ensures, u .3)))) in
     (omega (arith, start .pre), (p .0, (p .1, q)))
 
 compute-same-length : (t : ℕ) → compute-lts.Need-same-length (compute-calls t) (compute-at t) compute.Post
@@ -263,12 +332,15 @@ compute-returns-2 : (t : ℕ) → compute-lts.Need-returns-2 (compute-calls t) (
 compute-returns-2 t c = c .before .before .fixpoint .ensures
 
 compute-same-length-3 : (t : ℕ) → compute-lts.Need-same-length-3 (compute-calls t) (compute-at t) compute.Post
-compute-same-length-3 t c = omega (arith, c .before .before .put-leaf .kept)
+compute-same-length-3 t c = omega (arith, c .before .before .leaf .kept)
 
 compute-returns-3 : (t : ℕ) → compute-lts.Need-returns-3 (compute-calls t) (compute-at t) compute.Post
 compute-returns-3 t c =
-    let start = c .before .before .before .before .before .before .before .before .before .before .before .before .before in
-    leaf-done (start .pre .1 .0) (omega (arith, c .before .before .put-leaf .kept)) (c .before .before .put-leaf .ensures)
+    let start = c .before .before .before .before .before .before .before .before .before .before .before .before in
+    let a = start .args in
+    let p = start .pre .1 in
+    leaf-done (p .0) (omega (arith, c .before .before .leaf .kept)) (c .before .before .leaf .ensures .0)
+    (end-rounds (a .table .now) (p .0 .fits) (a .i) (p .1) (siteOf (a .site .now)) (valuation (a .sets .now)) (compute-leaf t (c .before .before .before .before .before .before))) (c .before .before .leaf .ensures .1)
 
 compute-same-length-4 : (t : ℕ) → compute-lts.Need-same-length-4 (compute-calls t) (compute-at t) compute.Post
 compute-same-length-4 t c = omega (arith, c .before .before .unary .kept)
@@ -277,40 +349,97 @@ compute-returns-4 : (t : ℕ) → compute-lts.Need-returns-4 (compute-calls t) (
 compute-returns-4 t c = c .before .before .unary .ensures
 
 abbrev eval-calls : ℕ → eval-lts.Claims
-eval-calls t = (compute-below t, compute.Post)
+eval-calls t = (known-reads.Asked, known-reads.Learnt, least-reads.Asked, least-reads.Learnt, compute-below t, compute.Post, keep-reads.Asked, keep-reads.Learnt)
 
-eval-compute-requires :
-    (t : ℕ) → eval-lts.Need-compute-requires (eval-calls t) (eval-at t) eval.Post
-eval-compute-requires t c κs = (omega (arith, c .before .before .before .before .before .before .before .pre), c .before .before .before .before .before .before .before .pre .1)
+eval-known-requires : (t : ℕ) → eval-lts.Need-known-requires (eval-calls t) (eval-at t) eval.Post
+eval-known-requires t c κs =
+    let start = c .before .before .before .before .before in
+    let p = start .pre .1 in
+    (p .0 .sized .sets-size, omega (arith, p .0 .short, p .1))
 
-eval-element-write-fresh : (t : ℕ) → eval-lts.Need-element-write-fresh (eval-calls t) (eval-at t) eval.Post
-eval-element-write-fresh t c =
+eval-mul-least : (t : ℕ) → eval-lts.Need-mul-least (eval-calls t) (eval-at t) eval.Post
+eval-mul-least t c =
+    let start = c .before .before .before .before .before .before .before in
+    let p = start .pre .1 in
+    omega (arith, p .0 .short, p .1)
+
+eval-element-copy-out-least : (t : ℕ) → eval-lts.Need-element-copy-out-least (eval-calls t) (eval-at t) eval.Post
+eval-element-copy-out-least t c =
+    let start = c .before .before .before .before .before .before .before in
+    let p = start .pre .1 in
+    omega (arith, p .0 .short, p .1, p .0 .sized .made-size)
+
+eval-least-requires : (t : ℕ) → eval-lts.Need-least-requires (eval-calls t) (eval-at t) eval.Post
+eval-least-requires t c κs = tt
+
+eval-returns : (t : ℕ) → eval-lts.Need-returns (eval-calls t) (eval-at t) eval.Post
+eval-returns t c =
+    let start = c .before .before .before .before .before .before .before .before .before in
+    let the-known = c .before .before .before .known in
+    let p = start .pre .1 in
+    was-known (p .0) (p .1) (sym (the-known .ensures) ∙ c .before .before .if1 .taken) (c .least .ensures)
+
+eval-compute-requires : (t : ℕ) → eval-lts.Need-compute-requires (eval-calls t) (eval-at t) eval.Post
+eval-compute-requires t c κs =
     let start = c .before .before .before .before .before .before .before .before .before .before in
-    omega (arith, start .pre, c .before .before .compute .ensures .fresh-size)
+    (omega (arith, start .pre), start .pre .1)
 
-eval-same-length :
-    (t : ℕ) → eval-lts.Need-same-length (eval-calls t) (eval-at t) eval.Post
-eval-same-length t c = omega (arith, c .before .before .compute .kept)
+eval-keep-requires : (t : ℕ) → eval-lts.Need-keep-requires (eval-calls t) (eval-at t) eval.Post
+eval-keep-requires t c κs =
+    let start = c .before .before .before .before .before .before .before .before .before .before .before .before .before .before in
+    let the-compute = c .before .before .before .compute in
+    let p = start .pre .1 in
+    (the-compute .ensures .sized .sets-size, omega (arith, p .0 .short, p .1))
 
-eval-returns :
-    (t : ℕ) → eval-lts.Need-returns (eval-calls t) (eval-at t) eval.Post
-eval-returns t c = flagged (c .before .before .compute .ensures)
+eval-mul-made : (t : ℕ) → eval-lts.Need-mul-made (eval-calls t) (eval-at t) eval.Post
+eval-mul-made t c =
+    let start = c .before .before .before .before .before .before .before .before .before .before .before .before .before .before .before in
+    let p = start .pre .1 in
+    omega (arith, p .0 .short, p .1)
 
-abbrev fixpoint-calls : ℕ → fixpoint-lts.Claims
-fixpoint-calls t = (kind-reads.Asked, kind-reads.Learnt, start-reads.Asked, start-reads.Learnt, fixpoint-from-below t, fixpoint-from.Post)
+eval-element-write-made : (t : ℕ) → eval-lts.Need-element-write-made (eval-calls t) (eval-at t) eval.Post
+eval-element-write-made t c =
+    let start = c .before .before .before .before .before .before .before .before .before .before .before .before .before .before .before in
+    let the-compute = c .before .before .before .before .compute in
+    let p = start .pre .1 in
+    omega (arith, p .0 .short, p .1, the-compute .ensures .sized .made-size)
+
+eval-same-length : (t : ℕ) → eval-lts.Need-same-length (eval-calls t) (eval-at t) eval.Post
+eval-same-length t c =
+    let start = c .before .before .before .before .before .before .before .before .before .before .before .before .before .before .before in
+    let the-compute = c .before .before .before .before .compute in
+    omega (arith, start .pre, the-compute .ensures .sized)
+
+eval-returns-2 : (t : ℕ) → eval-lts.Need-returns-2 (eval-calls t) (eval-at t) eval.Post
+eval-returns-2 t c =
+    let start = c .before .before .before .before .before .before .before .before .before .before .before .before .before .before .before in
+    let the-compute = c .before .before .before .before .compute in
+    let p = start .pre .1 in
+    let v = the-compute .ensures in
+    record {
+      sized = record { sets-size = c .keep .ensures .size; made-size = simp length-set (v .sized .made-size); work-size = v .sized .work-size };
+      number = v .number;
+      done = λ h. noted (the-compute .result) (p .0 .short) (p .1) (v .sized .made-size) (v .done h) (c .keep .ensures) (omega (arith, v .number));
+    }
 
 fixpoint-kind-requires : (t : ℕ) → fixpoint-lts.Need-kind-requires (fixpoint-calls t) (fixpoint-at t) fixpoint.Post
-fixpoint-kind-requires t c κs = c .before .before .before .before .pre .1 .1 .0
+fixpoint-kind-requires t c κs =
+    let start = c .before .before .before in
+    start .pre .1 .1 .0
 
 fixpoint-start-requires : (t : ℕ) → fixpoint-lts.Need-start-requires (fixpoint-calls t) (fixpoint-at t) fixpoint.Post
 fixpoint-start-requires t c κs = tt
 
 fixpoint-fixpoint-from-requires : (t : ℕ) → fixpoint-lts.Need-fixpoint-from-requires (fixpoint-calls t) (fixpoint-at t) fixpoint.Post
 fixpoint-fixpoint-from-requires t c κs =
-    let start = c .before .before .before .before .before .before .before .before .before .before in
+    let start = c .before .before .before .before .before .before .before .before .before in
+    let the-kind = c .before .before .before .before .before .kind in
+    let the-if1 = c .before .before .before .before .if1 in
+    let the-start = c .before .before .before .start in
+    let p = start .pre .1 in
     let k : ℕ = nodeAt (start .args .table .now) (start .args .i) .kind in
-    let e : muNo ≡ k = omega (arith, c .before .before .before .before .before .kind .ensures, c .before .before .before .before .if1 .taken) in
-    (omega (arith, start .pre), (start .pre .1 .0, (start .pre .1 .1 .0, (start .pre .1 .1 .1, subst (λ (n : ℕ). has (c .before .before .before .start .result) ≐ startOf n) e (c .before .before .before .start .ensures)))))
+    let e : muNo ≡ k = omega (arith, the-kind .ensures, the-if1 .taken) in
+    (omega (arith, start .pre), (p .0, (p .1 .0, (p .1 .1, subst (λ (n : ℕ). has (the-start .result) ≐ startOf n) e (the-start .ensures)))))
 
 fixpoint-same-length : (t : ℕ) → fixpoint-lts.Need-same-length (fixpoint-calls t) (fixpoint-at t) fixpoint.Post
 fixpoint-same-length t c = omega (arith, c .before .before .fixpoint-from .kept)
@@ -323,10 +452,14 @@ fixpoint-start-requires-2 t c κs = tt
 
 fixpoint-fixpoint-from-requires-2 : (t : ℕ) → fixpoint-lts.Need-fixpoint-from-requires-2 (fixpoint-calls t) (fixpoint-at t) fixpoint.Post
 fixpoint-fixpoint-from-requires-2 t c κs =
-    let start = c .before .before .before .before .before .before .before .before .before .before in
+    let start = c .before .before .before .before .before .before .before .before .before in
+    let the-kind = c .before .before .before .before .before .kind in
+    let the-if1 = c .before .before .before .before .if1 in
+    let the-start2 = c .before .before .before .start2 in
+    let p = start .pre .1 in
     let k : ℕ = nodeAt (start .args .table .now) (start .args .i) .kind in
-    let e : nuNo ≡ k = omega (arith, start .pre, c .before .before .before .before .before .kind .ensures, c .before .before .before .before .if1 .left) in
-    (omega (arith, start .pre), (start .pre .1 .0, (start .pre .1 .1 .0, (start .pre .1 .1 .1, subst (λ (n : ℕ). has (c .before .before .before .start2 .result) ≐ startOf n) e (c .before .before .before .start2 .ensures)))))
+    let e : nuNo ≡ k = omega (arith, start .pre, the-kind .ensures, the-if1 .left) in
+    (omega (arith, start .pre), (p .0, (p .1 .0, (p .1 .1, subst (λ (n : ℕ). has (the-start2 .result) ≐ startOf n) e (the-start2 .ensures)))))
 
 fixpoint-same-length-2 : (t : ℕ) → fixpoint-lts.Need-same-length-2 (fixpoint-calls t) (fixpoint-at t) fixpoint.Post
 fixpoint-same-length-2 t c = omega (arith, c .before .before .fixpoint-from2 .kept)
@@ -335,196 +468,242 @@ fixpoint-returns-2 : (t : ℕ) → fixpoint-lts.Need-returns-2 (fixpoint-calls t
 fixpoint-returns-2 t c = c .before .before .fixpoint-from2 .ensures
 
 abbrev fixpoint-from-calls : ℕ → fixpoint-from-lts.Claims
-fixpoint-from-calls t = (number-reads.Asked, number-reads.Learnt, left-child-reads.Asked, left-child-reads.Learnt, load-reads.Asked, load-reads.Learnt, assign-reads.Asked, assign-reads.Learnt, eval-below t, eval.Post, same-set-reads.Asked, same-set-reads.Learnt, store-reads.Asked, store-reads.Learnt)
+fixpoint-from-calls t = (number-reads.Asked, number-reads.Learnt, left-child-reads.Asked, left-child-reads.Learnt, load-reads.Asked, load-reads.Learnt, assign-reads.Asked, assign-reads.Learnt, left-reads.Asked, left-reads.Learnt, eval-below t, eval.Post, least-reads.Asked, least-reads.Learnt, same-set-reads.Asked, same-set-reads.Learnt, store-reads.Asked, store-reads.Learnt)
 
 abbrev fixpoint-from-Inv-loop : fixpoint-from-lts.InvT-loop
-fixpoint-from-Inv-loop site table free env₀ fresh₀ work₀ i x b n old set₀ rounds₀ moved₀ env fresh work set rounds moved = Rounds site table env₀ env fresh work (nodeAt table i .kind) x b set rounds moved
+fixpoint-from-Inv-loop site table sets₀ made₀ work₀ i budget x b old set₀ total₀ rounds₀ moved₀ sets made work set total rounds moved =
+    Rounds site table sets₀ sets made work (budget .limit) (budget .cap) (nodeAt table i .kind) x b set rounds total moved
 
 abbrev fixpoint-from-μ-loop : fixpoint-from-lts.MeasureT-loop
-fixpoint-from-μ-loop site table free env₀ fresh₀ work₀ i x b n old set₀ rounds₀ moved₀ env fresh work set rounds moved = setSlots - rounds
+fixpoint-from-μ-loop site table sets₀ made₀ work₀ i budget x b old set₀ total₀ rounds₀ moved₀ sets made work set total rounds moved =
+    setSlots + 1 - rounds
 
 fixpoint-from-number-requires : (t : ℕ) → fixpoint-from-lts.Need-number-requires (fixpoint-from-calls t) (fixpoint-from-at t) fixpoint-from.Post fixpoint-from-Inv-loop fixpoint-from-μ-loop
 fixpoint-from-number-requires t c κs =
-    let p = c .before .before .before .before .pre .1 in
+    let start = c .before .before .before in
+    let p = start .pre .1 in
     (p .0 .fits, p .1 .0)
 
 fixpoint-from-left-child-requires : (t : ℕ) → fixpoint-from-lts.Need-left-child-requires (fixpoint-from-calls t) (fixpoint-from-at t) fixpoint-from.Post fixpoint-from-Inv-loop fixpoint-from-μ-loop
 fixpoint-from-left-child-requires t c κs =
-    let p = c .before .before .before .before .before .pre .1 in
+    let start = c .before .before .before .before in
+    let p = start .pre .1 in
     (p .0 .fits, (p .1 .0, omega (arith, p .1 .1)))
 
 fixpoint-from-load-requires : (t : ℕ) → fixpoint-from-lts.Need-load-requires (fixpoint-from-calls t) (fixpoint-from-at t) fixpoint-from.Post fixpoint-from-Inv-loop fixpoint-from-μ-loop
 fixpoint-from-load-requires t c κs =
-    let start = c .before .before .before .before .before .before .before .before in
-    omega (arith, start .pre, loop-variable (start .pre .1 .1 .1 .0) (c .before .before .before .number .ensures .1))
+    let start = c .before .before .before .before .before .before .before in
+    let the-number = c .before .before .before .number in
+    let p = start .pre .1 in
+    let hx = loop-variable (p .1 .1 .0) (the-number .ensures .1) in
+    omega (arith, hx, p .0 .sized)
 
 fixpoint-from-loop-holds : (t : ℕ) → fixpoint-from-lts.Need-loop-holds (fixpoint-from-calls t) (fixpoint-from-at t) fixpoint-from.Post fixpoint-from-Inv-loop fixpoint-from-μ-loop
 fixpoint-from-loop-holds t c =
-    let start = c .before .before .before .before .before .before .before .before .before in
-    rounds-none (start .pre .1 .0) (start .pre .1 .1 .1 .1)
+    let start = c .before .before .before .before .before .before .before .before in
+    let p = start .pre .1 in
+    rounds-none (p .0) (p .1 .1 .1)
 
 fixpoint-from-assign-requires : (t : ℕ) → fixpoint-from-lts.Need-assign-requires (fixpoint-from-calls t) (fixpoint-from-at t) fixpoint-from.Post fixpoint-from-Inv-loop fixpoint-from-μ-loop
 fixpoint-from-assign-requires t c κs =
-    let start = c .before .before .before .before .before .before .before .before .before .before .before .before .before .before in
-    let the-number = c .before .before .before .before .before .before .before .before .before .number in
-    omega (arith, start .pre, loop-variable (start .pre .1 .1 .1 .0) (the-number .ensures .1), c .before .before .before .before .loop .inv)
-
--- the variable has the set
-fixpoint-from-assigned : (t : ℕ) (c : fixpoint-from-lts.After-assign (fixpoint-from-calls t) (fixpoint-from-at t) fixpoint-from.Post fixpoint-from-Inv-loop fixpoint-from-μ-loop)
-    → let a = c .before .before .before .before .before .before .before .before .before .before .before .before .before .before .before .args in
-    Evaluable (a .site .now) (a .table .now) (a .free .now) (c .assign .last .1 .0) (c .assign .last .1 .1 .0) (c .before .before .before .before .before .loop .work)
-fixpoint-from-assigned t c =
-    let start = c .before .before .before .before .before .before .before .before .before .before .before .before .before .before .before in
-    let the-number = c .before .before .before .before .before .before .before .before .before .before .number in
+    let start = c .before .before .before .before .before .before .before .before .before .before .before .before in
+    let the-number = c .before .before .before .before .before .before .before .before .number in
+    let the-loop = c .before .before .before .loop in
     let p = start .pre .1 in
-    assigned (c .before .before .before .before .before .loop .inv) (c .assign .ensures .0) (p .0) (loop-variable (p .1 .1 .0) (the-number .ensures .1)) (omega arith) (c .assign .kept .1 .0) (c .assign .ensures .1) (c .assign .kept .1 .1 .0)
+    let hx = loop-variable (p .1 .1 .0) (the-number .ensures .1) in
+    (the-loop .inv .sized .sets-size, hx)
 
-fixpoint-from-element-copy-out-if2 : (t : ℕ) → fixpoint-from-lts.Need-element-copy-out-if2 (fixpoint-from-calls t) (fixpoint-from-at t) fixpoint-from.Post fixpoint-from-Inv-loop fixpoint-from-μ-loop
-fixpoint-from-element-copy-out-if2 t c =
-    let start = c .before .before .before .before .before .before .before .before .before .before .before .before .before .before .before in
-    let the-left-child = c .before .before .before .before .before .before .before .before .before .left-child in
-    omega (arith, start .pre, the-left-child .ensures, c .before .before .before .before .before .loop .inv, c .assign .kept)
+fixpoint-from-left-requires : (t : ℕ) → fixpoint-from-lts.Need-left-requires (fixpoint-from-calls t) (fixpoint-from-at t) fixpoint-from.Post fixpoint-from-Inv-loop fixpoint-from-μ-loop
+fixpoint-from-left-requires t c κs =
+    let start = c .before .before .before .before .before .before .before .before .before .before .before .before .before in
+    let the-loop = c .before .before .before .before .loop in
+    let the-loop-test = c .before .before .before .loop-test in
+    let p = start .pre .1 in
+    let few = the-loop .inv .going (the-loop-test .taken) in
+    (few, omega (arith, few, p .0 .budget .from))
 
 fixpoint-from-eval-requires : (t : ℕ) → fixpoint-from-lts.Need-eval-requires (fixpoint-from-calls t) (fixpoint-from-at t) fixpoint-from.Post fixpoint-from-Inv-loop fixpoint-from-μ-loop
 fixpoint-from-eval-requires t c κs =
-    let start = c .before .before .before .before .before .before .before .before .before .before .before .before .before .before .before .before .before .before .before .before in
-    let the-left-child = c .before .before .before .before .before .before .before .before .before .before .before .before .before .before .left-child in
-    (omega (arith, start .pre, the-left-child .ensures), (fixpoint-from-assigned t (c .before .before .before .before .before), omega (arith, start .pre, the-left-child .ensures)))
-
--- the body's set is there
-fixpoint-from-body : (t : ℕ) (c : fixpoint-from-lts.Joined2 (fixpoint-from-calls t) (fixpoint-from-at t) fixpoint-from.Post fixpoint-from-Inv-loop fixpoint-from-μ-loop)
-    → let a = c .before .before .before .before .before .before .before .before .before .before .before .before .before .before .before .before .before .args in
-    let b = c .before .before .before .before .before .before .before .before .before .before .before .left-child .result in
-    Done (a .site .now) (a .table .now) (c .before .before .assign .last .1 .0) (c .if2 .env) (c .if2 .fresh) (c .if2 .work) b
-fixpoint-from-body t c =
     let start = c .before .before .before .before .before .before .before .before .before .before .before .before .before .before .before .before .before in
-    let the-left-child = c .before .before .before .before .before .before .before .before .before .before .before .left-child in
-    either (c .if2 .came)
-    (λ u. done-same (u .4 .ensures) (u .7) (u .8) (u .9))
-    (λ u. done-same (was-known (fixpoint-from-assigned t (c .before .before)) (omega (arith, start .pre, the-left-child .ensures)) (u .0 .left)) (u .1) (u .2) (u .3))
+    let the-number = c .before .before .before .before .before .before .before .before .before .before .before .before .before .number in
+    let the-left-child = c .before .before .before .before .before .before .before .before .before .before .before .before .left-child in
+    let the-loop = c .before .before .before .before .before .before .before .before .loop in
+    let the-loop-test = c .before .before .before .before .before .before .before .loop-test in
+    let the-assign = c .before .before .before .before .assign in
+    let the-left = c .before .before .before .left in
+    let p = start .pre .1 in
+    let hx = loop-variable (p .1 .1 .0) (the-number .ensures .1) in (
+      omega (arith, start .pre, the-left-child .ensures),
+      (assigned (the-loop .inv) (the-loop-test .taken) (the-assign .ensures) (the-left .ensures .0) (the-left .ensures .1) (p .0) hx, omega (arith, start .pre, the-left-child .ensures)),
+    )
 
 fixpoint-from-load-requires-2 : (t : ℕ) → fixpoint-from-lts.Need-load-requires-2 (fixpoint-from-calls t) (fixpoint-from-at t) fixpoint-from.Post fixpoint-from-Inv-loop fixpoint-from-μ-loop
 fixpoint-from-load-requires-2 t c κs =
-    let start = c .before .before .before .before .before .before .before .before .before .before .before .before .before .before .before .before .before .before in
-    let the-left-child = c .before .before .before .before .before .before .before .before .before .before .before .before .left-child in
-    omega (arith, start .pre, the-left-child .ensures, fixpoint-from-body t (c .before) .work-size)
+    let start = c .before .before .before .before .before .before .before .before .before .before .before .before .before .before .before .before .before .before .before .before .before in
+    let the-left-child = c .before .before .before .before .before .before .before .before .before .before .before .before .before .before .before .before .left-child in
+    let the-eval = c .before .before .before .eval in
+    omega (arith, start .pre, the-left-child .ensures, the-eval .ensures .sized)
+
+fixpoint-from-add-least : (t : ℕ) → fixpoint-from-lts.Need-add-least (fixpoint-from-calls t) (fixpoint-from-at t) fixpoint-from.Post fixpoint-from-Inv-loop fixpoint-from-μ-loop
+fixpoint-from-add-least t c =
+    let start = c .before .before .before .before .before .before .before .before .before .before .before .before .before .before .before .before .before .before .before .before .before .before in
+    let the-loop = c .before .before .before .before .before .before .before .before .before .before .before .before .before .loop in
+    let the-loop-test = c .before .before .before .before .before .before .before .before .before .before .before .before .loop-test in
+    let p = start .pre .1 in
+    omega (arith, p .0 .budget, the-loop .inv .going (the-loop-test .taken))
+
+fixpoint-from-add-least-2 : (t : ℕ) → fixpoint-from-lts.Need-add-least-2 (fixpoint-from-calls t) (fixpoint-from-at t) fixpoint-from.Post fixpoint-from-Inv-loop fixpoint-from-μ-loop
+fixpoint-from-add-least-2 t c =
+    let start = c .before .before .before .before .before .before .before .before .before .before .before .before .before .before .before .before .before .before .before .before .before .before in
+    let the-loop = c .before .before .before .before .before .before .before .before .before .before .before .before .before .loop in
+    let the-loop-test = c .before .before .before .before .before .before .before .before .before .before .before .before .loop-test in
+    let the-left = c .before .before .before .before .before .before .before .before .left in
+    let the-eval = c .before .before .before .before .eval in
+    let p = start .pre .1 in
+    omega (arith, p .0 .budget, the-loop .inv .going (the-loop-test .taken), the-left .ensures .1, the-eval .ensures .number)
+
+fixpoint-from-least-requires : (t : ℕ) → fixpoint-from-lts.Need-least-requires (fixpoint-from-calls t) (fixpoint-from-at t) fixpoint-from.Post fixpoint-from-Inv-loop fixpoint-from-μ-loop
+fixpoint-from-least-requires t c κs = tt
 
 fixpoint-from-same-set-requires : (t : ℕ) → fixpoint-from-lts.Need-same-set-requires (fixpoint-from-calls t) (fixpoint-from-at t) fixpoint-from.Post fixpoint-from-Inv-loop fixpoint-from-μ-loop
 fixpoint-from-same-set-requires t c κs = tt
 
 fixpoint-from-add-rounds : (t : ℕ) → fixpoint-from-lts.Need-add-rounds (fixpoint-from-calls t) (fixpoint-from-at t) fixpoint-from.Post fixpoint-from-Inv-loop fixpoint-from-μ-loop
 fixpoint-from-add-rounds t c =
-    let the-loop = c .before .before .before .before .before .before .before .before .before .before .loop in
-    omega (arith, the-loop .inv)
+    let the-loop = c .before .before .before .before .before .before .before .before .before .before .before .before .before .before .before .before .loop in
+    omega (arith, the-loop .inv .few)
 
 fixpoint-from-loop-less : (t : ℕ) → fixpoint-from-lts.Need-loop-less (fixpoint-from-calls t) (fixpoint-from-at t) fixpoint-from.Post fixpoint-from-Inv-loop fixpoint-from-μ-loop
 fixpoint-from-loop-less t c =
-    let the-loop = c .before .before .before .before .before .before .before .before .before .before .loop in
-    let the-if1 = c .before .before .before .before .before .before .before .before .if1 in
-    omega (arith, the-loop .inv, ltb-true (the-loop .rounds) setSlots (the-if1 .taken))
+    let the-loop = c .before .before .before .before .before .before .before .before .before .before .before .before .before .before .before .before .loop in
+    let the-if1 = c .before .before .before .before .before .before .before .before .before .before .before .before .before .before .if1 in
+    omega (arith, the-loop .inv .few, ltb-true (the-loop .rounds) (setSlots + 1) (the-if1 .taken))
 
 fixpoint-from-loop-again : (t : ℕ) → fixpoint-from-lts.Need-loop-again (fixpoint-from-calls t) (fixpoint-from-at t) fixpoint-from.Post fixpoint-from-Inv-loop fixpoint-from-μ-loop
 fixpoint-from-loop-again t c =
-    let l = c .before .before .before .before .before .before .before .before .before .before .loop in
-    let the-assign = c .before .before .before .before .before .assign in
-    let the-if1 = c .before .before .before .before .before .before .before .before .if1 in
-    rounds-more (l .inv) (the-assign .ensures .0) (ltb-true (l .rounds) setSlots (the-if1 .taken)) (fixpoint-from-body t (c .before .before .before)) (c .before .load2 .ensures) (c .same-set .ensures .0)
+    let start = c .before .before .before .before .before .before .before .before .before .before .before .before .before .before .before .before .before .before .before .before .before .before .before .before .before in
+    let the-loop = c .before .before .before .before .before .before .before .before .before .before .before .before .before .before .before .before .loop in
+    let the-loop-test = c .before .before .before .before .before .before .before .before .before .before .before .before .before .before .before .loop-test in
+    let the-assign = c .before .before .before .before .before .before .before .before .before .before .before .before .assign in
+    let the-left = c .before .before .before .before .before .before .before .before .before .before .before .left in
+    let the-if1 = c .before .before .before .before .before .before .before .before .before .before .before .before .before .before .if1 in
+    let the-eval = c .before .before .before .before .before .before .before .eval in
+    let the-load2 = c .before .before .before .load2 in
+    let p = start .pre .1 in
+    rounds-more (the-loop .inv) (the-loop-test .taken) (the-assign .ensures) (the-left .ensures .0) (the-left .ensures .1) (p .0 .budget) (ltb-true (the-loop .rounds) (setSlots + 1) (the-if1 .taken))
+    (the-eval .ensures) (c .before .before .least .ensures) (the-load2 .ensures) (c .before .same-set .ensures .0) (c .before .same-set .ensures .1)
+    (λ h. goes-on (c .before .same-set .result) _ (le-leb _ _ h)) (λ h. leb-true _ _ (and-r (not (c .before .same-set .result)) _ h))
 
 fixpoint-from-assign-requires-2 : (t : ℕ) → fixpoint-from-lts.Need-assign-requires-2 (fixpoint-from-calls t) (fixpoint-from-at t) fixpoint-from.Post fixpoint-from-Inv-loop fixpoint-from-μ-loop
 fixpoint-from-assign-requires-2 t c κs =
-    let start = c .before .before .before .before .before .before .before .before .before .before .before .before .before in
-    let the-number = c .before .before .before .before .before .before .before .before .number in
-    omega (arith, start .pre, loop-variable (start .pre .1 .1 .1 .0) (the-number .ensures .1), c .before .before .before .loop .inv)
+    let start = c .before .before .before .before .before .before .before .before .before .before .before in
+    let the-number = c .before .before .before .before .before .before .before .number in
+    let p = start .pre .1 in
+    let hx = loop-variable (p .1 .1 .0) (the-number .ensures .1) in
+    (c .before .before .loop .inv .sized .sets-size, hx)
 
 fixpoint-from-store-requires : (t : ℕ) → fixpoint-from-lts.Need-store-requires (fixpoint-from-calls t) (fixpoint-from-at t) fixpoint-from.Post fixpoint-from-Inv-loop fixpoint-from-μ-loop
 fixpoint-from-store-requires t c κs =
-    let start = c .before .before .before .before .before .before .before .before .before .before .before .before .before .before .before in
-    let the-loop = c .before .before .before .before .before .loop in
-    omega (arith, start .pre, the-loop .inv)
+    let start = c .before .before .before .before .before .before .before .before .before .before .before .before .before in
+    let the-loop = c .before .before .before .before .loop in
+    omega (arith, start .pre, the-loop .inv .sized)
 
 fixpoint-from-same-length : (t : ℕ) → fixpoint-from-lts.Need-same-length (fixpoint-from-calls t) (fixpoint-from-at t) fixpoint-from.Post fixpoint-from-Inv-loop fixpoint-from-μ-loop
 fixpoint-from-same-length t c =
-    let start = c .before .before .before .before .before .before .before .before .before .before .before .before .before .before .before .before .before .before in
-    let the-loop = c .before .before .before .before .before .before .before .before .loop in
-    omega (arith, start .pre, the-loop .inv, c .before .before .store .kept)
+    let start = c .before .before .before .before .before .before .before .before .before .before .before .before .before .before .before .before in
+    let the-loop = c .before .before .before .before .before .before .before .loop in
+    omega (arith, start .pre, the-loop .inv .sized, c .before .before .store .kept)
 
 fixpoint-from-returns : (t : ℕ) → fixpoint-from-lts.Need-returns (fixpoint-from-calls t) (fixpoint-from-at t) fixpoint-from.Post fixpoint-from-Inv-loop fixpoint-from-μ-loop
 fixpoint-from-returns t c =
-    let start = c .before .before .before .before .before .before .before .before .before .before .before .before .before .before .before .before .before .before in
-    let the-number = c .before .before .before .before .before .before .before .before .before .before .before .before .before .number in
-    let the-left-child = c .before .before .before .before .before .before .before .before .before .before .before .before .left-child in
-    let the-load = c .before .before .before .before .before .before .before .before .before .load in
-    let the-loop-test = c .before .before .before .before .before .before .before .loop-test in
-    let l = c .before .before .before .before .before .before .before .before .loop in
+    let start = c .before .before .before .before .before .before .before .before .before .before .before .before .before .before .before .before in
+    let the-number = c .before .before .before .before .before .before .before .before .before .before .before .before .number in
+    let the-loop = c .before .before .before .before .before .before .before .loop in
+    let the-left-child = c .before .before .before .before .before .before .before .before .before .before .before .left-child in
+    let the-loop-test = c .before .before .before .before .before .before .loop-test in
+    let the-assign2 = c .before .before .before .before .assign2 in
+    let the-load = c .before .before .before .before .before .before .before .before .load in
     let a = start .args in
     let p = start .pre .1 in
+    let hx = loop-variable (p .1 .1 .0) (the-number .ensures .1) in
+    let R = the-loop .inv in
     let S = a .table .now in
+    let M = siteOf (a .site .now) in
+    let ρ = valuation (a .sets .now) in
     let x : ℕ = the-number .result in
     let b : ℕ = the-left-child .result in
-    let out : (l .moved ≡ false) ⊎ (setSlots ≤ l .rounds) = ⊎-elim (λ u. inr (ltb-false (l .rounds) setSlots (u .1 .left))) (λ u. inl (u .left)) (the-loop-test .came) in
-    let kept = restored (l .inv) (c .before .before .before .before .assign2 .ensures .0) (the-load .ensures) in
-    let value = rounds-done (l .inv) out in
-    finish (omega (arith, l .inv .env-size, c .before .before .before .before .assign2 .kept)) (omega (arith, l .inv .fresh-size, c .before .before .before .before .assign2 .kept)) (omega (arith, l .inv .work-size, c .before .before .store .kept)) kept
-    (flags-moved (p .0 .rows) (loop-variable (p .1 .1 .0) (the-number .ensures .1)) (omega arith) (l .inv .flags-right) (c .before .before .before .before .assign2 .ensures .0) (c .before .before .before .before .assign2 .ensures .1))
-    (c .before .before .store .ensures)
-    (λ s h. value s h ∙ sym (is-loop S (p .0 .fits) (a .i) (p .1 .0) (siteOf (a .site .now)) (setAt (a .env .now)) x b (the-number .ensures .0) (the-left-child .ensures .0) (p .1 .1 .0 .0) (p .1 .1 .0 .1) s h))
+    let out : (the-loop .moved ≡ false) ⊎ (setSlots + 1 ≤ the-loop .rounds) =
+    ⊎-elim (λ u. inr (ltb-false (the-loop .rounds) (setSlots + 1) (u .1 .left))) (λ u. inl (u .left)) (the-loop-test .came) in
+    let total = rounds-number R out in
+    let own = loop-rounds S (p .0 .fits) (a .i) (p .1 .0) M ρ x b (the-number .ensures .0) (the-left-child .ensures .0) (p .1 .1 .0 .0) (p .1 .1 .0 .1) in
+    record {
+      sized = record { sets-size = the-assign2 .ensures .size; made-size = R .sized .made-size; work-size = omega (arith, R .sized, c .before .before .store .kept) };
+      number = total ∙ ap (λ (n : ℕ). min n (a .budget .cap)) (sym own);
+      done = λ h.
+          let rests = loop-rests S (p .0 .fits) (a .i) (p .1 .0) M ρ x b (the-number .ensures .0) (the-left-child .ensures .0) (p .1 .1 .0 .0) (p .1 .1 .0 .1) (p .0 .even-rule) in
+          finish (moved (p .0 .short) hx (R .steady h .memo) (the-assign2 .ensures))
+          (restored R h (the-assign2 .ensures) (λ s l. the-load .ensures s l ∙ sym (valuation-is (a .sets .now) x hx s)))
+          (c .before .before .store .ensures)
+          (λ s l. rounds-done R out h rests s l ∙ sym (is-loop S (p .0 .fits) (a .i) (p .1 .0) M ρ x b (the-number .ensures .0) (the-left-child .ensures .0) (p .1 .1 .0 .0) (p .1 .1 .0 .1) s l));
+    }
 
 abbrev unary-calls : ℕ → unary-lts.Claims
 unary-calls t = (left-child-reads.Asked, left-child-reads.Learnt, eval-below t, eval.Post, load-reads.Asked, load-reads.Learnt, put-unary-reads.Asked, put-unary-reads.Learnt)
 
 unary-left-child-requires : (t : ℕ) → unary-lts.Need-left-child-requires (unary-calls t) (unary-at t) unary.Post
 unary-left-child-requires t c κs =
-    let p = c .before .before .before .before .pre .1 in
+    let start = c .before .before .before in
+    let p = start .pre .1 in
     (p .0 .fits, (p .1 .0, unary-left _ (p .1 .1)))
-
-unary-element-copy-out-if1 : (t : ℕ) → unary-lts.Need-element-copy-out-if1 (unary-calls t) (unary-at t) unary.Post
-unary-element-copy-out-if1 t c = omega (arith, c .before .before .before .before .before .pre, c .left-child .ensures)
 
 unary-eval-requires : (t : ℕ) → unary-lts.Need-eval-requires (unary-calls t) (unary-at t) unary.Post
 unary-eval-requires t c κs =
-    let start = c .before .before .before .before .before .before .before .before .before .before in
+    let start = c .before .before .before .before .before .before .before in
+    let the-left-child = c .before .before .before .left-child in
     let p = start .pre .1 in
-    (omega (arith, start .pre, c .before .before .before .before .before .left-child .ensures), (p .0, omega (arith, p .1 .0, c .before .before .before .before .before .left-child .ensures)))
-
--- the child's set is there
-unary-child : (t : ℕ) (c : unary-lts.Joined1 (unary-calls t) (unary-at t) unary.Post)
-    → let a = c .before .before .before .before .before .before .before .args in
-    Done (a .site .now) (a .table .now) (a .env .now) (c .if1 .env) (c .if1 .fresh) (c .if1 .work) (c .before .before .left-child .result)
-unary-child t c =
-    let p = c .before .before .before .before .before .before .before .pre .1 in
-    either (c .if1 .came)
-    (λ u. done-same (u .4 .ensures) (u .7) (u .8) (u .9))
-    (λ u. done-same (was-known (p .0) (omega (arith, p .1 .0, c .before .before .left-child .ensures)) (u .0 .left)) (u .1) (u .2) (u .3))
+    (omega (arith, start .pre, the-left-child .ensures), (p .0, omega (arith, p .1 .0, the-left-child .ensures)))
 
 unary-load-requires : (t : ℕ) → unary-lts.Need-load-requires (unary-calls t) (unary-at t) unary.Post
 unary-load-requires t c κs =
-    let start = c .before .before .before .before .before .before .before .before in
-    omega (arith, start .pre, c .before .before .before .left-child .ensures, unary-child t (c .before) .work-size)
+    let start = c .before .before .before .before .before .before .before .before .before .before .before in
+    let the-left-child = c .before .before .before .before .before .before .before .left-child in
+    let the-eval = c .before .before .before .eval in
+    omega (arith, start .pre, the-left-child .ensures, the-eval .ensures .sized)
 
 unary-put-unary-requires : (t : ℕ) → unary-lts.Need-put-unary-requires (unary-calls t) (unary-at t) unary.Post
 unary-put-unary-requires t c κs =
-    let start = c .before .before .before .before .before .before .before .before .before .before in
+    let start = c .before .before .before .before .before .before .before .before .before .before .before .before .before in
+    let the-eval = c .before .before .before .before .before .eval in
     let p = start .pre .1 in
-    (p .0 .site-size, (p .1 .0, (omega (arith, start .pre, unary-child t (c .before .before .before) .work-size), p .1 .1)))
+    (p .0 .site-size, (p .1 .0, (omega (arith, start .pre, the-eval .ensures .sized), p .1 .1)))
 
 unary-same-length : (t : ℕ) → unary-lts.Need-same-length (unary-calls t) (unary-at t) unary.Post
 unary-same-length t c =
-    let start = c .before .before .before .before .before .before .before .before .before .before .before .before .before in
-    omega (arith, start .pre, unary-child t (c .before .before .before .before .before .before) .work-size, c .before .before .put-unary .kept)
+    let start = c .before .before .before .before .before .before .before .before .before .before .before .before .before .before .before .before in
+    let the-eval = c .before .before .before .before .before .before .before .before .eval in
+    omega (arith, start .pre, the-eval .ensures .sized, c .before .before .put-unary .kept)
 
 unary-returns : (t : ℕ) → unary-lts.Need-returns (unary-calls t) (unary-at t) unary.Post
 unary-returns t c =
-    let start = c .before .before .before .before .before .before .before .before .before .before .before .before .before in
-    let the-left-child = c .before .before .before .before .before .before .before .before .left-child in
-    let d = unary-child t (c .before .before .before .before .before .before) in
+    let start = c .before .before .before .before .before .before .before .before .before .before .before .before .before .before .before .before in
+    let the-eval = c .before .before .before .before .before .before .before .before .eval in
+    let the-load = c .before .before .before .before .load in
+    let the-left-child = c .before .before .before .before .before .before .before .before .before .before .before .before .left-child in
     let a = start .args in
     let p = start .pre .1 in
+    let v = the-eval .ensures in
     let S = a .table .now in
     let M = siteOf (a .site .now) in
-    let P = has (c .before .before .before .before .load .result) in
-    finish {P = nodeMakes M (nodeAt S (a .i)) P P} (d .env-size) (d .fresh-size) (omega (arith, d .work-size, c .before .before .put-unary .kept)) (d .kept) (d .flags-right) (c .before .before .put-unary .ensures)
-    (is-unary S (p .0 .fits) (a .i) (p .1 .0) M (setAt (a .env .now)) P P
-    (child d (c .before .before .before .before .load .ensures) (the-left-child .ensures .0)) (p .1 .1))
+    let ρ = valuation (a .sets .now) in
+    let P = has (the-load .result) in
+    record {
+      sized = record { sets-size = v .sized .sets-size; made-size = v .sized .made-size; work-size = omega (arith, v .sized, c .before .before .put-unary .kept) };
+      number = omega (arith, v .number, unary-rounds S (p .0 .fits) (a .i) (p .1 .0) M ρ (p .1 .1), ap (nodeRounds (a .site .now) S ρ) (the-left-child .ensures .0));
+      done = λ h.
+          let d = v .done h in
+          finish {P = nodeMakes M (nodeAt S (a .i)) P P} (d .memo) (d .values) (c .before .before .put-unary .ensures)
+          (is-unary S (p .0 .fits) (a .i) (p .1 .0) M ρ P P (child d (the-load .ensures) (the-left-child .ensures .0)) (p .1 .1));
+    }
 
 pub +binary+compute+eval+fixpoint+fixpoint-from+unary-spec : {M : Type 1} → statement M
 +binary+compute+eval+fixpoint+fixpoint-from+unary-spec =
@@ -532,23 +711,25 @@ pub +binary+compute+eval+fixpoint+fixpoint-from+unary-spec : {M : Type 1} → st
     (binary-at t)
     binary.Post
     (binary-left-child-requires t)
-    (binary-element-copy-out-if1 t)
     (binary-eval-requires t)
+    (binary-same-length t)
+    (binary-returns t)
     (binary-load-requires t)
     (binary-right-child-requires t)
-    (binary-element-copy-out-if2 t)
+    (binary-left-requires t)
     (binary-eval-requires-2 t)
     (binary-load-requires-2 t)
     (binary-put-binary-requires t)
-    (binary-same-length t)
-    (binary-returns t))
+    (binary-add-result t)
+    (binary-same-length-2 t)
+    (binary-returns-2 t))
     (λ t. compute-lts.spec (compute-calls t)
     (compute-at t)
     compute.Post
     (compute-kind-requires t)
     (compute-binary-requires t)
     (compute-fixpoint-requires t)
-    (compute-put-leaf-requires t)
+    (compute-leaf-requires t)
     (compute-unary-requires t)
     (compute-same-length t)
     (compute-returns t)
@@ -558,14 +739,20 @@ pub +binary+compute+eval+fixpoint+fixpoint-from+unary-spec : {M : Type 1} → st
     (compute-returns-3 t)
     (compute-same-length-4 t)
     (compute-returns-4 t))
-    (λ t. eval-lts.spec
-    (compute-below t, compute.Post)
+    (λ t. eval-lts.spec (eval-calls t)
     (eval-at t)
     eval.Post
+    (eval-known-requires t)
+    (eval-mul-least t)
+    (eval-element-copy-out-least t)
+    (eval-least-requires t)
+    (eval-returns t)
     (eval-compute-requires t)
-    (eval-element-write-fresh t)
+    (eval-keep-requires t)
+    (eval-mul-made t)
+    (eval-element-write-made t)
     (eval-same-length t)
-    (eval-returns t))
+    (eval-returns-2 t))
     (λ t. fixpoint-lts.spec (fixpoint-calls t)
     (fixpoint-at t)
     fixpoint.Post
@@ -588,9 +775,12 @@ pub +binary+compute+eval+fixpoint+fixpoint-from+unary-spec : {M : Type 1} → st
     (fixpoint-from-load-requires t)
     (fixpoint-from-loop-holds t)
     (fixpoint-from-assign-requires t)
-    (fixpoint-from-element-copy-out-if2 t)
+    (fixpoint-from-left-requires t)
     (fixpoint-from-eval-requires t)
     (fixpoint-from-load-requires-2 t)
+    (fixpoint-from-add-least t)
+    (fixpoint-from-add-least-2 t)
+    (fixpoint-from-least-requires t)
     (fixpoint-from-same-set-requires t)
     (fixpoint-from-add-rounds t)
     (fixpoint-from-loop-less t)
@@ -603,7 +793,6 @@ pub +binary+compute+eval+fixpoint+fixpoint-from+unary-spec : {M : Type 1} → st
     (unary-at t)
     unary.Post
     (unary-left-child-requires t)
-    (unary-element-copy-out-if1 t)
     (unary-eval-requires t)
     (unary-load-requires t)
     (unary-put-unary-requires t)

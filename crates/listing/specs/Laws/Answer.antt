@@ -1,14 +1,15 @@
--- The answer: the last node's set is that of the slots where the condition holds, whatever sets the variables have.
+-- The answer: the last node's set is that of the slots where the condition holds, and its rounds are those that listing makes, whatever sets
+-- the variables have.
 use mathlib.Core.Path.{_≡_, refl, sym, _∙_, ap, subst}
 use mathlib.Core.Logic.{_↔_, Iff·trans}
 use mathlib.Core.List.{List}
 use mathlib.Core.Bool.{Bool, true, false, not}
 use Prim.Native.Nat.{ℕ, _+_, _*_, _-_, _/_, _<_}
 use native.Mathlib.Omega.{arith}
-use lib.ListN.{length, replicate, length-replicate, getD-replicate}
+use lib.ListN.{length}
 use Rattle.finite.specs.Tests.{same}
-use Rattle.finite.specs.Laws.Bools.{either, clash, and-l, and-r, or-out, not-out}
-use Rattle.finite.specs.Laws.Below.{same-eq, below-out, all-out}
+use Rattle.finite.specs.Laws.Bools.{either, clash, no-true, and-l, and-r, or-out, not-out}
+use Rattle.finite.specs.Laws.Below.{same-eq, below-in, below-out, all-out}
 use Rattle.bitset.specs.Set.{setSlots, has}
 use Rattle.limits.specs.Limits.{slots, variables, tableNodes}
 use Rattle.semantics.specs.Form.{Form, occ, free, closed}
@@ -17,15 +18,21 @@ use Rattle.semantics.specs.Table.{kTrue, kHere, kLabel, kName, kVar, kSlot, kNo
 use Rattle.semantics.specs.Laws.TreeAt.{Subtrees, tree-ind}
 use Rattle.semantics.specs.Laws.Eval.{eval, eval-table}
 use Rattle.semantics.specs.Laws.Agree.{_≐_, eval-agree}
+use Rattle.rounds.specs.Makes.{Makes}
+use Rattle.rounds.specs.Laws.Count.{rounds, rounds-closed}
+use Rattle.rounds.specs.Laws.Exact.{rounds-table}
 use Rattle.site.specs.Layout.{siteBytes}
 use Rattle.site.specs.Site.{siteOf}
 use Rattle.condition.specs.Bytes.{tableOf}
 use Rattle.condition.specs.Laws.Bytes.{length-table}
-use Rattle.condition.specs.Laws.Verdict.{Sound}
+use Rattle.verdict.specs.declared.Verdict.the-variants.{Accepted}
+use Rattle.condition.specs.Refusal.{conditionVerdict}
+use Rattle.condition.specs.Laws.Verdict.{Sound, accepted-sound}
 use Rattle.even_rule.specs.Free.{FreeRows}
-use Rattle.listing_sets.specs.Offsets.{envBytes, setAt, SetWritten}
+use Rattle.listing_sets.specs.Offsets.{setAt, valuation, SetWritten}
+use Rattle.listing_memo.specs.Memo.{Started}
 use Rattle.listing.specs.Listed.{workBytes}
-use Rattle.listing.specs.State.{Evaluable, Done}
+use Rattle.listing.specs.State.{Budgeted, Evaluable, Done}
 
 -- each variable of a table's trees is one of the sixteen
 Known : Form → Type 0
@@ -50,29 +57,28 @@ known xs f = tree-ind Known xs f (λ i x k φ ψ _ _ _ fit _ subtrees. go i x k 
     go i x (binary kOr) φ ψ fit q b v o = either (or-out (occ b v φ) _ o) (λ p. q .0 b v p) (λ p. q .1 b v p)
     go i x (binary kAnd) φ ψ fit q b v o = either (or-out (occ b v φ) _ o) (λ p. q .0 b v p) (λ p. q .1 b v p)
 
--- a closed tree has one set under all valuations
-closed-eval : (φ : Form) → Known φ → closed φ ≡ true → (M : Model) (ρ σ : Env) → eval M ρ φ ≐ eval M σ φ
+-- a closed tree has no free variable, so it has one set and one number of rounds under all valuations
+none-free : (φ : Form) → Known φ → closed φ ≡ true → (v : ℕ) → free v φ ≡ false
 unfolding Known closed free
-closed-eval φ k c M ρ σ =
-    eval-agree M φ ρ σ (λ v o. absurd (not-out _ (all-out variables _ c v (either (or-out (occ true v φ) _ o) (k true v) (k false v))) o))
+none-free φ k c v = no-true (λ o. not-out _ (all-out variables _ c v (either (or-out (occ true v φ) _ o) (k true v) (k false v))) o)
 
--- at the start no flag is set
-pub none-known : (site S rows work : List ℕ) → length site ≡ siteBytes → Sound S → FreeRows S rows → length rows ≡ tableNodes → length work ≡ workBytes
-    → Evaluable site S rows (replicate envBytes 0) (replicate tableNodes 0) work
-none-known site S rows work hs sound f hr hw =
+-- at the start no node is known
+pub none-known : {site S masks sets made work : List ℕ} {limit cap n : ℕ} → length site ≡ siteBytes → Sound S → FreeRows S masks → Started masks sets n
+    → n ≡ length S / 6 → length made ≡ tableNodes → length work ≡ workBytes → Budgeted limit cap → Evaluable site S limit cap sets made work
+unfolding setAt
+none-known {S = S} {n = n} hs sound f start hn hm hw g =
+    let len = length-table S in
     record {
       site-size = hs;
-      few = sound .few;
+      short = sound .few;
       fits = sound .fits;
-      rows = f;
-      free-size = hr;
-      env-size = length-replicate {A = ℕ} envBytes 0;
-      fresh-size = length-replicate {A = ℕ} tableNodes 0;
-      work-size = hw;
-      flags-right = record {
-        node = λ j h e.
-            let z : _≡_ {A = ℕ} 1 0 = sym e ∙ getD-replicate {A = ℕ} tableNodes j 0 0 (omega (arith, sound .few)) in
-            absurd (omega arith);
+      even-rule = sound .even-rule;
+      budget = g;
+      sized = record { sets-size = start .size; made-size = hm; work-size = hw };
+      memo = record {
+        free-right = λ x j hx h.
+            start .noted x j hx (omega (arith, sound .few)) ∙ rw (below-in j n (omega arith)) (f .node j x (omega arith) hx);
+        known-right = λ j h k. clash k (start .low _ (omega (arith, sound .few)));
       };
     }
 
@@ -81,20 +87,44 @@ pub whole : (b b′ found : List ℕ) → SetWritten b b′ 0 (has found) → ha
 unfolding setAt
 whole b b′ found w s h = ap (has b′) (let q : s ≡ setSlots * 0 + s = omega arith in q) ∙ w .here s h
 
--- at the end the last node's set is that of the condition
-pub answer : (site S env env′ fresh′ work′ set′ : List ℕ) (i : ℕ) → Sound S → i ≡ length S / 6 - 1 → Done site S env env′ fresh′ work′ i
+-- at the end the last node's set is that of the condition, and its rounds are those that listing makes, whatever sets the variables have
+module _ {S : List ℕ} {i : ℕ} (sound : Sound S) (e : i ≡ length S / 6 - 1) (M : Model) where
+  inside : length (tableOf S) - 1 < length (tableOf S)
+  inside = let n = length-table S in omega (arith, sound .some)
+
+  is-last : i ≡ length (tableOf S) - 1
+  is-last = let n = length-table S in omega arith
+
+  unbound : (v : ℕ) → free v (treeAt (tableOf S) (length (tableOf S) - 1)) ≡ false
+  unfolding formOf
+  unbound = none-free _ (known (tableOf S) (sound .fits) (length (tableOf S) - 1) inside) (sound .is-closed)
+
+  answer-slot : (σ ρ : Env) (s : ℕ) → s < slots → (eval M σ (treeAt (tableOf S) i) s ≡ true) ↔ Holds M ρ (formOf (tableOf S)) s
+  unfolding formOf
+  answer-slot σ ρ s h =
+      let xs = tableOf S in
+      let last : ℕ = length xs - 1 in
+      let value : eval M σ (treeAt xs i) s ≡ eval M ρ (treeAt xs last) s =
+      ap (λ (j : ℕ). eval M σ (treeAt xs j) s) is-last ∙ eval-agree M (treeAt xs last) σ ρ (λ v o. clash o (unbound v)) s h in
+      Iff·trans (λ p. sym value ∙ p, λ p. value ∙ p) (eval-table xs (sound .fits) (sound .even-rule) last inside M ρ s h)
+
+  pub answer-rounds : (σ ρ : Env) → Makes M ρ (formOf (tableOf S)) (rounds M σ (treeAt (tableOf S) i))
+  unfolding formOf
+  answer-rounds σ ρ =
+      let xs = tableOf S in
+      let last : ℕ = length xs - 1 in
+      rounds-table xs (sound .fits) (sound .even-rule) last inside M ρ _ .1
+      (ap (λ (j : ℕ). rounds M σ (treeAt xs j)) is-last ∙ rounds-closed M (treeAt xs last) unbound σ ρ)
+
+-- the set that was read from the work buffer after the last node's call
+pub answer : {cap i : ℕ} {site S sets sets′ made′ work′ : List ℕ} (set′ : List ℕ) → Sound S → i ≡ length S / 6 - 1 → Done site S cap sets sets′ made′ work′ i
     → has set′ ≐ setAt work′ i → (ρ : Env) (s : ℕ) → s < slots → (has set′ s ≡ true) ↔ Holds (siteOf site) ρ (formOf (tableOf S)) s
-unfolding formOf
-answer site S env env′ fresh′ work′ set′ i sound e d found ρ s h =
-    let n = length-table S in
-    let xs = tableOf S in
-    let last : ℕ = length xs - 1 in
-    let q : i ≡ last = omega arith in
-    let inside : last < length xs = omega (arith, sound .some) in
-    let M = siteOf site in
-    let value : has set′ s ≡ eval M ρ (treeAt xs last) s =
-    found s h
-    ∙ d .here s h
-    ∙ ap (λ (j : ℕ). eval M (setAt env) (treeAt xs j) s) q
-    ∙ closed-eval (treeAt xs last) (known xs (sound .fits) last inside) (sound .is-closed) M (setAt env) ρ s h in
-    Iff·trans (λ p. sym value ∙ p, λ p. value ∙ p) (eval-table xs (sound .fits) (sound .even-rule) last inside M ρ s h)
+answer {site = site} {sets = sets} set′ sound e d found ρ s h =
+    let value = found s h ∙ d .here s h in
+    Iff·trans (λ p. sym value ∙ p, λ p. value ∙ p) (answer-slot sound e (siteOf site) (valuation sets) ρ s h)
+
+-- listing an accepted condition makes one number of rounds under all valuations
+pub accepted-makes : (M : Model) (S : List ℕ) → conditionVerdict S ≡ Accepted → (n : ℕ) × ((ρ : Env) → Makes M ρ (formOf (tableOf S)) n)
+accepted-makes M S v =
+    let none : Env = λ v x. false in
+    (rounds M none (treeAt (tableOf S) (length S / 6 - 1)), answer-rounds (accepted-sound S v) refl M none)

@@ -1,143 +1,180 @@
 -- What the calls of the evaluator leave.
-use mathlib.Core.Path.{_≡_, refl, sym, _∙_, subst}
+use mathlib.Core.Path.{_≡_, refl, sym, _∙_, ap, subst}
 use mathlib.Core.List.{List}
-use mathlib.Core.Bool.{true, false}
-use Prim.Native.Nat.{ℕ, _+_, _*_, _≤_, _<_}
+use mathlib.Core.Bool.{Bool, true, false, or-false}
+use Prim.Native.Nat.{ℕ, _+_, _-_, _*_, _≤_, _<_, min}
 use native.Mathlib.Omega.{arith}
 use lib.ListN.{length, getD, set, length-set}
-use lib.Seq.{getD-set-other}
-use Rattle.finite.specs.Tests.{bit}
-use Rattle.finite.specs.Laws.Bools.{either, look, clash}
-use Rattle.finite.specs.Laws.Below.{equal?}
-use Rattle.limits.specs.Limits.{variables, tableNodes}
+use lib.Seq.{getD-set-same, getD-set-other}
+use Rattle.finite.specs.Tests.{same}
+use Rattle.finite.specs.Laws.Bools.{either, look, clash, and-l, and-r, not-out}
+use Rattle.finite.specs.Laws.Below.{equal?, ne-same}
+use Rattle.limits.specs.Limits.{slots, variables, tableNodes, tableBytes}
 use Rattle.semantics.specs.Form.{free}
-use Rattle.semantics.specs.Holds.{Set}
+use Rattle.semantics.specs.Holds.{Set, Env, put}
 use Rattle.semantics.specs.Table.{treeAt}
+use Rattle.semantics.specs.Laws.Monotone.{put-other}
 use Rattle.semantics.specs.Laws.Agree.{_≐_, eval-agree}
+use Rattle.rounds.specs.Laws.Count.{rounds-agree}
 use Rattle.site.specs.Site.{siteOf}
 use Rattle.condition.specs.Bytes.{tableOf}
-use Rattle.condition.specs.Laws.Bytes.{length-table}
-use Rattle.even_rule.specs.Free.{FreeRows}
-use Rattle.listing_sets.specs.Offsets.{envBytes, setAt, SetWritten, Cleared}
-use Rattle.listing.specs.Listed.{workBytes}
-use Rattle.listing.specs.State.{nodeSet, FlagsRight, Evaluable, Done}
+use Rattle.listing_sets.specs.Offsets.{setAt, valuation, SetWritten}
+use Rattle.listing_memo.specs.Memo.{known, freeIn, Kept, Assigned}
+use Rattle.listing.specs.State.{nodeSet, nodeRounds, Sized, Budgeted, Right, Memo, Evaluable, Done, Evaluated}
 
--- where every variable has the same slots in two environments, so has every node
-pub env-same : (site S env env′ : List ℕ) → ((v : ℕ) → setAt env′ v ≐ setAt env v) → (j : ℕ) → nodeSet site S (setAt env′) j ≐ nodeSet site S (setAt env) j
-env-same site S env env′ e j = eval-agree (siteOf site) (treeAt (tableOf S) j) (setAt env′) (setAt env) (λ v _. e v)
+-- where every variable that is free in node j has the same slots under two valuations, the node has the same set and the same rounds
+module _ (site S : List ℕ) (j : ℕ) (ρ ρ′ : Env) (e : (v : ℕ) → free v (treeAt (tableOf S) j) ≡ true → ρ′ v ≐ ρ v) where
+  pub set-agrees : nodeSet site S ρ′ j ≐ nodeSet site S ρ j
+  set-agrees = eval-agree (siteOf site) (treeAt (tableOf S) j) ρ′ ρ e
 
--- the variable x has moved: a flag that is still set is that of a node in which x is not free
-pub flags-moved : {site S rows env env′ fresh fresh′ work : List ℕ} {n x : ℕ} {P : Set} → FreeRows S rows → x < variables → length S < 6 * n + 6
-    → FlagsRight site S env fresh work → SetWritten env env′ x P → Cleared rows fresh fresh′ n x → FlagsRight site S env′ fresh′ work
-flags-moved {site} {S} {rows} {env} {env′} {fresh} {x = x} f hx hn g w c = record {
-  node = λ j h e.
-      let was = c .node j (omega arith) in
-      let len = length-table S in
-      either
-      (look (bit (getD rows j 0) x))
-      (λ b. let z : _≡_ {A = ℕ} 1 0 = sym e ∙ was ∙ rw b refl in absurd (omega arith))
-      (λ b.
-      let bound : free x (treeAt (tableOf S) j) ≡ false = sym (f .node j x (omega arith) hx) ∙ b in
-      let old : getD fresh j 0 ≡ 1 = sym (was ∙ rw b refl) ∙ e in
-      λ s k.
-      g .node j h old s k
-      ∙ eval-agree (siteOf site) (treeAt (tableOf S) j) (setAt env) (setAt env′)
-      (λ v o t l. sym (w .others v (λ q. clash (subst (λ (u : ℕ). free u (treeAt (tableOf S) j) ≡ true) q o) bound) t l)) s k);
-}
+  pub number-agrees : nodeRounds site S ρ′ j ≡ nodeRounds site S ρ j
+  number-agrees = rounds-agree (siteOf site) (treeAt (tableOf S) j) ρ′ ρ e
 
--- node i's set is written, which changes no other set
-pub finish : {site S env env′ fresh work work′ : List ℕ} {i : ℕ} {P : Set} → length env′ ≡ envBytes → length fresh ≡ tableNodes
-    → length work′ ≡ workBytes → ((v : ℕ) → setAt env′ v ≐ setAt env v) → FlagsRight site S env′ fresh work → SetWritten work work′ i P → P ≐ nodeSet site S (setAt env) i → Done site S env env′ fresh work′ i
-finish {site} {S} {env} {env′} {work′ = work′} {i} he hf hw kept g w e =
+  right-agrees : {cap n : ℕ} {work : List ℕ} → Right site S ρ cap work j n → Right site S ρ′ cap work j n
+  right-agrees {cap} r =
+      record {
+        set = λ s h. r .set s h ∙ sym (set-agrees s h);
+        number = r .number ∙ ap (λ (m : ℕ). min m cap) (sym number-agrees);
+      }
+
+-- what is right as far as a cap is right as far as a lower one
+module _ {site S : List ℕ} {cap cap′ : ℕ} (l : cap′ ≤ cap) where
+  pub lower : {sets made work : List ℕ} → Memo site S cap sets made work → Memo site S cap′ sets made work
+  lower m =
+      record {
+        free-right = m .free-right;
+        known-right = λ j h k. let r = m .known-right j h k in record { set = r .set; number = omega (arith, r .number) };
+      }
+
+-- the variable x has moved: a node that is still known is one in which x is not free
+pub moved : {site S sets sets′ made work : List ℕ} {cap x : ℕ} {P : Set} → length S ≤ tableBytes → x < variables → Memo site S cap sets made work
+    → Assigned sets sets′ x P → Memo site S cap sets′ made work
+moved {site} {S} {sets} {sets′} {x = x} short hx m a =
     record {
-      env-size = he;
-      fresh-size = hf;
-      work-size = hw;
-      kept = kept;
-      flags-right = record {
-        node = λ j h f.
-            either
-            (equal? j i)
-            (λ q. subst (λ (k : ℕ). setAt work′ k ≐ nodeSet site S (setAt env′) k) (sym q)
-            (λ s k. w .here s k ∙ e s k ∙ sym (env-same site S env env′ kept i s k)))
-            (λ q s k. w .others j q s k ∙ g .node j h f s k);
+      free-right = λ y j hy h. a .same-free y j hy (omega arith) ∙ m .free-right y j hy h;
+      known-right = λ j h k.
+          let was = sym (a .known-left j (omega arith)) ∙ k in
+          let bound : free x (treeAt (tableOf S) j) ≡ false = sym (m .free-right x j hx h) ∙ not-true (not-out _ (and-r (known sets j) _ was)) in
+          right-agrees site S j (valuation sets) (valuation sets′)
+          (λ v o s q. a .values v s q ∙ put-other (valuation sets) _ s (λ e. clash (subst (λ (u : ℕ). free u (treeAt (tableOf S) j) ≡ true) e o) bound))
+          (m .known-right j h (and-l _ _ was));
+    }
+  where
+    not-true : {b : Bool} → ¬ (b ≡ true) → b ≡ false
+    not-true {b} n = either (look b) (λ e. absurd (n e)) (λ e. e)
+
+-- node i's set is written, which changes no other set, and nothing is said of node i
+pub finish : {site S sets sets′ made′ work work′ : List ℕ} {cap i : ℕ} {P : Set} → Memo site S cap sets′ made′ work
+    → ((v : ℕ) → valuation sets′ v ≐ valuation sets v) → SetWritten work work′ i P → P ≐ nodeSet site S (valuation sets) i → Done site S cap sets sets′ made′ work′ i
+finish {site} {S} {sets} {sets′} {work′ = work′} {i = i} m values w e =
+    record {
+      memo = record {
+        free-right = m .free-right;
+        known-right = λ j h k.
+            let r = m .known-right j h k in
+            record {
+              set =
+                  either
+                  (equal? j i)
+                  (λ q. subst (λ (n : ℕ). setAt work′ n ≐ nodeSet site S (valuation sets′) n) (sym q)
+                  (λ s l. w .here s l ∙ e s l ∙ sym (set-agrees site S i (valuation sets) (valuation sets′) (λ v _. values v) s l)))
+                  (λ q s l. w .others j q s l ∙ r .set s l);
+              number = r .number;
+            };
       };
-      here = λ s k. w .here s k ∙ e s k;
+      values = values;
+      here = λ s l. w .here s l ∙ e s l;
     }
 
--- a node whose flag is set: its set is there already
-pub was-known : {site S rows env fresh work : List ℕ} {i : ℕ} → Evaluable site S rows env fresh work → 6 * i + 6 ≤ length S
-    → getD fresh i 0 ≡ 1 → Done site S env env fresh work i
-was-known {i = i} r h e =
+-- node i is known from now on, with the rounds made for it
+pub noted : {site S sets sets₁ sets₂ made₁ work₁ : List ℕ} {cap i : ℕ} (r : ℕ) → length S ≤ tableBytes → 6 * i + 6 ≤ length S → length made₁ ≡ tableNodes
+    → Done site S cap sets sets₁ made₁ work₁ i → Kept sets₁ sets₂ i → min r cap ≡ min (nodeRounds site S (valuation sets) i) cap
+    → Done site S cap sets sets₂ (set made₁ i r) work₁ i
+noted {site} {S} {sets} {sets₁} {sets₂} {made₁} {work₁} {cap} {i} r short hi hm d k e =
     record {
-      env-size = r .env-size;
-      fresh-size = r .fresh-size;
-      work-size = r .work-size;
-      kept = λ v s k. refl;
-      flags-right = r .flags-right;
-      here = r .flags-right .node i h e;
-    }
-
--- a leaf's set is written
-pub leaf-done : {site S rows env fresh work work′ : List ℕ} {i : ℕ} → Evaluable site S rows env fresh work → length work′ ≡ length work
-    → SetWritten work work′ i (nodeSet site S (setAt env) i) → Done site S env env fresh work′ i
-leaf-done r hw w = finish (r .env-size) (r .fresh-size) (hw ∙ r .work-size) (λ v s k. refl) (r .flags-right) w (λ s k. refl)
-
--- the flag of node i is set, once its set is written
-pub flagged : {site S env env′ fresh work : List ℕ} {i : ℕ} → Done site S env env′ fresh work i → Done site S env env′ (set fresh i 1) work i
-flagged {site} {S} {env} {env′} {fresh} {work} {i} d =
-    record {
-      env-size = d .env-size;
-      fresh-size = simp length-set (d .fresh-size);
-      work-size = d .work-size;
-      kept = d .kept;
-      flags-right = record {
-        node = λ j h f.
+      memo = record {
+        free-right = λ y j hy h. k .same-free y j hy (omega arith) ∙ d .memo .free-right y j hy h;
+        known-right = λ j h q.
             either
             (equal? j i)
-            (λ q. subst (λ (k : ℕ). setAt work k ≐ nodeSet site S (setAt env′) k) (sym q)
-            (λ s k. d .here s k ∙ sym (env-same site S env env′ (d .kept) i s k)))
-            (λ q. d .flags-right .node j h (sym (getD-set-other fresh i j 1 0 q) ∙ f));
+            (λ s. subst (λ (n : ℕ). Right site S (valuation sets₂) cap work₁ n (getD (set made₁ i r) n 0)) (sym s)
+            (record {
+              set = λ t l. d .here t l ∙ sym (set-agrees site S i (valuation sets) (valuation sets₂) (λ v _. values v) t l);
+              number = rw (getD-set-same made₁ i r 0 (omega arith))
+                  (e ∙ ap (λ (n : ℕ). min n cap) (sym (number-agrees site S i (valuation sets) (valuation sets₂) (λ v _. values v))));
+            }))
+            (λ n. rw (getD-set-other made₁ i j r 0 n)
+            (right-agrees site S j (valuation sets₁) (valuation sets₂) (λ v _. k .values v)
+            (d .memo .known-right j h (sym (k .known-now j (omega arith) ∙ rw (ne-same n) (or-false (known sets₁ j))) ∙ q))));
       };
+      values = values;
       here = d .here;
     }
+  where
+    values : (v : ℕ) → valuation sets₂ v ≐ valuation sets v
+    values v s h = k .values v s h ∙ d .values v s h
 
--- what a call leaves is what the next call asks
-pub again : {site S rows env env₁ fresh fresh₁ work work₁ : List ℕ} {i : ℕ} → Evaluable site S rows env fresh work → Done site S env env₁ fresh₁ work₁ i
-    → Evaluable site S rows env₁ fresh₁ work₁
-again r d =
+-- a node that is known: its set is there already, and so is its number
+pub was-known : {site S sets made work : List ℕ} {limit cap i r : ℕ} → Evaluable site S limit cap sets made work → 6 * i + 6 ≤ length S
+    → known sets i ≡ true → r ≡ min (getD made i 0) cap → Evaluated site S limit cap sets sets made work i r
+was-known {i = i} e h k q =
+    let right = e .memo .known-right i h k in
     record {
-      site-size = r .site-size;
-      few = r .few;
-      fits = r .fits;
-      rows = r .rows;
-      free-size = r .free-size;
-      env-size = d .env-size;
-      fresh-size = d .fresh-size;
-      work-size = d .work-size;
-      flags-right = d .flags-right;
+      sized = e .sized;
+      number = omega (arith, right .number);
+      done = λ l. record { memo = lower (omega arith) (e .memo); values = λ v s p. refl; here = right .set };
     }
 
--- what a call has left, under the names that its buffers have behind the branch
-pub done-same : {site S env env₁ env₂ fresh₁ fresh₂ work₁ work₂ : List ℕ} {i : ℕ} → Done site S env env₁ fresh₁ work₁ i
-    → env₂ ≡ env₁ → fresh₂ ≡ fresh₁ → work₂ ≡ work₁ → Done site S env env₂ fresh₂ work₂ i
-done-same d e f w = rw (e, f, w) d
+-- the budget that is left
+pub rest-budget : {limit cap limit′ cap′ r : ℕ} → Budgeted limit cap → r ≤ limit → limit′ ≡ limit - r → cap′ ≡ cap - r → Budgeted limit′ cap′
+rest-budget b l el ec = record { from = omega (arith, b .from); to = omega (arith, b .to); few = omega (arith, b .few) }
 
--- what the second of two calls leaves holds from the first call on
-pub since : {site S env env₁ env₂ fresh₁ fresh₂ work₁ work₂ : List ℕ} {i j : ℕ} → Done site S env env₁ fresh₁ work₁ i
-    → Done site S env₁ env₂ fresh₂ work₂ j → Done site S env env₂ fresh₂ work₂ j
-since {site} {S} {env} {env₁} {j = j} d d₂ =
+-- a leaf's set is written
+pub leaf-done : {site S sets made work work′ : List ℕ} {limit cap i r : ℕ} → Evaluable site S limit cap sets made work → length work′ ≡ length work
+    → SetWritten work work′ i (nodeSet site S (valuation sets) i) → nodeRounds site S (valuation sets) i ≡ 0 → r ≡ 0
+    → Evaluated site S limit cap sets sets made work′ i r
+leaf-done e hw w none q =
     record {
-      env-size = d₂ .env-size;
-      fresh-size = d₂ .fresh-size;
-      work-size = d₂ .work-size;
-      kept = λ v s k. d₂ .kept v s k ∙ d .kept v s k;
-      flags-right = d₂ .flags-right;
-      here = λ s k. d₂ .here s k ∙ env-same site S env env₁ (d .kept) j s k;
+      sized = record { sets-size = e .sized .sets-size; made-size = e .sized .made-size; work-size = hw ∙ e .sized .work-size };
+      number = omega arith;
+      done = λ l. finish (lower (omega arith) (e .memo)) (λ v s p. refl) w (λ s p. refl);
     }
+
+-- a call, which made a rounds and is within the limit; and the call after it, with what is left of the budget
+module _ {site S sets sets₁ made₁ work₁ : List ℕ} {limit cap limit′ cap′ i a : ℕ} (v : Evaluated site S limit cap sets sets₁ made₁ work₁ i a)
+    (l : a ≤ limit) (el : limit′ ≡ limit - a) (ec : cap′ ≡ cap - a) where
+  -- what the first leaves is what the second asks
+  pub again : {made work : List ℕ} → Evaluable site S limit cap sets made work → Evaluable site S limit′ cap′ sets₁ made₁ work₁
+  again e =
+      record {
+        site-size = e .site-size;
+        short = e .short;
+        fits = e .fits;
+        even-rule = e .even-rule;
+        budget = rest-budget (e .budget) l el ec;
+        sized = v .sized;
+        memo = lower (omega arith) (v .done l .memo);
+      }
+
+  -- what the second answers and leaves, said of the sets that were there before the first
+  module _ {sets₂ made₂ work₂ : List ℕ} {j b : ℕ} (w : Evaluated site S limit′ cap′ sets₁ sets₂ made₂ work₂ j b) where
+    pub second-number : b ≡ min (nodeRounds site S (valuation sets) j) (cap - a)
+    second-number =
+        let same = number-agrees site S j (valuation sets) (valuation sets₁) (λ u _. v .done l .values u) in
+        omega (arith, w .number, same)
+
+    pub second-done : a + b ≤ limit → Done site S (cap - (a + b)) sets sets₂ made₂ work₂ j
+    second-done h =
+        let d = v .done l in
+        let d₂ = w .done (omega arith) in
+        record {
+          memo = lower (omega arith) (d₂ .memo);
+          values = λ u s k. d₂ .values u s k ∙ d .values u s k;
+          here = λ s k. d₂ .here s k ∙ set-agrees site S j (valuation sets) (valuation sets₁) (λ u _. d .values u) s k;
+        }
 
 -- the set P that was read from the work buffer after a child's call is the child's set
-pub child : {site S env env₁ fresh₁ work₁ : List ℕ} {l j : ℕ} {P : Set} → Done site S env env₁ fresh₁ work₁ l → P ≐ setAt work₁ l → l ≡ j
-    → P ≐ nodeSet site S (setAt env) j
-child {site} {S} {env} {P = P} d e q =
-    subst (λ (k : ℕ). P ≐ nodeSet site S (setAt env) k) q (λ s h. e s h ∙ d .here s h)
+pub child : {site S sets sets₁ made₁ work₁ : List ℕ} {cap l j : ℕ} {P : Set} → Done site S cap sets sets₁ made₁ work₁ l → P ≐ setAt work₁ l → l ≡ j
+    → P ≐ nodeSet site S (valuation sets) j
+child {site} {S} {sets} {P = P} d e q =
+    subst (λ (k : ℕ). P ≐ nodeSet site S (valuation sets) k) q (λ s h. e s h ∙ d .here s h)

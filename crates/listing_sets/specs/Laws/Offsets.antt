@@ -2,20 +2,19 @@
 use mathlib.Core.Path.{_≡_, refl, _∙_, ap}
 use mathlib.Core.Logic.{_≢_}
 use mathlib.Core.List.{List}
-use mathlib.Core.Bool.{true, false}
 use Prim.Native.Nat.{ℕ, _+_, _-_, _*_, _/_, _%_, _≤_, _<_}
 use native.Mathlib.Omega.{arith}
-use lib.ListN.{length, getD, set, take, drop, length-drop}
-use lib.Seq.{length-take-le, getD-set-same, getD-set-other}
+use lib.ListN.{length, getD, take, drop, length-drop}
+use lib.Seq.{length-take-le}
 use Rattle.finite.specs.Tests.{bit, below}
 use Rattle.finite.specs.Laws.Bools.{either, look}
-use Rattle.finite.specs.Laws.Below.{equal?, below-out, not-below}
+use Rattle.finite.specs.Laws.Below.{below-in, below-out, not-below}
 use Rattle.bitset.specs.Set.{setBytes, setSlots, has}
 use Rattle.bitset.specs.Laws.Part.{has-part, back, back-below, back-above, back-has}
-use Rattle.limits.specs.Limits.{slots}
+use Rattle.limits.specs.Limits.{slots, variables}
 use Rattle.semantics.specs.Holds.{Set}
 use Rattle.semantics.specs.Laws.Agree.{_≐_}
-use Rattle.listing_sets.specs.Offsets.{setAt, SetWritten, Cleared}
+use Rattle.listing_sets.specs.Offsets.{setAt, valuation, SetWritten}
 
 pub slot-in : {s : ℕ} → s < slots → s < setSlots
 unfolding slots
@@ -55,26 +54,12 @@ module _ (b : List ℕ) (j : ℕ) where
               ap (λ (x : ℕ). bit x ((setSlots * i + s) % 8)) (other i ne ((setSlots * i + s) / 8) (omega arith) (omega arith));
         }
 
--- the flags of the first j nodes are done: at the start, after a node in which the variable is free, and after one in which it is not
-module _ (free fresh₀ : List ℕ) (x : ℕ) where
-  pub cleared-none : Cleared free fresh₀ fresh₀ 0 x
-  cleared-none = record { node = λ i h. absurd (omega arith); rest = λ i h. refl }
+-- the valuation has the set of each of the variables, and no slot for others
+pub valuation-is : (b : List ℕ) (v : ℕ) → v < variables → (s : ℕ) → valuation b v s ≡ setAt b v s
+unfolding valuation
+valuation-is b v h s = rw (below-in v variables h) refl
 
-  module _ (fresh : List ℕ) (j : ℕ) (c : Cleared free fresh₀ fresh j x) where
-    pub cleared-node : j < length fresh → bit (getD free j 0) x ≡ true → Cleared free fresh₀ (set fresh j 0) (j + 1) x
-    cleared-node h e =
-        record {
-          node = λ i l.
-              either
-              (equal? i j)
-              (λ q. rw (q, getD-set-same fresh j 0 0 h, e) refl)
-              (λ q. getD-set-other fresh j i 0 0 q ∙ c .node i (omega arith));
-          rest = λ i l. getD-set-other fresh j i 0 0 (λ q. omega arith) ∙ c .rest i (omega arith);
-        }
-
-    pub cleared-other : bit (getD free j 0) x ≡ false → Cleared free fresh₀ fresh (j + 1) x
-    cleared-other e =
-        record {
-          node = λ i l. either (equal? i j) (λ q. rw (q, e) (c .rest j (omega arith))) (λ q. c .node i (omega arith));
-          rest = λ i l. c .rest i (omega arith);
-        }
+pub valuation-same : (b b′ : List ℕ) (v : ℕ) → (v < variables → setAt b′ v ≐ setAt b v) → valuation b′ v ≐ valuation b v
+unfolding valuation
+valuation-same b b′ v e s h =
+    either (look (below v variables)) (λ q. rw q (e (below-out v variables q) s h)) (λ q. rw q refl)

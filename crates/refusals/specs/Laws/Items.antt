@@ -1,4 +1,4 @@
--- The items one by one: item 1, two checks one after the other, and the numbers of the items.
+-- The items one by one: items 1, 15 and 16, two checks one after the other, and the numbers of the items.
 use mathlib.Core.Path.{_≡_, refl}
 use mathlib.Core.List.{List}
 use mathlib.Core.Bool.{Bool, true, false, not, cond}
@@ -8,7 +8,8 @@ use native.Mathlib.Omega.{arith}
 use lib.ListN.{length}
 use Rattle.finite.specs.Tests.{same, below, first}
 use Rattle.finite.specs.Laws.Bools.{either, look}
-use Rattle.finite.specs.Laws.Below.{same-eq, eq-same, ne-same}
+use Rattle.finite.specs.Laws.Below.{same-eq, eq-same, ne-same, below-in, below-not, not-below}
+use Rattle.limits.specs.Limits.{highestLimit}
 use Rattle.verdict.specs.Laws.{refused}
 use Rattle.verdict.specs.Verdict.{reasonOf, _then_}
 use Rattle.verdict.specs.declared.Verdict.{Verdict}
@@ -27,7 +28,7 @@ use Rattle.sheet.specs.Refusal.{faulty, sized, sheetVerdict}
 use Rattle.applying.specs.Stuck.{stuckAt}
 use Rattle.applying.specs.Refusal.{goesVerdict}
 use Rattle.rewriting.specs.Refusal.{tooLong, lengthVerdict}
-use Rattle.refusals.specs.Refusal.{lastItem, bufferVerdict}
+use Rattle.refusals.specs.Refusal.{lastItem, bufferVerdict, limitVerdict, roundsVerdict}
 
 -- ---- item 1
 
@@ -46,6 +47,46 @@ buffer-out len stated = go (same len stated) refl
     go : (b : Bool) → same len stated ≡ b → cond (not b) (Refused 1 0) Accepted ≡ Accepted → len ≡ stated
     go true e p = same-eq e
     go false e p = refused p
+
+-- ---- items 16 and 15: the number n is over the bound m
+
+not-met : (m n item : ℕ) → n ≤ m → cond (below m n) (Refused item 0) Accepted ≡ Accepted
+not-met m n item h = rw (below-not m n h)
+
+met : (m n item : ℕ) → m < n → cond (below m n) (Refused item 0) Accepted ≡ Refused item 0
+met m n item h = rw (below-in m n h)
+
+not-over : (m n item : ℕ) → cond (below m n) (Refused item 0) Accepted ≡ Accepted → n ≤ m
+not-over m n item e = either (look (below m n)) (λ g. refused (rw g at e)) (λ g. not-below m n g)
+
+pub limit-in : {limit : ℕ} → limit ≤ highestLimit → limitVerdict limit ≡ Accepted
+unfolding limitVerdict
+limit-in h = not-met _ _ 16 (omega (arith, h))
+
+pub limit-not : {limit : ℕ} → highestLimit < limit → limitVerdict limit ≡ Refused 16 0
+unfolding limitVerdict
+limit-not h = met _ _ 16 (omega (arith, h))
+
+pub limit-out : (limit : ℕ) → limitVerdict limit ≡ Accepted → limit ≤ highestLimit
+unfolding limitVerdict
+limit-out limit e = not-over highestLimit limit 16 e
+
+pub rounds-in : {limit n : ℕ} → n ≤ limit → roundsVerdict limit n ≡ Accepted
+unfolding roundsVerdict
+rounds-in h = not-met _ _ 15 (omega (arith, h))
+
+pub rounds-not : {limit n : ℕ} → limit < n → roundsVerdict limit n ≡ Refused 15 0
+unfolding roundsVerdict
+rounds-not h = met _ _ 15 (omega (arith, h))
+
+pub rounds-out : (limit n : ℕ) → roundsVerdict limit n ≡ Accepted → n ≤ limit
+unfolding roundsVerdict
+rounds-out limit n e = not-over limit n 15 e
+
+-- there is no other item to meet
+pub rounds-else : (limit n : ℕ) → reasonOf (roundsVerdict limit n) ≢ 15 → roundsVerdict limit n ≡ Accepted
+unfolding roundsVerdict
+rounds-else limit n h = either (look (below limit n)) (λ e. absurd (h (rw e))) (λ e. rw e)
 
 -- ---- the chain
 
@@ -73,6 +114,14 @@ numbered-then (Refused n p) w h k = h
 pub numbered-buffer : (len stated : ℕ) → Numbered (bufferVerdict len stated)
 unfolding bufferVerdict
 numbered-buffer len stated = numbered-item (not (same len stated)) 1 0 Accepted (omega arith) (omega arith) numbered-accepted
+
+pub numbered-limit : (limit : ℕ) → Numbered (limitVerdict limit)
+unfolding limitVerdict
+numbered-limit limit = numbered-item (below highestLimit limit) 16 0 Accepted (omega arith) (omega arith) numbered-accepted
+
+pub numbered-rounds : (limit n : ℕ) → Numbered (roundsVerdict limit n)
+unfolding roundsVerdict
+numbered-rounds limit n = numbered-item (below limit n) 15 0 Accepted (omega arith) (omega arith) numbered-accepted
 
 pub numbered-site : (S : List ℕ) → Numbered (siteVerdict S)
 unfolding siteVerdict

@@ -1,7 +1,8 @@
--- The set of a condition, computed on a small site: only the first slots have links, so a diamond looks at these alone.
+-- The set of a condition, and the rounds that listing it makes, computed on a small site: only the first slots have links, so a diamond looks at
+-- these alone.
 use mathlib.Core.Path.{_≡_, refl, _∙_, ap, ap₂, fun-ext}
 use mathlib.Core.Bool.{Bool, true, not, _&&_, _||_, cond}
-use Prim.Native.Nat.{ℕ, zero, suc, _≤_, _<_}
+use Prim.Native.Nat.{ℕ, zero, suc, _+_, _≤_, _<_}
 use native.Mathlib.Omega.{arith}
 use Rattle.finite.specs.Tests.{same, below, any, all}
 use Rattle.finite.specs.Laws.Bools.{either, look, both, and-l, or-out, or-l, not-out}
@@ -12,6 +13,7 @@ use Rattle.semantics.specs.Holds.{Set, Env, put, Model, step}
 use Rattle.semantics.specs.Edit.{Valid}
 use Rattle.semantics.specs.Laws.FixedPoint.{iter, none, full}
 use Rattle.semantics.specs.Laws.Eval.{eval}
+use Rattle.rounds.specs.Laws.Count.{loop, enough, rounds}
 
 -- the slots that the examples use
 unfoldable pub span : ℕ
@@ -54,18 +56,18 @@ boxIn M (against m) S = allNext (step M (against m)) S
 boxIn M every S = always (all slots S)
 
 -- k rounds of F from S, slot by slot: the rounds before are not made where a slot does not ask for them
-unfoldable pub rounds : ℕ → (Set → Set) → Set → Set
-rounds zero F S x = S x
-rounds (suc k) F S x = F (λ y. rounds k F S y) x
+unfoldable pub iterAt : ℕ → (Set → Set) → Set → Set
+iterAt zero F S x = S x
+iterAt (suc k) F S x = F (λ y. iterAt k F S y) x
 
-rounds-iter : (k : ℕ) (F : Set → Set) (S : Set) → rounds k F S ≡ iter k F S
-unfolding rounds iter
-rounds-iter zero F S = refl
-rounds-iter (suc k) F S = ap F (rounds-iter k F S)
+at-iter : (k : ℕ) (F : Set → Set) (S : Set) → iterAt k F S ≡ iter k F S
+unfolding iterAt iter
+at-iter zero F S = refl
+at-iter (suc k) F S = ap F (at-iter k F S)
 
-loop : (S : Set) (F G : Set → Set) → ((T : Set) (x : ℕ) → F T x ≡ G T x) → (s : ℕ) → rounds slots F S s ≡ iter slots G S s
-loop S F G h s =
-    ap (λ (T : Set). T s) (rounds-iter slots F S) ∙ ap (λ (H : Set → Set). iter slots H S s) (fun-ext (λ T. fun-ext (h T)))
+comes-to : (S : Set) (F G : Set → Set) → ((T : Set) (x : ℕ) → F T x ≡ G T x) → (s : ℕ) → iterAt slots F S s ≡ iter slots G S s
+comes-to S F G h s =
+    ap (λ (T : Set). T s) (at-iter slots F S) ∙ ap (λ (H : Set → Set). iter slots H S s) (fun-ext (λ T. fun-ext (h T)))
 
 -- the set of a condition, by those operations
 unfoldable pub quick : Model → Env → Form → Set
@@ -79,9 +81,25 @@ quick M ρ (or φ ψ) = orIn (quick M ρ φ) (quick M ρ ψ)
 quick M ρ (and φ ψ) = andIn (quick M ρ φ) (quick M ρ ψ)
 quick M ρ (dia w φ) = diaIn M w (quick M ρ φ)
 quick M ρ (box w φ) = boxIn M w (quick M ρ φ)
-quick M ρ (mu v φ) = rounds slots (λ S. quick M (put ρ v S) φ) none
-quick M ρ (nu v φ) = rounds slots (λ S. quick M (put ρ v S) φ) full
+quick M ρ (mu v φ) = iterAt slots (λ S. quick M (put ρ v S) φ) none
+quick M ρ (nu v φ) = iterAt slots (λ S. quick M (put ρ v S) φ) full
 quick M ρ (slot k) = at k
+
+-- the rounds that listing a condition makes, by its sets so computed
+unfoldable pub quickRounds : Model → Env → Form → ℕ
+quickRounds M ρ top = 0
+quickRounds M ρ here = 0
+quickRounds M ρ (label p) = 0
+quickRounds M ρ (name n) = 0
+quickRounds M ρ (var v) = 0
+quickRounds M ρ (neg φ) = quickRounds M ρ φ
+quickRounds M ρ (or φ ψ) = quickRounds M ρ φ + quickRounds M ρ ψ
+quickRounds M ρ (and φ ψ) = quickRounds M ρ φ + quickRounds M ρ ψ
+quickRounds M ρ (dia w φ) = quickRounds M ρ φ
+quickRounds M ρ (box w φ) = quickRounds M ρ φ
+quickRounds M ρ (mu v φ) = loop enough (λ S. quick M (put ρ v S) φ) (λ S. quickRounds M (put ρ v S) φ) none
+quickRounds M ρ (nu v φ) = loop enough (λ S. quick M (put ρ v S) φ) (λ S. quickRounds M (put ρ v S) φ) full
+quickRounds M ρ (slot k) = 0
 
 -- the present slots are among the first
 unfoldable pub fewSlots : Model → Bool
@@ -157,7 +175,31 @@ module _ (M : Model) (valid : Valid M) (few : fewSlots M ≡ true) where
   quick-eval (box w φ) ρ s =
       box-in w (quick M ρ φ) s ∙ all-cong slots _ _ (λ t _. ap (λ b. not (step M w s t) || b) (quick-eval φ ρ t))
   quick-eval (mu v φ) ρ s =
-      loop none (λ S. quick M (put ρ v S) φ) (λ S. eval M (put ρ v S) φ) (λ S x. quick-eval φ (put ρ v S) x) s
+      comes-to none (λ S. quick M (put ρ v S) φ) (λ S. eval M (put ρ v S) φ) (λ S x. quick-eval φ (put ρ v S) x) s
   quick-eval (nu v φ) ρ s =
-      loop full (λ S. quick M (put ρ v S) φ) (λ S. eval M (put ρ v S) φ) (λ S x. quick-eval φ (put ρ v S) x) s
+      comes-to full (λ S. quick M (put ρ v S) φ) (λ S. eval M (put ρ v S) φ) (λ S x. quick-eval φ (put ρ v S) x) s
   quick-eval (slot k) ρ s = refl
+
+  -- a loop's rounds, by its body's sets and the rounds inside
+  loop-rounds : (φ : Form) (ρ : Env) (v : ℕ) (start : Set) → ((ρ : Env) → quickRounds M ρ φ ≡ rounds M ρ φ)
+      → loop enough (λ S. quick M (put ρ v S) φ) (λ S. quickRounds M (put ρ v S) φ) start
+      ≡ loop enough (λ S. eval M (put ρ v S) φ) (λ S. rounds M (put ρ v S) φ) start
+  loop-rounds φ ρ v start same =
+      ap₂ (λ (F : Set → Set) (g : Set → ℕ). loop enough F g start)
+      (fun-ext (λ S. fun-ext (λ x. quick-eval φ (put ρ v S) x))) (fun-ext (λ S. same (put ρ v S)))
+
+  pub quick-rounds : (φ : Form) (ρ : Env) → quickRounds M ρ φ ≡ rounds M ρ φ
+  unfolding quickRounds rounds
+  quick-rounds top ρ = refl
+  quick-rounds here ρ = refl
+  quick-rounds (label p) ρ = refl
+  quick-rounds (name n) ρ = refl
+  quick-rounds (var v) ρ = refl
+  quick-rounds (neg φ) ρ = quick-rounds φ ρ
+  quick-rounds (or φ ψ) ρ = ap₂ _+_ (quick-rounds φ ρ) (quick-rounds ψ ρ)
+  quick-rounds (and φ ψ) ρ = ap₂ _+_ (quick-rounds φ ρ) (quick-rounds ψ ρ)
+  quick-rounds (dia w φ) ρ = quick-rounds φ ρ
+  quick-rounds (box w φ) ρ = quick-rounds φ ρ
+  quick-rounds (mu v φ) ρ = loop-rounds φ ρ v none (quick-rounds φ)
+  quick-rounds (nu v φ) ρ = loop-rounds φ ρ v full (quick-rounds φ)
+  quick-rounds (slot k) ρ = refl

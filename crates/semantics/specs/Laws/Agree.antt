@@ -18,7 +18,7 @@ S ≐ S′ = (x : ℕ) → x < slots → S x ≡ S′ x
 
 infix 4 _≐_
 -- two valuations with the same slots for each variable that occurs free
-abbrev Agrees : Form → Env → Env → Type 0
+abbrev pub Agrees : Form → Env → Env → Type 0
 Agrees φ ρ ρ′ = (b : Bool) (v : ℕ) → occ b v φ ≡ true → ρ v ≐ ρ′ v
 
 -- rounds of two maps that agree on sets with the same slots
@@ -27,7 +27,7 @@ unfolding iter
 iter-agree F F′ h S S′ e zero = e
 iter-agree F F′ h S S′ e (suc k) = h _ _ (iter-agree F F′ h S S′ e k)
 
-under : (φ : Form) (v : ℕ) (ρ ρ′ : Env) → ((b : Bool) (u : ℕ) → (not (same v u) && occ b u φ) ≡ true → ρ u ≐ ρ′ u)
+pub under : (φ : Form) (v : ℕ) (ρ ρ′ : Env) → ((b : Bool) (u : ℕ) → (not (same v u) && occ b u φ) ≡ true → ρ u ≐ ρ′ u)
     → (S S′ : Set) → S ≐ S′ → Agrees φ (put ρ v S) (put ρ′ v S′)
 unfolding put
 under φ v ρ ρ′ h S S′ e b u o x k =
@@ -36,12 +36,17 @@ under φ v ρ ρ′ h S S′ e b u o x k =
     (λ q. rw (q, put) (e x k))
     (λ q. rw (q, put) (h b u (and-in (apart u v q) o) x k))
 
-twice : (b : Bool) (v : ℕ) (φ : Form) → occ b v φ ≡ true → occ (not (not b)) v φ ≡ true
+pub twice : (b : Bool) (v : ℕ) (φ : Form) → occ b v φ ≡ true → occ (not (not b)) v φ ≡ true
 twice true v φ o = o
 twice false v φ o = o
 
+-- the free variables are those with an occurrence
+pub agrees-free : (φ : Form) (ρ ρ′ : Env) → ((v : ℕ) → free v φ ≡ true → ρ v ≐ ρ′ v) → Agrees φ ρ ρ′
+unfolding free
+agrees-free φ ρ ρ′ h b v o = h v (either (look b) (λ e. or-l _ _ (rw e at o)) (λ e. or-r (occ true v φ) _ (rw e at o)))
+
 module _ (M : Model) where
-  agree : (φ : Form) (ρ ρ′ : Env) → Agrees φ ρ ρ′ → eval M ρ φ ≐ eval M ρ′ φ
+  pub agree : (φ : Form) (ρ ρ′ : Env) → Agrees φ ρ ρ′ → eval M ρ φ ≐ eval M ρ′ φ
   unfolding eval occ
   agree top ρ ρ′ h s k = refl
   agree here ρ ρ′ h s k = refl
@@ -63,8 +68,7 @@ module _ (M : Model) where
 
   -- only the slots of the free variables' sets count
   pub eval-agree : (φ : Form) (ρ ρ′ : Env) → ((v : ℕ) → free v φ ≡ true → ρ v ≐ ρ′ v) → eval M ρ φ ≐ eval M ρ′ φ
-  unfolding free
-  eval-agree φ ρ ρ′ h = agree φ ρ ρ′ (λ b v o. h v (either (look b) (λ e. or-l _ _ (rw e at o)) (λ e. or-r (occ true v φ) _ (rw e at o))))
+  eval-agree φ ρ ρ′ h = agree φ ρ ρ′ (agrees-free φ ρ ρ′ h)
 
   -- of the set of one variable only the slots count
   pub eval-put : (φ : Form) (ρ : Env) (v : ℕ) (S S′ : Set) → S ≐ S′ → eval M (put ρ v S) φ ≐ eval M (put ρ v S′) φ

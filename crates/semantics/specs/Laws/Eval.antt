@@ -50,7 +50,7 @@ evenTree (slot k) = true
 
 module _ (M : Model) where
   -- the map that a body is to its variable's set grows, once the body's value is what holds
-  body-grows : (φ : Form) → ((ρ : Env) (s : ℕ) → s < slots → (eval M ρ φ s ≡ true) ↔ Holds M ρ φ s)
+  pub body-grows : (φ : Form) → ((ρ : Env) (s : ℕ) → s < slots → (eval M ρ φ s ≡ true) ↔ Holds M ρ φ s)
       → (ρ : Env) (v : ℕ) → not (occ false v φ) ≡ true → (S S′ : Set) → S ⊆ S′ → eval M (put ρ v S) φ ⊆ eval M (put ρ v S′) φ
   body-grows φ ih ρ v even S S′ h x k p =
       ih _ x k .1 (mono-put M φ ρ v (no-true (not-out _ even)) S S′ h x k (ih _ x k .0 p))
