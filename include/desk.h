@@ -25,21 +25,22 @@
  *                  second has longer paths: DS, for instance, puts three nodes on the path for each diamond
  *   desk_through   31 KB, plus 110 bytes for each node on the longest path of the table; at most 42 KB was measured, for a path of 249 nodes
  *
- * Rounds. A round is one evaluation of the body of a mu or nu. A mu starts from the empty set, a nu from the set of all slots, and both go on until
- * the body gives back the set that it was given; this last evaluation counts too. The rounds of a list are those of the whole tree of its condition:
- * both operands of an or or an and are evaluated, whatever the other is; a loop that is shared counts once for each path to it from the last node;
- * a loop inside another starts again, and counts, in every round of the other, also if it does not read the other's variable; a loop that the last
- * node does not reach counts 0. desk_list and desk_job take a limit on this number, from 0 to DESK_LIMIT_MAX, and their answers carry the number:
+ * Rounds. A round is one evaluation of the body of a mu or nu. A mu starts from the empty set, a nu from the set of all slots, and both go on
+ * until the body gives back the set that it was given; this last evaluation counts too. The rounds of a list are those of the whole tree of its
+ * condition: both operands of an or or an and are evaluated, whatever the other is; a loop that is shared counts once for each path to it from the
+ * last node; a loop inside another starts again, and counts, in every round of the other, also if it does not read the other's variable; a loop
+ * that the last node does not reach counts 0. desk_list and desk_job take a limit on this number, from 0 to DESK_LIMIT_MAX, and their answers carry
+ * the number:
  *
  * - Rounds up to the limit are answered, more are refused with DESK_ROUNDS, and this is the last test of all.
- * - An answer or a refusal that is not DESK_ROUNDS is the same under each larger limit up to DESK_LIMIT_MAX: every number and every byte.
- * - Each of the two lists of a job has the whole limit for itself. The list of the rewritten table never has fewer rounds than the other, and has
- *   more where an edit is AT or DT1, whose blocks have the node below a diamond or a box twice.
+ * - An answer, or a refusal that is not DESK_ROUNDS, is the same under each larger limit up to DESK_LIMIT_MAX: every number and every byte.
+ * - Each of the two lists of a job has the whole limit for itself. The rewritten table's list has as many rounds as the other, or more: the blocks of
+ *   AT and DT1 have the node below a diamond or a box twice, so each of these edits can double the rounds of the loops below it.
  *
- * Time. The rounds of nested loops multiply, since each loop makes up to DESK_SLOT_COUNT + 1 of them. The limit bounds them, and with them the time: a
+ * Time. The rounds of nested loops multiply, since each loop makes up to DESK_SLOT_COUNT + 1 of them. The limit bounds them, and so the time: a
  * round evaluates each node of its body at most once, and what does not depend on a variable that has changed is not evaluated again, though it
- * counts. On a chain of 256 slots one loop took 0.1 ms and two nested loops, 66,000 rounds, took 24 ms. If conditions come from strangers, give a
- * limit that suits your time: a body of 2,000 diamonds takes up to half a millisecond in each round.
+ * counts. On a chain of 256 slots one loop took 0.1 ms and two nested loops, 66,000 rounds, took 24 ms. A round can take far longer: with 2,000
+ * diamonds in the body, on a site with every link, about a millisecond. If conditions come from strangers, give a limit that suits your time.
  */
 #ifndef DESK_H
 #define DESK_H

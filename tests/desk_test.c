@@ -2052,14 +2052,14 @@ static void try_limit_order(void)
 static void try_rounds(void)
 {
     try_counted();
-    try_paths();
-    try_stacks();
-    try_longest_loop();
-    try_million();
-    try_nested();
-    try_forked();
     try_rewritten_paths();
     try_limit_order();
+    try_paths();
+    try_longest_loop();
+    try_million();
+    try_stacks();
+    try_nested();
+    try_forked();
 }
 
 static void *try_known_answers(void *unused)

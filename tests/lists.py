@@ -593,8 +593,8 @@ def nested(depth):
 
 
 def forked(depth):
-    """Both loops over what is below, a mu and a nu of one variable, which read the variable of the loops around them: all is evaluated afresh for each,
-    and a list that goes on after its limit does not come to an end."""
+    """Both loops over what is below, a mu and a nu of one variable, which read the variable of the loops around them: all is evaluated afresh for
+    each, and a list that goes on after its limit does not come to an end."""
     nodes = Nodes([(4, 0, 0, 0), (4, 1, 0, 0)])
     last = 0
     for k in range(1, depth + 1):

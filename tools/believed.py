@@ -20,6 +20,7 @@ ROOTS = [
     "crates/demands/specs/Demands.antt",
     "crates/demands/specs/Through.antt",
     "crates/demands/specs/Job.antt",
+    "crates/demands/specs/Rounds.antt",
     "crates/job_text/specs/Text.antt",
 ]
 

@@ -18,7 +18,8 @@ ghost use Rattle.condition.specs.Refusal.{conditionVerdict};
 ghost use Rattle.even_rule.specs.Free.{noMasks};
 ghost use Rattle.sheet.specs.Refusal.{sheetVerdict};
 ghost use Rattle.limits.specs.Limits.{tableBytes, highestLimit};
-ghost use Rattle.listing.specs.Listed.{workBytes, Within};
+ghost use Rattle.listing.specs.Listed.{workBytes};
+ghost use Rattle.listing.specs.Within.{Within};
 ghost use Rattle.job_steps.specs.Steps.{PiecesJudged, Changed};
 
 // Items 7 to 10 of the condition, then 11 and 12 of the sheet.

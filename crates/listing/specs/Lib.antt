@@ -1,5 +1,7 @@
 -- What listing answers.
 pub mod Listed
+-- what it promises its callers
+pub mod Within
 -- what the evaluator keeps
 pub mod State
 -- what is proved of them

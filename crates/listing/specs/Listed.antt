@@ -1,10 +1,9 @@
--- What listing a condition answers: the set of the slots where it holds, how many they are, and how many rounds were made. docs/SPEC.md, "The
--- condition".
+-- What listing a condition answers: the set of the slots where it holds, and how many they are. docs/SPEC.md, "The condition".
 use mathlib.Core.Path.{_≡_}
 use mathlib.Core.Logic.{_↔_}
 use mathlib.Core.List.{List}
 use mathlib.Core.Bool.{true}
-use Prim.Native.Nat.{ℕ, suc, _*_, _≤_, _<_, min}
+use Prim.Native.Nat.{ℕ, _*_, _<_}
 use lib.ListN.{length}
 use Rattle.finite.specs.Tests.{count}
 use Rattle.finite.specs.Bytes.{Bytes}
@@ -12,7 +11,6 @@ use Rattle.bitset.specs.Set.{setBytes, has}
 use Rattle.limits.specs.Limits.{slots, tableNodes}
 use Rattle.semantics.specs.Form.{Form}
 use Rattle.semantics.specs.Holds.{Env, Model, Holds}
-use Rattle.rounds.specs.Makes.{Makes}
 use Rattle.listing.specs.declared.Found.{Found}
 
 -- how many bytes the work buffer has: a set for each node of a table
@@ -30,12 +28,3 @@ pub record Listed (M : Model) (φ : Form) (set : List ℕ) (n : ℕ) : Type 0 wh
 -- the answer of a list in numbers
 abbrev pub foundOf : (count rounds : ℕ) → Found
 foundOf n r = record { count = n; rounds = r }
-
--- listing φ on M makes `made` rounds. The number answered is that one, but at most one above the limit; where it is within the limit, the set is
--- listed
-pub record Within (limit : ℕ) (M : Model) (φ : Form) (set : List ℕ) (f : Found) : Type 0 where
-  pub made : ℕ
-  pub makes : (ρ : Env) → Makes M ρ φ made
-  pub number : f .rounds ≡ min made (suc limit)
-  pub listed : f .rounds ≤ limit → Listed M φ set (f .count)
-  pub size : length set ≡ setBytes

@@ -5,13 +5,11 @@ use mathlib.Core.List.{List}
 use mathlib.Core.Bool.{true}
 use Prim.Native.Nat.{ℕ, suc, _+_, _-_, _*_, _≤_, _<_, min}
 use lib.ListN.{length, getD}
-use Rattle.bitset.specs.Set.{setBytes}
-use Rattle.semantics.specs.Form.{Form, free}
-use Rattle.semantics.specs.Holds.{Set, Env, Model}
+use Rattle.semantics.specs.Form.{free}
+use Rattle.semantics.specs.Holds.{Set, Env}
 use Rattle.semantics.specs.Table.{treeAt, nodesFit, evenTable}
 use Rattle.semantics.specs.Laws.Eval.{eval}
 use Rattle.semantics.specs.Laws.Agree.{_≐_}
-use Rattle.rounds.specs.Makes.{Makes}
 use Rattle.rounds.specs.Laws.Count.{rounds}
 use Rattle.site.specs.Layout.{siteBytes}
 use Rattle.site.specs.Site.{siteOf}
@@ -19,8 +17,7 @@ use Rattle.condition.specs.Bytes.{tableOf}
 use Rattle.limits.specs.Limits.{variables, tableNodes, tableBytes, highestLimit}
 use Rattle.listing_sets.specs.Offsets.{setAt, valuation}
 use Rattle.listing_memo.specs.Memo.{memoBytes, known, freeIn}
-use Rattle.listing.specs.declared.Found.{Found}
-use Rattle.listing.specs.Listed.{workBytes, Listed}
+use Rattle.listing.specs.Listed.{workBytes}
 
 -- the set of node j of the table S under the valuation ρ, and its rounds
 abbrev pub nodeSet : List ℕ → List ℕ → Env → ℕ → Set
@@ -73,11 +70,3 @@ pub record Evaluated (site S : List ℕ) (limit cap : ℕ) (sets sets′ made′
   pub sized : Sized sets′ made′ work′
   pub number : r ≡ min (nodeRounds site S (valuation sets) i) cap
   pub done : r ≤ limit → Done site S (cap - r) sets sets′ made′ work′ i
-
--- listing φ on M makes `made` rounds. The number answered is that one as far as the cap; where it is within the limit, the set is listed
-pub record Counted (limit cap : ℕ) (M : Model) (φ : Form) (set : List ℕ) (f : Found) : Type 0 where
-  pub made : ℕ
-  pub makes : (ρ : Env) → Makes M ρ φ made
-  pub number : f .rounds ≡ min made cap
-  pub listed : f .rounds ≤ limit → Listed M φ set (f .count)
-  pub size : length set ≡ setBytes

@@ -19,8 +19,9 @@ ghost use Rattle.limits.specs.Limits.{tableNodes, tableBytes, highestLimit, not
 ghost use Rattle.listing_memo.specs.Memo.{memoBytes};
 ghost use Rattle.listing_sets.specs.Nodes.{startOf};
 ghost use Rattle.listing_sets.specs.Offsets.{valuation, SetWritten};
-ghost use Rattle.listing.specs.Listed.{workBytes, Listed, Within};
-ghost use Rattle.listing.specs.State.{nodeSet, Budgeted, Evaluable, Evaluated, Counted};
+ghost use Rattle.listing.specs.Listed.{workBytes, Listed};
+ghost use Rattle.listing.specs.Within.{Capped, Within};
+ghost use Rattle.listing.specs.State.{nodeSet, Budgeted, Evaluable, Evaluated};
 use bitset::SET_BYTES;
 use bitset::SET_SLOTS;
 use limits::AND;
@@ -292,7 +293,7 @@ fn evaluate(
     requires { ⌜ (length (now free) ≡ tableNodes) × FreeRows (now table) (now free) ⌝ }
     requires { ⌜ Budgeted (budget .limit) (budget .cap) ⌝ }
     requires { ⌜ (length (now set) ≡ setBytes) × (length (now work) ≡ workBytes) ⌝ }
-    ensures { λ r. ⌜ Counted (budget .limit) (budget .cap) (siteOf (now (site .entry))) (formOf (tableOf (now (table .entry)))) (now (set .exit)) r ⌝ }
+    ensures { λ r. ⌜ Capped (budget .limit) (budget .cap) (siteOf (now (site .entry))) (formOf (tableOf (now (table .entry)))) (now (set .exit)) r ⌝ }
     ensures { λ _. ⌜ now (work .exit) ≡ replicate workBytes 0 ⌝ }
 {
     let mut sets = no_sets();

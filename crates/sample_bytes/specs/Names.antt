@@ -62,7 +62,8 @@ pub record Names : Type 0 where
   -- likeness: no other slot has the class number of the slot of a name
   pub alone : (site : List ℕ) → siteVerdict site ≡ Accepted → (call : ClassCall site) (n s : ℕ) → n < 48 → s < slots
       → getD (call .classes′) s 0 ≡ getD (call .classes′) (siteOf site .place n) 0 → s ≡ siteOf site .place n
-  -- today and after: "name n", rewritten through a sheet, lists today the slot alone that has the name after it
+  -- today and after: "name n", rewritten through a sheet, lists today the slot alone that has the name after it; it has no loop, so under
+  -- every limit
   pub found : (site sheet : List ℕ) (n : ℕ) → Runnable site (nameBytes n) sheet
       → (applied : ApplyCall site sheet) (rewrote : RewriteCall (nameBytes n) sheet)
       → (today : ListCall site (rewrittenTable rewrote)) (after : ListCall (applied .result′) (nameBytes n))

@@ -33,7 +33,8 @@ pub record OffSite : Type 0 where
   -- AP with a name at nil, alone in its sheet, goes through and leaves each byte of the site
   pub nothing-marked : (site : List ℕ) → Bytes site → siteVerdict site ≡ Accepted → (n p : ℕ) → n < names → p < labels → siteOf site .place n ≡ 0
       → (call : ApplyCall site (apBytes n p)) → (call .reason ≡ 0) × (call .result′ ≡ site)
-  -- "label p", rewritten through a sheet, lists today what it lists after it, the slots that then have the label; slot 0 is not among them
+  -- "label p", rewritten through a sheet, lists today what it lists after it, the slots that then have the label; slot 0 is not among
+  -- them. It has no loop, so this is under every limit
   pub listed : (site sheet : List ℕ) (p : ℕ) → Runnable site (labelBytes p) sheet
       → (applied : ApplyCall site sheet) (rewrote : RewriteCall (labelBytes p) sheet)
       → (today : ListCall site (rewrittenTable rewrote)) (after : ListCall (applied .result′) (labelBytes p))

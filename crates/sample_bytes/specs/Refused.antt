@@ -9,6 +9,7 @@ use Rattle.limits.specs.Limits.{tableBytes}
 use Rattle.verdict.specs.declared.Verdict.the-variants.{Accepted}
 use Rattle.trailer.specs.Refusal.{trailerVerdict}
 use Rattle.trailer.specs.Pieces.{siteIn}
+use Rattle.listing.specs.Listed.{foundOf}
 use Rattle.classes_entry.specs.Refusal.{classesBytes}
 use Rattle.demands.specs.Demand1.{ZeroJob}
 use Rattle.demands.specs.Demands.{ApplyCall, RewriteCall, ListCall, ClassCall}
@@ -31,15 +32,18 @@ NotApplied call = NoAnswer (call .reason) (call .fault) 0 siteBytes (call .resul
 abbrev pub NotRewritten : {table sheet : List ℕ} → RewriteCall table sheet → (item w : ℕ) → Type 0
 NotRewritten call = NoAnswer (call .reason) (call .fault) (call .nodes) tableBytes (call .result′)
 
-abbrev pub NotListed : {site table : List ℕ} → ListCall site table → (item w : ℕ) → Type 0
-NotListed call = NoAnswer (call .reason) (call .fault) (call .count) setBytes (call .set′)
+-- listing has rounds too
+pub record NotListed {site table : List ℕ} (call : ListCall site table) (item w : ℕ) : Type 0 where
+  pub no-set : NoAnswer (call .reason) (call .fault) (call .count) setBytes (call .set′) item w
+  pub no-rounds : call .rounds ≡ 0
 
 abbrev pub NotClassed : {site : List ℕ} → ClassCall site → (item w : ℕ) → Type 0
 NotClassed call = NoAnswer (call .reason) (call .fault) (call .count) classesBytes (call .classes′)
 
 pub record NotRun {file : List ℕ} (call : JobCall file) (item w : ℕ) : Type 0 where
   pub refused : RefusedWith (call .reason) (call .fault) item w
-  pub zeros : ZeroJob (call .lent) (call .lent′) (call .after) (call .today) (call .nodes) (call .classes)
+  pub zeros : ZeroJob (call .lent) (call .lent′) (foundOf (call .after) (call .after-rounds)) (foundOf (call .today) (call .today-rounds)) (call .nodes)
+      (call .classes)
 
 -- each call that is given the site is refused with the item
 pub record SiteRefused (site : List ℕ) (item : ℕ) : Type 0 where

@@ -1,8 +1,8 @@
 -- What the entry points return for a row of the table of samples: from the bytes of its site, its condition and its sheet, with buffers of
--- the stated lengths, whatever was in them.
+-- the stated lengths, whatever was in them, and under every limit on rounds up to the highest.
 use mathlib.Core.Path.{_≡_}
 use mathlib.Core.List.{List, [], _∷_}
-use Prim.Native.Nat.{ℕ}
+use Prim.Native.Nat.{ℕ, _≤_, _<_}
 use Rattle.finite.specs.Bytes.{Bytes}
 use Rattle.bitset.specs.Set.{Is}
 use Rattle.samples.specs.Rows.{Slots, only, has, Expected, lists, stuckAt, oddAt, Row, tableName}
@@ -34,32 +34,39 @@ pub record SampleWritten (r : Row) : Type 0 where
 
 -- ---- a row that lists a set
 
--- the call lists the slots of S alone, and they are c
-pub record Lists {site table : List ℕ} (call : ListCall site table) (S : Slots) (c : ℕ) : Type 0 where
+-- the call lists the slots of S alone, which are c, in n rounds
+pub record Lists {site table : List ℕ} (call : ListCall site table) (S : Slots) (c n : ℕ) : Type 0 where
   pub reason-is : call .reason ≡ 0
   pub count-is : call .count ≡ c
+  pub rounds-are : call .rounds ≡ n
   pub set-is : Is (call .set′) (has S)
 
-module _ (r : Row) (S : Slots) (c k : ℕ) (applied : ApplyCall (siteIn r) (sheetIn r)) (rewrote : RewriteCall (tableIn r) (sheetIn r))
+-- so it does if its limit is n or more; below n it is refused with 15
+pub record ListsWithin {site table : List ℕ} (call : ListCall site table) (S : Slots) (c n : ℕ) : Type 0 where
+  pub within : n ≤ call .limit → Lists call S c n
+  pub over : call .limit < n → NotListed call 15 0
+
+-- a set S of c slots, after and today, k nodes, and a rounds after and t rounds today; each call of listing has a limit of its own
+module _ (r : Row) (S : Slots) (c k a t : ℕ) (applied : ApplyCall (siteIn r) (sheetIn r)) (rewrote : RewriteCall (tableIn r) (sheetIn r))
     (today : ListCall (siteIn r) (rewrittenTable rewrote)) (later : ListCall (applied .result′) (tableIn r)) where
   pub record Answers : Type 0 where
     pub applies : applied .reason ≡ 0
     pub site-after : siteOf (applied .result′) ≡ after r
     pub rewrites : rewrote .reason ≡ 0
     pub nodes-are : rewrote .nodes ≡ k
-    pub lists-today : Lists today S c
-    pub lists-after : Lists later S c
+    pub lists-today : ListsWithin today S c t
+    pub lists-after : ListsWithin later S c a
     -- where the condition is the name n and lists the slot p alone, that is the place of the name on the site after
     pub place-after : (n p : ℕ) → r .table ≡ tableName n → S ≡ only (p ∷ []) → siteOf (applied .result′) .place n ≡ p
 
 -- ---- every row
 
--- the set is listed; or item 13 is met by the sheet; or item 9 by the condition, which neither lists nor is rewritten
+-- the set is listed, within the limit; or item 13 is met by the sheet; or item 9 by the condition, which neither lists nor is rewritten
 abbrev pub Returns : Row → Expected → Type 0
-Returns r (lists S c k) =
+Returns r (lists S c k a t) =
     (applied : ApplyCall (siteIn r) (sheetIn r)) (rewrote : RewriteCall (tableIn r) (sheetIn r))
     (today : ListCall (siteIn r) (rewrittenTable rewrote)) (later : ListCall (applied .result′) (tableIn r))
-    → Answers r S c k applied rewrote today later
+    → Answers r S c k a t applied rewrote today later
 Returns r (stuckAt w) = (call : ApplyCall (siteIn r) (sheetIn r)) → NotApplied call 13 w
 Returns r (oddAt w) =
     ((call : ListCall (siteIn r) (tableIn r)) → NotListed call 9 w)

@@ -1,7 +1,7 @@
-// Reads stored jobs on standard input, each with limits on rounds, and prints for each limit what the program `job` prints of it; behind an answer that
-// is no refusal, what else the job leaves: the rounds of both lists, a checksum of the site after and of the table, and the class numbers, two
-// hexadecimal digits each. The work buffer has to come back as zeros, and so has every buffer of a refusal. Buffers of other lengths have to be
-// refused with 1, whatever the limit is, and come back as zeros too. Any buffer that does not is named after the answer.
+// Reads stored jobs on standard input, each with limits on rounds, and prints for each limit what the program `job` prints of it; behind an
+// answer that is no refusal, what else the job leaves: the rounds of both lists, a checksum of the site after and of the table, and the class
+// numbers, two hexadecimal digits each. The work buffer has to come back as zeros, and so has every buffer of a refusal. Buffers of other
+// lengths have to be refused with 1, whatever the limit is, and come back as zeros too. Any buffer that does not is named after the answer.
 use bitset::SET_BYTES;
 use bitset::SET_SLOTS;
 use job_run::Job;

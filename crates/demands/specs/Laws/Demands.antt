@@ -119,10 +119,10 @@ module _ {site table sheet : List ℕ} (j : Runnable site table sheet) where
           short = short;
         })
 
-    rewrite-reason : c .reason ≡ 0
+    pub rewrite-reason : c .reason ≡ 0
     rewrite-reason = reason-none rewrite-goes (c .returned)
 
-    written : (c .nodes ≡ length (rewritten table sheet)) × (c .result′ ≡ bytesOf (rewritten table sheet) ++ replicate (tableBytes - 6 * c .nodes) 0)
+    pub written : (c .nodes ≡ length (rewritten table sheet)) × (c .result′ ≡ bytesOf (rewritten table sheet) ++ replicate (tableBytes - 6 * c .nodes) 0)
     written = table-left (rewritten table sheet) (c .result) (c .result′) rewrite-goes (c .returned)
 
     pub table-accepted : conditionVerdict (rewrittenTable c) ≡ Accepted

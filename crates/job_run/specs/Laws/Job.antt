@@ -25,7 +25,8 @@ use Rattle.rewriting.specs.Rewriting.{rewritten, TableAfter}
 use Rattle.rewriting.specs.Laws.Accepted.{taken-table, rewritten-accepted}
 use Rattle.refusals.specs.Laws.Items.{rounds-in, rounds-not, then-out}
 use Rattle.listing.specs.declared.Found.{Found}
-use Rattle.listing.specs.Listed.{workBytes, foundOf, Within}
+use Rattle.listing.specs.Listed.{workBytes, foundOf}
+use Rattle.listing.specs.Within.{Within}
 use Rattle.listing.specs.Laws.Answer.{accepted-makes}
 use Rattle.list_entry.specs.Listing.{SetAfter}
 use Rattle.list_entry.specs.Laws.Listing.{made-over, made-within, makes-found}

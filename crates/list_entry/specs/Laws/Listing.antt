@@ -19,7 +19,8 @@ use Rattle.condition.specs.Bytes.{tableOf}
 use Rattle.even_rule.specs.Free.{FreeRows, noMasks, FreeAfter, Checked}
 use Rattle.limits.specs.Limits.{highestLimit}
 use Rattle.listing.specs.declared.Found.{Found}
-use Rattle.listing.specs.Listed.{workBytes, Within}
+use Rattle.listing.specs.Listed.{workBytes}
+use Rattle.listing.specs.Within.{Within}
 use Rattle.list_entry.specs.declared.Listing.{Listing}
 use Rattle.list_entry.specs.declared.Listing.the-variants as answer
 use Rattle.refusals.specs.Laws.Items.{buffer-in, buffer-not, limit-in, limit-not, rounds-in, rounds-not}

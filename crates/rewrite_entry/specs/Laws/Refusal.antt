@@ -10,7 +10,6 @@ use Rattle.condition.specs.Refusal.{conditionVerdict}
 use Rattle.sheet.specs.Bytes.{editsOf}
 use Rattle.sheet.specs.Refusal.{sheetVerdict}
 use Rattle.limits.specs.Limits.{tableBytes}
-use Rattle.verdict.specs.Verdict.{reasonOf}
 use Rattle.semantics.specs.Block.{rewriteTable}
 use Rattle.rewriting.specs.Refusal.{tooLong}
 use Rattle.refusals.specs.Refusal.{bufferVerdict}
@@ -29,10 +28,6 @@ rewrite-numbered resultLen table sheet =
     numbered-then (bufferVerdict resultLen tableBytes) _ (numbered-buffer resultLen tableBytes)
     (numbered-then (conditionVerdict table) _ (numbered-condition table)
     (numbered-then (sheetVerdict sheet) _ (numbered-sheet sheet) (numbered-length rewriteTable (editsOf sheet) (tableOf table))))
-
-pub rewrite-reason : (resultLen : ℕ) (table sheet : List ℕ) → reasonOf (rewriteVerdict resultLen table sheet) ≡ 0
-    → rewriteVerdict resultLen table sheet ≡ Accepted
-rewrite-reason resultLen table sheet = rewrite-numbered resultLen table sheet .accepts
 
 -- ---- the condition for going through
 

@@ -92,7 +92,7 @@ module _ (r : Row) (o : Sound r) (f : Fits r) where
   pub table-read : tableOf (tableIn r) ≡ r .table
   table-read = table-back (r .table)
 
-  module _ {S : Slots} {c k : ℕ} (l : Lists r S c k) where
+  module _ {S : Slots} {c k a t : ℕ} (l : Lists r S c k a t) where
     pub table-ok : conditionVerdict (tableIn r) ≡ Accepted
     table-ok = table-accepted (r .table) (o .some-node) (f .few-nodes) (o .fits) (l .even-rule) (o .is-closed)
 

@@ -20,6 +20,7 @@ use Rattle.semantics.specs.Table.{kindOf, kindNo, atom, build, tree, trees, tre
 use Rattle.semantics.specs.Edit.{Edit, CN1, CN2, AP, DP, AT, DT1, DT2, AS, DS, functional, legal, sheetLegal}
 use Rattle.semantics.specs.Block.{rewriteSheet}
 use Rattle.semantics.specs.Laws.FixedPoint.{none}
+use Rattle.rounds.specs.Laws.Loopless.{noLoop, loopless}
 use Rattle.samples.specs.Site.{each}
 use Rattle.samples.specs.Rows.{tableName}
 use Rattle.site.specs.Site.{siteOf}
@@ -124,10 +125,10 @@ found : (site sheet : List ℕ) (n : ℕ) → Runnable site (nameBytes n) sheet
     → (applied : ApplyCall site sheet) (rewrote : RewriteCall (nameBytes n) sheet)
     → (today : ListCall site (rewrittenTable rewrote)) (after : ListCall (applied .result′) (nameBytes n))
     → (today .set′ ≡ after .set′) × Is (today .set′) (λ s. same s (siteOf (applied .result′) .place n))
-unfolding slots formOf treeAt trees tree build atom kindOf tableName Holds
+unfolding slots formOf treeAt trees tree build atom kindOf tableName Holds loopless noLoop
 found site sheet n j a w t u =
-    let holds = today-holds site sheet (tableName n) j a w t u (λ v. none) in
-    (lists-same site sheet (tableName n) j a w t u, λ s h. both (λ p. eq-same (holds s h .0 p)) (λ p. holds s h .1 (same-eq p)))
+    let holds = today-holds site sheet (tableName n) refl j a w t u (λ v. none) in
+    (lists-same site sheet (tableName n) refl j a w t u, λ s h. both (λ p. eq-same (holds s h .0 p)) (λ p. holds s h .1 (same-eq p)))
 
 alike : (site sheet : List ℕ) (n : ℕ) → n < names → Going site sheet
     → (applied : ApplyCall site sheet) (numbered : ClassCall (applied .result′)) (ρ : Env) (s t : ℕ) → s < slots → t < slots

@@ -15,6 +15,7 @@ use Rattle.semantics.specs.Table.{kindOf, atom, build, tree, trees, treeAt, for
 use Rattle.semantics.specs.Edit as edits
 use Rattle.semantics.specs.Edit.{AP, legal, goes, sheetLegal, sheetGoes}
 use Rattle.semantics.specs.Laws.FixedPoint.{none}
+use Rattle.rounds.specs.Laws.Loopless.{noLoop, loopless}
 use Rattle.samples.specs.Rows.{tableLabel}
 use Rattle.site.specs.Site.{siteOf}
 use Rattle.site.specs.Refusal.{siteVerdict}
@@ -52,11 +53,11 @@ listed : (site sheet : List ℕ) (p : ℕ) → Runnable site (labelBytes p) shee
     → (applied : ApplyCall site sheet) (rewrote : RewriteCall (labelBytes p) sheet)
     → (today : ListCall site (rewrittenTable rewrote)) (after : ListCall (applied .result′) (labelBytes p))
     → (today .set′ ≡ after .set′) × Is (today .set′) (siteOf (applied .result′) .marked p) × (has (today .set′) 0 ≡ false)
-unfolding slots formOf treeAt trees tree build atom kindOf tableLabel Holds
+unfolding slots formOf treeAt trees tree build atom kindOf tableLabel Holds loopless noLoop
 listed site sheet p j a w t u =
-    let holds = today-holds site sheet (tableLabel p) j a w t u (λ v. none) in
+    let holds = today-holds site sheet (tableLabel p) refl j a w t u (λ v. none) in
     let is : Is (t .set′) (siteOf (a .result′) .marked p) = λ s h. both (λ q. holds s h .0 q) (λ q. holds s h .1 q) in
-    (lists-same site sheet (tableLabel p) j a w t u, is, is 0 (omega arith) ∙ unlabelled (a .result′) (left-accepted (j .going) a) p)
+    (lists-same site sheet (tableLabel p) refl j a w t u, is, is 0 (omega arith) ∙ unlabelled (a .result′) (left-accepted (j .going) a) p)
 
 pub off-site : OffSite
 off-site = record {

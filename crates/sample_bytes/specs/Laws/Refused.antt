@@ -8,8 +8,9 @@ use Rattle.verdict.specs.Verdict.{reasonOf, faultOf}
 use Rattle.verdict.specs.declared.Verdict.{Verdict}
 use Rattle.verdict.specs.declared.Verdict.the-variants.{Refused}
 use Rattle.site.specs.Refusal.{siteVerdict}
-use Rattle.refusals.specs.Laws.Items.{buffer-in}
-use Rattle.list_entry.specs.Refusal.{listVerdict}
+use Rattle.refusals.specs.Laws.Items.{buffer-in, limit-in}
+use Rattle.listing.specs.Listed.{foundOf}
+use Rattle.list_entry.specs.Refusal.{listInputs, listVerdict}
 use Rattle.list_entry.specs.Listing.{SetAfter}
 use Rattle.apply_entry.specs.Refusal.{applyVerdict}
 use Rattle.apply_entry.specs.Applying.{SiteAfter}
@@ -18,7 +19,7 @@ use Rattle.rewriting.specs.Rewriting.{TableAfter}
 use Rattle.classes_entry.specs.Refusal.{classesVerdict}
 use Rattle.classes_entry.specs.Classing.{ClassesAfter}
 use Rattle.job_run.specs.Refusal.{piecesVerdict}
-use Rattle.job_entry.specs.Refusal.{jobVerdict}
+use Rattle.job_entry.specs.Refusal.{jobInputs, jobVerdict}
 use Rattle.job_entry.specs.Laws.Refusal.{sized-in}
 use Rattle.desk.specs.Returned.{Returned}
 use Rattle.demands.specs.Demand1.{Demand1Job}
@@ -46,9 +47,12 @@ unfolding TableAfter
 not-rewritten call item w v = let z = rw v at (call .returned .left) in no-answer v (call .returned) (z .0) (z .1) (call .result-size)
 
 pub not-listed : {site table : List ℕ} (call : ListCall site table) (item w : ℕ)
-    → listVerdict (length (call .set)) (length (call .work)) site table ≡ Refused item w → NotListed call item w
+    → listVerdict (length (call .set)) (length (call .work)) (call .limit) site table (call .returned .made) ≡ Refused item w → NotListed call item w
 unfolding SetAfter
-not-listed call item w v = let z = (rw v at (call .returned .left)) .set-after in no-answer v (call .returned) (z .1) (z .0) (call .set-size)
+not-listed call item w v =
+    let r = call .returned .returned in
+    let z = (rw v at (r .left)) .set-after in
+    record { no-set = no-answer v r (z .1 .0) (z .0) (call .set-size); no-rounds = z .1 .1 }
 
 pub not-classed : {site : List ℕ} (call : ClassCall site) (item w : ℕ) → classesVerdict (length (call .classes)) site ≡ Refused item w
     → NotClassed call item w
@@ -56,22 +60,24 @@ unfolding ClassesAfter
 not-classed call item w v = let z = rw v at (call .returned .left) in no-answer v (call .returned) (z .1) (z .0) (call .classes-size)
 
 -- the zeros of a job are those of demand 1
-pub not-run : {file : List ℕ} (call : JobCall file) (item w : ℕ) → 0 < item → jobVerdict (call .lent) file ≡ Refused item w → NotRun call item w
+pub not-run : {file : List ℕ} (call : JobCall file) (item w : ℕ) → 0 < item
+    → jobVerdict (call .lent) (call .limit) file (call .returned .after-made) (call .returned .today-made) ≡ Refused item w → NotRun call item w
 unfolding Demand1Job
 not-run {file} call item w h v =
-    let r : RefusedWith (call .reason) (call .fault) item w = refused-with v (call .returned) in
+    let r : RefusedWith (call .reason) (call .fault) item w = refused-with v (call .returned .returned) in
     record {
       refused = r;
-      zeros = demand-1 .job file (call .lent) (call .lent′) (call .reason) (call .fault) (call .after) (call .today) (call .nodes) (call .classes)
+      zeros = demand-1 .job (call .limit) file (call .lent) (call .lent′) (call .reason) (call .fault) (foundOf (call .after) (call .after-rounds))
+          (foundOf (call .today) (call .today-rounds)) (call .nodes) (call .classes)
           (call .returned) .sent-back (λ e. absurd (omega (arith, r .reason-is)));
     }
 
 -- a site that meets an item, in each call that is given it
 pub site-refused : (site : List ℕ) (item : ℕ) → 0 < item → siteVerdict site ≡ Refused item 0 → SiteRefused site item
-unfolding listVerdict applyVerdict classesVerdict jobVerdict piecesVerdict
+unfolding listVerdict listInputs applyVerdict classesVerdict jobVerdict jobInputs piecesVerdict
 site-refused site item h v = record {
-  listing = λ table c. not-listed c item 0 (rw (buffer-in (c .set-size), buffer-in (c .work-size), v));
+  listing = λ table c. not-listed c item 0 (rw (buffer-in (c .set-size), buffer-in (c .work-size), limit-in (c .limit-fits), v));
   applying = λ sheet c. not-applied c item 0 (rw (buffer-in (c .result-size), v));
   classes = λ c. not-classed c item 0 (rw (buffer-in (c .classes-size), v));
-  job = λ file t e c. not-run c item 0 h (rw (sized-in (c .lent) (c .sized), t, e, v));
+  job = λ file t e c. not-run c item 0 h (rw (sized-in (c .lent) (c .sized), limit-in (c .limit-fits), t, e, v));
 }

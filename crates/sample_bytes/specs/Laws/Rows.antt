@@ -31,7 +31,7 @@ bytes = each (λ b. below b 256)
 
 -- the table that is expected fits its buffer
 unfoldable pub expectedFits : Expected → Bool
-expectedFits (lists S c k) = below k (suc tableNodes)
+expectedFits (lists S c k a t) = below k (suc tableNodes)
 expectedFits (stuckAt w) = true
 expectedFits (oddAt w) = true
 

@@ -1,39 +1,42 @@
 -- A row that says what is expected of it returns it over bytes; so each row of the table does.
-use mathlib.Core.Path.{_≡_, refl, sym, _∙_}
-use mathlib.Core.Logic.{_↔_}
+use mathlib.Core.Path.{_≡_, refl, _∙_}
+use mathlib.Core.Logic.{_↔_, _≢_}
 use mathlib.Core.List.{List, [], _∷_}
 use mathlib.Core.Bool.{true, false}
 use Prim.Native.Nat.{ℕ, suc, _<_, _≤_}
 use native.Mathlib.Omega.{arith}
-use lib.ListN.{length}
 use Rattle.finite.specs.Tests.{same, count}
 use Rattle.finite.specs.Laws.Bools.{either, clash, both, and-l, and-r, or-out}
 use Rattle.finite.specs.Laws.Below.{same-eq, below-out, count-cong}
 use Rattle.bitset.specs.Set as bitset
 use Rattle.bitset.specs.Set.{Is}
 use Rattle.limits.specs.Limits.{slots, tableNodes}
-use Rattle.semantics.specs.Form.{Form}
+use Rattle.verdict.specs.declared.Verdict.the-variants.{Accepted}
 use Rattle.semantics.specs.Holds.{Env, Model, Holds}
 use Rattle.semantics.specs.Table.{Node, kindOf, atom, build, tree, trees, treeAt, formOf}
 use Rattle.semantics.specs.Edit.{Valid}
 use Rattle.semantics.specs.Laws.Edits.{sheet-valid}
 use Rattle.semantics.specs.Laws.FixedPoint.{none}
+use Rattle.rounds.specs.Makes.{Makes}
 use Rattle.samples.specs.Site.{some, each}
 use Rattle.samples.specs.Rows.{Slots, only, has, Expected, lists, stuckAt, oddAt, Row, tableName, rows}
 use Rattle.samples.specs.Said as model
-use Rattle.samples.specs.Said.{before, after, Sound, Stuck, Odd, Says, AllSaid}
+use Rattle.samples.specs.Said.{before, after, rewritten, Sound, Stuck, Odd, Says, AllSaid}
 use Rattle.samples.specs.Laws.Said.{samples}
 use Rattle.site.specs.Site.{siteOf}
-use Rattle.listing.specs.Listed.{Listed}
-use Rattle.refusals.specs.Laws.Items.{buffer-in}
-use Rattle.list_entry.specs.Refusal.{listVerdict}
+use Rattle.site.specs.Refusal.{siteVerdict}
+use Rattle.condition.specs.Bytes.{tableOf}
+use Rattle.condition.specs.Refusal.{conditionVerdict}
+use Rattle.refusals.specs.Laws.Items.{buffer-in, limit-in, rounds-not}
+use Rattle.list_entry.specs.Refusal.{listInputs, listVerdict}
+use Rattle.list_entry.specs.Listing.{SiteMakes}
 use Rattle.apply_entry.specs.Refusal.{applyVerdict}
 use Rattle.rewrite_entry.specs.Refusal.{rewriteVerdict}
-use Rattle.rewriting.specs.Rewriting.{TableAfter}
-use Rattle.rewrite_entry.specs.Laws.Refusal.{rewrite-reason}
-use Rattle.demands.specs.Demands.{Runnable, ApplyCall, RewriteCall, ListCall, rewrittenTable, Demand2}
-use Rattle.demands.specs.Laws.Demands.{demand-2}
-use Rattle.sample_bytes.specs.Said.{siteIn, tableIn, sheetIn, Lists, Answers, SampleWritten, Returns, AllReturned}
+use Rattle.demands.specs.Demands.{Runnable, ApplyCall, RewriteCall, ListCall, rewrittenTable}
+use Rattle.demands.specs.Rounds.{ListLimit, DemandLimitList}
+use Rattle.demands.specs.Laws.Demands.{list-due, listed, apply-reason, site-left, left-accepted, rewrite-reason, written, table-accepted, is-rewritten}
+use Rattle.demands.specs.Laws.Rounds.{demand-rounds}
+use Rattle.sample_bytes.specs.Said.{siteIn, tableIn, sheetIn, Lists, ListsWithin, Answers, SampleWritten, Returns, AllReturned}
 use Rattle.sample_bytes.specs.Refused.{NotApplied, NotRewritten, NotListed}
 use Rattle.sample_bytes.specs.Laws.Write.{bytes-lt}
 use Rattle.sample_bytes.specs.Laws.Refused.{not-applied, not-rewritten, not-listed}
@@ -45,17 +48,39 @@ use Rattle.sample_bytes.specs.Laws.Judged.{site-read, site-ok, sheet-rea
 no-env : Env
 no-env v = none
 
--- the set that is listed is the one of which the slots are said
-listed-as : {site table : List ℕ} {M : Model} {φ : Form} (call : ListCall site table) (S : Slots) (c : ℕ) → call .reason ≡ 0
-    → Listed M φ (call .set′) (call .count) → ((ρ : Env) (s : ℕ) → s < slots → Holds M ρ φ s ↔ (has S s ≡ true)) → count slots (has S) ≡ c
-    → Lists call S c
-unfolding slots
-listed-as call S c e l h n =
-    let is : Is (call .set′) (has S) =
-    λ s k. both
-    (λ p. h no-env s k .0 (l .listed no-env s k .0 p))
-    (λ p. l .listed no-env s k .1 (h no-env s k .1 p)) in
-    record { reason-is = e; count-is = l .counted ∙ count-cong slots (bitset.has (call .set′)) (has S) is ∙ n; set-is = is }
+-- an accepted site, the model M, and an accepted condition xs that holds at the slots of S alone, which are c, and makes n rounds
+module _ {site table : List ℕ} (a : siteVerdict site ≡ Accepted) (b : conditionVerdict table ≡ Accepted) {M : Model} {xs : List Node}
+    (site-is : siteOf site ≡ M) (table-is : tableOf table ≡ xs) (S : Slots) (c n : ℕ)
+    (holds : (ρ : Env) (s : ℕ) → s < slots → Holds M ρ (formOf xs) s ↔ (has S s ≡ true)) (size : count slots (has S) ≡ c)
+    (makes : (ρ : Env) → Makes M ρ (formOf xs) n) (call : ListCall site table) where
+  makes-here : SiteMakes site table n
+  makes-here ρ = rw (site-is, table-is) (makes ρ)
+
+  limited : ListLimit call n
+  unfolding DemandLimitList
+  limited = demand-rounds .limit-list site table a b .1 n makes-here call
+
+  listed-as : call .reason ≢ 15 → Lists call S c n
+  unfolding slots
+  listed-as h =
+      let l = rw (site-is, table-is) at (listed a b call h) in
+      let is : Is (call .set′) (has S) =
+      λ s k. both
+      (λ p. holds no-env s k .0 (l .listed no-env s k .0 p))
+      (λ p. l .listed no-env s k .1 (holds no-env s k .1 p)) in
+      record {
+        reason-is = limited .within h .0;
+        count-is = l .counted ∙ count-cong slots (bitset.has (call .set′)) (has S) is ∙ size;
+        rounds-are = limited .within h .1;
+        set-is = is;
+      }
+
+  lists-within : ListsWithin call S c n
+  lists-within =
+      record {
+        within = λ h. listed-as (λ e. absurd (omega (arith, limited .over .0 e, h)));
+        over = λ h. not-listed call 15 0 (list-due a b call n makes-here ∙ rounds-not (omega (arith, h)));
+      }
 
 -- a condition that is a name lists its place
 name-lists : (M : Model) → Valid M → (xs : List Node) (n p : ℕ) (S : Slots)
@@ -69,7 +94,7 @@ name-lists M v xs n p S h e d =
 module _ (r : Row) (o : Sound r) (f : Fits r) where
   -- ---- a row that lists a set
 
-  module _ (S : Slots) (c k : ℕ) (l : model.Lists r S c k) (few : k ≤ tableNodes) where
+  module _ (S : Slots) (c k a t : ℕ) (l : model.Lists r S c k a t) (few : k ≤ tableNodes) where
     runnable : Runnable (siteIn r) (tableIn r) (sheetIn r)
     runnable =
         record {
@@ -81,29 +106,22 @@ module _ (r : Row) (o : Sound r) (f : Fits r) where
     valid-after : Valid (after r)
     valid-after = sheet-valid (r .edits) (o .legal-sheet) (before r) (o .valid) (l .goes-through)
 
-    nodes-are : (w : RewriteCall (tableIn r) (sheetIn r)) → w .reason ≡ 0 → w .nodes ≡ k
-    unfolding TableAfter
-    nodes-are w e =
-        let v = rewrite-reason (length (w .result)) (tableIn r) (sheetIn r) (sym (w .returned .reason-is) ∙ e) in
-        let t = rw v at (w .returned .left) in
-        t .0 ∙ rw (sheet-read r o f, table-read r o f) (l .node-count)
-
     answers : (applied : ApplyCall (siteIn r) (sheetIn r)) (rewrote : RewriteCall (tableIn r) (sheetIn r))
         (today : ListCall (siteIn r) (rewrittenTable rewrote)) (later : ListCall (applied .result′) (tableIn r))
-        → Answers r S c k applied rewrote today later
-    unfolding Demand2
-    answers a w t u =
-        let d = demand-2 (siteIn r) (tableIn r) (sheetIn r) runnable a w t u in
-        let left : siteOf (a .result′) ≡ after r = rw (sheet-read r o f, site-read r o f) at (d .agree .effects) in
-        let today = rw (d .agree .blocks, sheet-read r o f, table-read r o f, site-read r o f) at (d .agree .today-listed) in
-        let later = rw (left, table-read r o f) at (d .agree .after-listed) in
+        → Answers r S c k a t applied rewrote today later
+    answers applied rewrote today later =
+        let left : siteOf (applied .result′) ≡ after r =
+        rw (sheet-read r o f, site-read r o f) at (site-left (runnable .going) applied .effects) in
+        let made : tableOf (rewrittenTable rewrote) ≡ rewritten r = rw (sheet-read r o f, table-read r o f) at (is-rewritten runnable rewrote) in
         record {
-          applies = d .applies;
+          applies = apply-reason (runnable .going) applied;
           site-after = left;
-          rewrites = d .rewrites;
-          nodes-are = nodes-are w (d .rewrites);
-          lists-today = listed-as t S c (d .lists-today) today (l .holds-today) (l .slot-count);
-          lists-after = listed-as u S c (d .lists-after) later (l .holds-after) (l .slot-count);
+          rewrites = rewrite-reason runnable rewrote;
+          nodes-are = written runnable rewrote .0 ∙ rw (sheet-read r o f, table-read r o f) (l .node-count);
+          lists-today = lists-within (site-ok r o f) (table-accepted runnable rewrote) (site-read r o f) made
+              S _ _ (l .holds-today) (l .slot-count) (l .makes-today) today;
+          lists-after = lists-within (left-accepted (runnable .going) applied) (table-ok r o f l) left (table-read r o f)
+              S _ _ (l .holds-after) (l .slot-count) (l .makes-after) later;
           place-after = λ n p e q. rw left (name-lists (after r) valid-after (r .table) n p S (l .holds-after) e q);
         }
 
@@ -115,8 +133,10 @@ module _ (r : Row) (o : Sound r) (f : Fits r) where
 
   module _ (w : ℕ) (d : Odd r w) where
     unlisted : (call : ListCall (siteIn r) (tableIn r)) → NotListed call 9 w
-    unfolding listVerdict
-    unlisted call = not-listed call 9 w (rw (buffer-in (call .set-size), buffer-in (call .work-size), site-ok r o f) (table-refused r o f d))
+    unfolding listVerdict listInputs
+    unlisted call =
+        not-listed call 9 w
+        (rw (buffer-in (call .set-size), buffer-in (call .work-size), limit-in (call .limit-fits), site-ok r o f, table-refused r o f d))
 
     unwritten : (call : RewriteCall (tableIn r) (sheetIn r)) → NotRewritten call 9 w
     unfolding rewriteVerdict
@@ -124,7 +144,7 @@ module _ (r : Row) (o : Sound r) (f : Fits r) where
 
   returns : (x : Expected) → expectedFits x ≡ true → Says r x → Returns r x
   unfolding expectedFits
-  returns (lists S c k) e l = let h = below-out k (suc tableNodes) e in answers S c k l (omega arith)
+  returns (lists S c k a t) e l = let h = below-out k (suc tableNodes) e in answers S c k a t l (omega arith)
   returns (stuckAt w) e s = stuck w s
   returns (oddAt w) e d = (unlisted w d, unwritten w d)
 
