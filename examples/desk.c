@@ -223,19 +223,27 @@ static void put_number(uint8_t *at, uint32_t number)
         at[k] = (uint8_t)(number >> 8 * k);
 }
 
+static uint8_t today[DESK_SET_BYTES];
+
+/* The job of A, the condition and the sheet: its pieces with a trailer behind them. */
+static struct desk_done run(const uint8_t *cond, size_t cond_len, const uint8_t *sheet, size_t sheet_len, uint32_t limit)
+{
+    static uint8_t file[DESK_FILE_BYTES_MAX];
+    uint8_t *cond_at = file + DESK_SITE_BYTES, *sheet_at = cond_at + cond_len, *trailer = sheet_at + sheet_len;
+    memcpy(file, site_a, sizeof site_a);
+    memcpy(cond_at, cond, cond_len);
+    memcpy(sheet_at, sheet, sheet_len);
+    put_number(trailer, (uint32_t)(trailer - sheet_at));
+    put_number(trailer + 4, (uint32_t)(trailer - cond_at));
+    put_number(trailer + 8, (uint32_t)(trailer - file));
+    return desk_job(file, (size_t)(trailer - file) + DESK_TRAILER_BYTES, limit, result, sizeof result, table, sizeof table, set, sizeof set,
+                    today, sizeof today, classes, sizeof classes, work, sizeof work);
+}
+
 static void check_job(void)
 {
-    static const uint8_t sheet[] = {6, 4, 1, 0}, only_1[DESK_SET_BYTES] = {S1};
-    static uint8_t file[DESK_SITE_BYTES + sizeof condition_r + sizeof sheet + DESK_TRAILER_BYTES], today[DESK_SET_BYTES];
-    uint8_t *cond = file + DESK_SITE_BYTES, *edits = cond + sizeof condition_r, *trailer = edits + sizeof sheet;
-    memcpy(file, site_a, sizeof site_a);
-    memcpy(cond, condition_r, sizeof condition_r);
-    memcpy(edits, sheet, sizeof sheet);
-    put_number(trailer, (uint32_t)(trailer - edits));
-    put_number(trailer + 4, (uint32_t)(trailer - cond));
-    put_number(trailer + 8, (uint32_t)(trailer - file));
-    struct desk_done r = desk_job(file, sizeof file, DESK_LIMIT_MAX, result, sizeof result, table, sizeof table, set, sizeof set,
-                                  today, sizeof today, classes, sizeof classes, work, sizeof work);
+    static const uint8_t dt2[] = {6, 4, 1, 0}, only_1[DESK_SET_BYTES] = {S1};
+    struct desk_done r = run(condition_r, sizeof condition_r, dt2, sizeof dt2, DESK_LIMIT_MAX);
     check("J: accepted", r.reason == DESK_OK && r.where == 0);
     check("J: after {1}", r.after == 1 && memcmp(set, only_1, sizeof set) == 0);
     check("J: rewritten {1}", r.today == 1 && memcmp(today, only_1, sizeof today) == 0);
@@ -243,9 +251,22 @@ static void check_job(void)
     check("J: 5 classes", r.classes == 5);
     check("J: 2 rounds for each list", r.after_rounds == 2 && r.today_rounds == 2);
     check("J: the link from 2 is gone, the one from 3 stays", result[DESK_TARGETS_AT + 2] == 0 && result[DESK_TARGETS_AT + 3] == 2);
-    r = desk_job(file, sizeof file, 1, result, sizeof result, table, sizeof table, set, sizeof set, today, sizeof today,
-                 classes, sizeof classes, work, sizeof work);
+    r = run(condition_r, sizeof condition_r, dt2, sizeof dt2, 1);
     check("J, limit 1: refused, 15", r.reason == DESK_ROUNDS && r.where == 0 && r.nodes == 0 && table[0] == 0 && result[0] == 0);
+}
+
+/* DT1 puts what is below the diamond on two paths, so that the second list makes twice the rounds. */
+static void check_job_rounds(void)
+{
+    static const uint8_t dt1[] = {5, 4, 2, 1}, diamond[] = {8, 4, 4, 0, 0, 0}, only_2[DESK_SET_BYTES] = {S2};
+    uint8_t cond[sizeof condition_r + sizeof diamond];
+    memcpy(cond, condition_r, sizeof condition_r);
+    memcpy(cond + sizeof condition_r, diamond, sizeof diamond);
+    struct desk_done r = run(cond, sizeof cond, dt1, sizeof dt1, 6);
+    check("diamond 4 of R, DT1 4 2 1: {2}, 22 nodes", r.reason == DESK_OK && r.nodes == 22 && memcmp(today, only_2, sizeof today) == 0);
+    check("3 rounds after, 6 today; limit 6 is enough for each", r.after_rounds == 3 && r.today_rounds == 6);
+    r = run(cond, sizeof cond, dt1, sizeof dt1, 5);
+    check("limit 5: refused, 15", r.reason == DESK_ROUNDS && r.after_rounds == 0 && r.today_rounds == 0);
 }
 
 int main(void)
@@ -258,5 +279,6 @@ int main(void)
     check_classes();
     check_names();
     check_job();
+    check_job_rounds();
     return differences != 0;
 }

@@ -1962,6 +1962,12 @@ static void try_rewritten_paths(void)
         build_file();
         try_limits(4, 4, 4 * paths, true, "a loop below a way that edits rewrite");
     }
+    build_r();
+    add_node(DIAMOND, 4, 4, 0);
+    build_sheet(DT1, 4, 2, 1);
+    build_file();
+    expect_rewrite(DESK_OK, 22, "diamond 4 of R through DT1 4 2 1");
+    try_limits(4, 3, 6, true, "diamond 4 of R through DT1 4 2 1");
 }
 
 static void build_site_fault(uint32_t reason)

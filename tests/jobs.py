@@ -430,6 +430,7 @@ def many_paths():
         for k in (1, 2, 3, 5):
             yield A, way_to(nodes, kind), sheet(*[DT1] * k)
             yield A, way_to(nodes, kind), sheet(*[AT] * k)
+    yield A, pieces.table(*nodes, (8, 4, 4, 0)), sheet((5, 4, 2, 1))
     yield A, way_to(nodes), sheet(*[DT1] * 8)
     yield A, way_to(lists.doubled(lists.ONCE, 12)), sheet(*[DT1] * 7)
     yield A, way_to(lists.doubled(lists.ONCE, 12)), sheet(*[DT1] * 8)

@@ -37,7 +37,7 @@ doneText a t n c after today =
 unfoldable pub refusedText : (item w : ℕ) → List ℕ
 refusedText item w = (114 ∷ 101 ∷ 102 ∷ 117 ∷ 115 ∷ 101 ∷ 100 ∷ 32 ∷ []) ++ decimal item ++ countLine (32 ∷ []) w
 
--- the print of an answer with its two sets
+-- the print of an answer with its two sets; rounds are not printed
 abbrev pub jobText : Job → (after today : List ℕ) → List ℕ
-jobText (Done a t n c) after today = doneText a t n c after today
+jobText (Done a t n c) after today = doneText (a .count) (t .count) n c after today
 jobText (Refused item w) after today = refusedText item w

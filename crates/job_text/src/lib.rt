@@ -114,7 +114,7 @@ pub fn write(answer: Job, after: &[u8], today: &[u8], text: &mut [u8]) -> usize
     ensures { λ r. ⌜ take r (now (text .exit)) ≡ jobText answer (now (after .entry)) (now (today .entry)) ⌝ }
 {
     match answer {
-        Job::Done(a, t, n, c) => done(a, t, n, c, after, today, text),
+        Job::Done(a, t, n, c) => done(a.count, t.count, n, c, after, today, text),
         Job::Refused(item, w) => refused(item, w, text),
     }
 }
