@@ -1,4 +1,5 @@
--- What a job on three pieces leaves in its buffers, and the rounds that its lists make. The buffers are named twice: as they were, and as they are at return (′).
+-- What a job on three pieces leaves in its buffers, and the rounds that its lists make. The buffers are named twice: as they were, and as they
+-- are at return (′).
 use mathlib.Core.Path.{_≡_}
 use mathlib.Core.List.{List}
 use Prim.Native.Nat.{ℕ, _*_}

@@ -1,4 +1,5 @@
--- What a job on three pieces and its parts require and answer, for the functions inside. The buffers are named twice: as they were, and as they are at return (′).
+-- What a job on three pieces and its parts require and answer, for the functions inside. The buffers are named twice: as they were, and
+-- as they are at return (′).
 use mathlib.Core.Path.{_≡_}
 use mathlib.Core.List.{List}
 use Prim.Native.Nat.{ℕ, _*_, _≤_}

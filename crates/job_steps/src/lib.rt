@@ -19,7 +19,7 @@ ghost use Rattle.even_rule.specs.Free.{noMasks};
 ghost use Rattle.sheet.specs.Refusal.{sheetVerdict};
 ghost use Rattle.limits.specs.Limits.{tableBytes, highestLimit};
 ghost use Rattle.listing.specs.Listed.{workBytes};
-ghost use Rattle.listing.specs.Within.{Within};
+ghost use Rattle.listing.specs.Limited.{Limited};
 ghost use Rattle.job_steps.specs.Steps.{PiecesJudged, Changed};
 
 // Items 7 to 10 of the condition, then 11 and 12 of the sheet.
@@ -70,7 +70,7 @@ fn list(site: &[u8], part: &[u8], limit: u32, today: &mut [u8], work: &mut [u8])
     requires { ⌜ (length (now site) ≡ siteBytes) × (conditionVerdict (now part) ≡ Accepted) ⌝ }
     requires { ⌜ limit ≤ highestLimit ⌝ }
     requires { ⌜ (length (now today) ≡ setBytes) × (length (now work) ≡ workBytes) ⌝ }
-    ensures { λ r. ⌜ Within limit (siteOf (now (site .entry))) (formOf (tableOf (now (part .entry)))) (now (today .exit)) r ⌝ }
+    ensures { λ r. ⌜ Limited limit (siteOf (now (site .entry))) (formOf (tableOf (now (part .entry)))) (now (today .exit)) r ⌝ }
     ensures { λ _. ⌜ now (work .exit) ≡ replicate workBytes 0 ⌝ }
 {
     let mut free = even_rule::no_masks();
@@ -90,7 +90,7 @@ pub fn list_first(
     requires { ⌜ (length (now site) ≡ siteBytes) × ((6 * n ≤ length (now table)) × (conditionVerdict (take (6 * n) (now table)) ≡ Accepted)) ⌝ }
     requires { ⌜ limit ≤ highestLimit ⌝ }
     requires { ⌜ (length (now today) ≡ setBytes) × (length (now work) ≡ workBytes) ⌝ }
-    ensures { λ r. ⌜ Within limit (siteOf (now (site .entry))) (formOf (tableOf (take (6 * n) (now (table .entry))))) (now (today .exit)) r ⌝ }
+    ensures { λ r. ⌜ Limited limit (siteOf (now (site .entry))) (formOf (tableOf (take (6 * n) (now (table .entry))))) (now (today .exit)) r ⌝ }
     ensures { λ _. ⌜ now (work .exit) ≡ replicate workBytes 0 ⌝ }
 {
     let end = 6 * (n as usize);

@@ -1,4 +1,5 @@
--- What listing leaves in its buffers after a verdict, its count, and the rounds that it makes. A buffer is named twice: as it was, and as it is at return (′).
+-- What listing leaves in its buffers after a verdict, its count, and the rounds that it makes. A buffer is named twice: as it was, and as
+-- it is at return (′).
 use mathlib.Core.Path.{_≡_}
 use mathlib.Core.List.{List}
 use Prim.Native.Nat.{ℕ}

@@ -57,8 +57,8 @@ fn refused(set: &mut [u8], work: &mut [u8], item: u8, fault: u16) -> Listing
     Listing::Refused(item, fault)
 }
 
-// Lists the condition on the site, where no item is met before 15: more rounds are made than the limit.
-fn list_within(
+// Lists the condition on the site, or refuses it with item 15 where it makes more rounds than the limit. No other item is met.
+fn list_limited(
     site: &[u8],
     cond: &[u8],
     free: &[u16],
@@ -87,7 +87,7 @@ pub fn list(site: &[u8], cond: &[u8], limit: u32, set: &mut [u8], work: &mut [u8
     let mut free = even_rule::no_masks();
     let v = judge(set.len(), work.len(), limit, site, cond, &mut free);
     match v {
-        Verdict::Accepted => list_within(site, cond, &free, limit, set, work),
+        Verdict::Accepted => list_limited(site, cond, &free, limit, set, work),
         Verdict::Refused(item, fault) => refused(set, work, item, fault),
     }
 }

@@ -1,7 +1,7 @@
 -- What listing answers.
 pub mod Listed
 -- what it promises its callers
-pub mod Within
+pub mod Limited
 -- what the evaluator keeps
 pub mod State
 -- what is proved of them

@@ -20,7 +20,7 @@ ghost use Rattle.listing_memo.specs.Memo.{memoBytes};
 ghost use Rattle.listing_sets.specs.Nodes.{startOf};
 ghost use Rattle.listing_sets.specs.Offsets.{valuation, SetWritten};
 ghost use Rattle.listing.specs.Listed.{workBytes, Listed};
-ghost use Rattle.listing.specs.Within.{Capped, Within};
+ghost use Rattle.listing.specs.Limited.{Capped, Limited};
 ghost use Rattle.listing.specs.State.{nodeSet, Budgeted, Evaluable, Evaluated};
 use bitset::SET_BYTES;
 use bitset::SET_SLOTS;
@@ -53,8 +53,8 @@ pub struct Budget {
     cap: u32,
 }
 
-// What is left of a budget once some rounds were made.
-fn left(budget: Budget, made: u32) -> Budget
+// What remains of a budget once some rounds were made.
+fn remaining(budget: Budget, made: u32) -> Budget
     requires { ⌜ (made ≤ budget .limit) × (made ≤ budget .cap) ⌝ }
     ensures { λ r. ⌜ (r .limit ≡ budget .limit - made) × (r .cap ≡ budget .cap - made) ⌝ }
 {
@@ -179,14 +179,14 @@ fn binary(
     }
     let first = listing_sets::load(work, l);
     let r = condition::right_child(table, i);
-    let rest = left(budget, a);
+    let rest = remaining(budget, a);
     let b = eval(site, table, sets, made, work, r, rest);
     let second = listing_sets::load(work, r);
     listing_sets::put_binary(table, work, i, first, second);
     a + b
 }
 
-// Do the two sets have the same slots?
+// Do the two sets have the same slots? As slices their elements are known to be bytes.
 fn same_slots(a: &[u8], b: &[u8]) -> bool
     requires { ⌜ (length (now a) ≡ setBytes) × (length (now b) ≡ setBytes) ⌝ }
     ensures { λ r. ⌜ (r ≡ true → has (now (b .entry)) ≐ has (now (a .entry))) × (r ≡ false → has (now (b .entry)) ≐ has (now (a .entry)) → ⊥) ⌝ }
@@ -194,7 +194,7 @@ fn same_slots(a: &[u8], b: &[u8]) -> bool
     set_algebra::equal(a, b)
 }
 
-// The same of sets by value.
+// The same of sets by value, of which the loop has copies.
 fn same_set(a: [u8; SET_BYTES], b: [u8; SET_BYTES]) -> bool
     ensures { λ r. ⌜ (r ≡ true → has b ≐ has a) × (r ≡ false → has b ≐ has a → ⊥) ⌝ }
 {
@@ -249,17 +249,17 @@ fn fixpoint_from(
     let old = listing_sets::load(sets, x);
     let mut set = start;
     let mut total: u32 = 0;
-    let mut rounds: usize = 0;
+    let mut evaluations: usize = 0;
     let mut moved = true;
-    while moved && rounds < ENOUGH {
+    while moved && evaluations < ENOUGH {
         listing_memo::assign(sets, x, set);
-        let rest = left(budget, total);
+        let rest = remaining(budget, total);
         let inside = eval(site, table, sets, made, work, b, rest);
         let next = listing_sets::load(work, b);
         total = least(total + 1 + inside, budget.cap);
         moved = !same_set(set, next) & (total <= budget.limit);
         set = next;
-        rounds += 1;
+        evaluations += 1;
     }
     listing_memo::assign(sets, x, old);
     listing_sets::store(work, i, set);
@@ -302,8 +302,8 @@ fn evaluate(
     listing_memo::start(&mut sets, free, n);
     let i = n - 1;
     let r = compute(site, table, &mut sets, &mut made, work, i, budget);
-    let found = listing_sets::load(work, i);
-    listing_sets::store(set, 0, found);
+    let last = listing_sets::load(work, i);
+    listing_sets::store(set, 0, last);
     buffer::zero(work);
     let slots = bitset::count(set);
     Found {
@@ -326,7 +326,7 @@ pub fn list(
     requires { ⌜ (length (now free) ≡ tableNodes) × FreeRows (now table) (now free) ⌝ }
     requires { ⌜ limit ≤ highestLimit ⌝ }
     requires { ⌜ (length (now set) ≡ setBytes) × (length (now work) ≡ workBytes) ⌝ }
-    ensures { λ r. ⌜ Within limit (siteOf (now (site .entry))) (formOf (tableOf (now (table .entry)))) (now (set .exit)) r ⌝ }
+    ensures { λ r. ⌜ Limited limit (siteOf (now (site .entry))) (formOf (tableOf (now (table .entry)))) (now (set .exit)) r ⌝ }
     ensures { λ _. ⌜ now (work .exit) ≡ replicate workBytes 0 ⌝ }
 {
     let cap = limit + 1;

@@ -12,7 +12,7 @@ ghost use Rattle.limits.specs.Limits.{variables, tableNodes};
 ghost use Rattle.listing_memo.specs.Memo as memo;
 ghost use Rattle.listing_memo.specs.Memo.{memoBytes, nodeSets, Kept, Forgotten, Assigned, Noted, Started};
 
-const VARIABLES: usize = 16;
+const VARIABLES: usize = limits::VARIABLES as usize;
 
 const NODE_SETS: usize = TABLE_NODES / SET_SLOTS;
 
@@ -37,8 +37,8 @@ pub fn keep(sets: &mut [u8], j: usize)
     requires { ⌜ (length (now sets) ≡ memoBytes) × (j < tableNodes) ⌝ }
     ensures { λ _. ⌜ Kept (now (sets .entry)) (now (sets .exit)) j ⌝ }
 {
-    let place = SET_SLOTS * KNOWN + j;
-    bitset::insert(sets, place);
+    let bit = SET_SLOTS * KNOWN + j;
+    bitset::insert(sets, bit);
 }
 
 // The nodes in which the variable x is free are not known any more.

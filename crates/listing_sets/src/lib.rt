@@ -108,9 +108,9 @@ pub fn subtract(buf: &mut [u8], j: usize, k: usize)
     requires { ⌜ (setBytes * j + setBytes ≤ length (now buf)) × (setBytes * k + setBytes ≤ length (now buf)) ⌝ }
     ensures { λ _. ⌜ SetWritten (now (buf .entry)) (now (buf .exit)) j (λ s. setAt (now (buf .entry)) j s && not (setAt (now (buf .entry)) k s)) ⌝ }
 {
-    let mut kept = load(buf, k);
-    set_algebra::complement(&mut kept);
-    meet(buf, j, kept);
+    let mut others = load(buf, k);
+    set_algebra::complement(&mut others);
+    meet(buf, j, others);
 }
 
 fn no_slots() -> [u8; SET_BYTES]

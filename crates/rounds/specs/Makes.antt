@@ -7,17 +7,17 @@ use Rattle.limits.specs.Limits.{slots}
 use Rattle.semantics.specs.Form.{Form, top, here, label, name, var, neg, or, and, dia, box, mu, nu, slot}
 use Rattle.semantics.specs.Holds.{Set, Env, put, Model, Holds}
 
--- the set T holds the slots with P and no others
-unfoldable pub Holding : (ℕ → Type 0) → Set → Type 0
-Holding P T = (x : ℕ) → x < slots → (T x ≡ true) ↔ P x
+-- T is the set of the slots with P
+unfoldable pub SetOf : (ℕ → Type 0) → Set → Type 0
+SetOf P T = (x : ℕ) → x < slots → (T x ≡ true) ↔ P x
 
 -- a loop that has come to the set S makes n rounds from there. `Body S x`: the body, with S for the loop's variable, holds at x; `Inner S m`:
 -- evaluating the body with S makes m rounds of the loops inside it, which start again each time
 pub data Loop (Body : Set → ℕ → Type 0) (Inner : Set → ℕ → Type 0) : Set → ℕ → Type 0 where
   -- the body gives back its own input: the last round, which counts
-  last : {S : Set} {m : ℕ} → Holding (Body S) S → Inner S m → Loop Body Inner S (1 + m)
+  last : {S : Set} {m : ℕ} → SetOf (Body S) S → Inner S m → Loop Body Inner S (1 + m)
   -- it gives another set, T, from which the loop goes on
-  more : {S T : Set} {m n : ℕ} → ¬ Holding (Body S) S → Holding (Body S) T → Inner S m → Loop Body Inner T n → Loop Body Inner S (1 + m + n)
+  more : {S T : Set} {m n : ℕ} → ¬ SetOf (Body S) S → SetOf (Body S) T → Inner S m → Loop Body Inner T n → Loop Body Inner S (1 + m + n)
 
 -- listing the condition φ makes n rounds. A loop starts from the empty set for mu, from the full set for nu. A node that is shared stands in
 -- the tree, and counts, once for each path from the last node

@@ -17,7 +17,8 @@ has (only xs) s = some (same s) xs
 has (allBut xs) s = not (some (same s) xs)
 
 -- what is expected: the set that the condition lists after the sheet, and the rewritten one today, how many slots it has, how many nodes the
--- rewritten table has, and how many rounds the two lists make (no loop, none); or that edit w is the first that does not go through (item 13); or that node w is the first that breaks the even rule (item 9)
+-- rewritten table has, and how many rounds the two lists make (no loop, none); or that edit w is the first that does not go through (item 13);
+-- or that node w is the first that breaks the even rule (item 9)
 pub data Expected : Type 0 where
   lists : (set : Slots) (size nodes after today : ℕ) → Expected
   stuckAt : (w : ℕ) → Expected

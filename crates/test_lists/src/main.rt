@@ -1,7 +1,7 @@
 // Reads pairs of a site and a condition on standard input, each with limits on rounds, and prints for each limit what listing answers: the
 // count, the set, two hexadecimal digits a byte, and the rounds; or `refused N W`. The work buffer has to come back as zeros, and so has the
-// set of a refusal. What is listed is listed without a limit too. Buffers of other lengths have to be refused with 1, whatever the limit is, and come back as zeros too. Any buffer that does
-// not is named after the answer.
+// set of a refusal. What is listed is listed without a limit too. Buffers of other lengths have to be refused with 1, whatever the limit is,
+// and come back as zeros too. Any buffer that does not is named after the answer.
 use bitset::SET_BYTES;
 use libc::STDIN_FILENO;
 use libc::STDOUT_FILENO;

@@ -26,7 +26,7 @@ use Rattle.rewriting.specs.Laws.Accepted.{taken-table, rewritten-accepted}
 use Rattle.refusals.specs.Laws.Items.{rounds-in, rounds-not, then-out}
 use Rattle.listing.specs.declared.Found.{Found}
 use Rattle.listing.specs.Listed.{workBytes, foundOf}
-use Rattle.listing.specs.Within.{Within}
+use Rattle.listing.specs.Limited.{Limited}
 use Rattle.listing.specs.Laws.Answer.{accepted-makes}
 use Rattle.list_entry.specs.Listing.{SetAfter}
 use Rattle.list_entry.specs.Laws.Listing.{made-over, made-within, makes-found}
@@ -97,7 +97,7 @@ module _ {first : Verdict} {site cond sheet free′ : List ℕ} {v : Verdict}
 
 -- ---- both lists are tried
 
-module _ {limit n : ℕ} {site cond changed table after′ : List ℕ} {f : Found} (a : Within limit (siteOf changed) (formOf (tableOf cond)) after′ f) where
+module _ {limit n : ℕ} {site cond changed table after′ : List ℕ} {f : Found} (a : Limited limit (siteOf changed) (formOf (tableOf cond)) after′ f) where
   -- the first is over. The second makes some number of rounds, which does not matter
   pub tried-after : limit < f .rounds → conditionVerdict (take (6 * n) table) ≡ Accepted → {today′ work′ : List ℕ}
       → BothTried limit site cond changed table n after′ today′ work′ (answer.Refused 15 0)
@@ -112,7 +112,7 @@ module _ {limit n : ℕ} {site cond changed table after′ : List ℕ} {f : Foun
         both = λ g. refused g;
       }
 
-  module _ {today′ work′ : List ℕ} {g : Found} (h : f .rounds ≤ limit) (t : Within limit (siteOf site) (formOf (tableOf (take (6 * n) table))) today′ g) where
+  module _ {today′ work′ : List ℕ} {g : Found} (h : f .rounds ≤ limit) (t : Limited limit (siteOf site) (formOf (tableOf (take (6 * n) table))) today′ g) where
     pub tried-today : limit < g .rounds → BothTried limit site cond changed table n after′ today′ work′ (answer.Refused 15 0)
     tried-today k =
         record {

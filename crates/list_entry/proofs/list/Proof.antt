@@ -18,11 +18,11 @@ judge-requires c κs = search needs
 enum-told : tie.Need-enum-told
 enum-told c = search needs
 
-slice-aggregate-list-within : tie.Need-slice-aggregate-list-within
-slice-aggregate-list-within c = search needs
+slice-aggregate-list-limited : tie.Need-slice-aggregate-list-limited
+slice-aggregate-list-limited c = search needs
 
-list-within-requires : tie.Need-list-within-requires
-list-within-requires c κs =
+list-limited-requires : tie.Need-list-limited-requires
+list-limited-requires c κs =
     let j = c .before .before .before .before .before .before .judge in
     let e = c .before .before .before .enum-told .given .1 in
     let k = accepts (j .ensures) e in (
@@ -44,7 +44,7 @@ same-length-2 c = search needs
 
 returns : tie.Need-returns
 returns c =
-    let l = c .before .before .before .before .list-within in
+    let l = c .before .before .before .before .list-limited in
     let told = c .before .before .before .before .before .before .before .before .enum-told in
     let j = c .before .before .before .before .before .before .before .before .before .before .before .judge in
     answered-tried (j .ensures) (told .given .1) (l .ensures)
@@ -70,8 +70,8 @@ list-spec =
     slice-aggregate-judge
     judge-requires
     enum-told
-    slice-aggregate-list-within
-    list-within-requires
+    slice-aggregate-list-limited
+    list-limited-requires
     enum-known-v
     refused-requires
     same-length

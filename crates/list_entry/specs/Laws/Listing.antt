@@ -20,7 +20,7 @@ use Rattle.even_rule.specs.Free.{FreeRows, noMasks, FreeAfter, Checked}
 use Rattle.limits.specs.Limits.{highestLimit}
 use Rattle.listing.specs.declared.Found.{Found}
 use Rattle.listing.specs.Listed.{workBytes}
-use Rattle.listing.specs.Within.{Within}
+use Rattle.listing.specs.Limited.{Limited}
 use Rattle.list_entry.specs.declared.Listing.{Listing}
 use Rattle.list_entry.specs.declared.Listing.the-variants as answer
 use Rattle.refusals.specs.Laws.Items.{buffer-in, buffer-not, limit-in, limit-not, rounds-in, rounds-not}
@@ -68,7 +68,7 @@ module _ {set work limit : ℕ} {site table masks : List ℕ} where
 
 -- ---- the number of rounds under a limit
 
-module _ {limit : ℕ} {M : Model} {φ : Form} {set : List ℕ} {f : Found} (w : Within limit M φ set f) where
+module _ {limit : ℕ} {M : Model} {φ : Form} {set : List ℕ} {f : Found} (w : Limited limit M φ set f) where
   pub made-over : limit < f .rounds → limit < w .made
   made-over h = omega (arith, w .number)
 
@@ -81,7 +81,7 @@ module _ {limit : ℕ} {M : Model} {φ : Form} {set : List ℕ} {f : Found} (w :
 
 -- ---- listing is tried
 
-module _ {limit : ℕ} {site table set set′ work work′ : List ℕ} {f : Found} (w : Within limit (siteOf site) (formOf (tableOf table)) set′ f)
+module _ {limit : ℕ} {site table set set′ work work′ : List ℕ} {f : Found} (w : Limited limit (siteOf site) (formOf (tableOf table)) set′ f)
     (zeros : work′ ≡ replicate workBytes 0) (work-size : length work ≡ workBytes) where
   pub tried-within : f .rounds ≤ limit → ListTried limit site table set set′ work work′ Accepted f
   unfolding SetAfter

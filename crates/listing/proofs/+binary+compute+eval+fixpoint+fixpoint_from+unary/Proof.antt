@@ -20,7 +20,7 @@ use Rattle.listing_sets.specs.Nodes.{nodeMakes, startOf}
 use Rattle.listing_sets.specs.Offsets.{valuation}
 use Rattle.listing.specs.State.{nodeRounds}
 use Rattle.listing.specs.Laws.Rounds.{Rounds, rounds-none, assigned, rounds-more, rounds-number, rounds-done, restored, goes-on}
-use Rattle.listing.specs.Laws.Memo.{moved, finish, noted, was-known, leaf-done, again, second-number, second-done, child}
+use Rattle.listing.specs.Laws.Memo.{moved, finish, kept, was-known, leaf-done, again, second-number, second-done, child}
 use Rattle.listing.specs.Laws.Counts.{end-rounds, unary-rounds, binary-rounds, loop-rounds, loop-rests}
 use Rattle.listing.specs.Laws.Kinds.{unary-left, modal-in, loop-variable}
 use Rattle.listing.proofs.binary.Reads as binary
@@ -47,7 +47,7 @@ use Rattle.condition.proofs.number.Reads as number-reads
 use Rattle.condition.proofs.right_child.Reads as right-child-reads
 use Rattle.listing.proofs.leaf.Reads as leaf-reads
 use Rattle.listing.proofs.least.Reads as least-reads
-use Rattle.listing.proofs.left.Reads as left-reads
+use Rattle.listing.proofs.remaining.Reads as remaining-reads
 use Rattle.listing.proofs.same_set.Reads as same-set-reads
 use Rattle.listing_memo.proofs.assign.Reads as assign-reads
 use Rattle.listing_memo.proofs.keep.Reads as keep-reads
@@ -125,7 +125,7 @@ abbrev unary-below : ℕ → In 5 unary-kinds.ps
 unary-below t = and 5 unary-kinds.ps (falls 5 unary-kinds.ps _<_ μ-unary t) unary.Pre
 
 abbrev binary-calls : ℕ → binary-lts.Claims
-binary-calls t = (left-child-reads.Asked, left-child-reads.Learnt, eval-below t, eval.Post, load-reads.Asked, load-reads.Learnt, right-child-reads.Asked, right-child-reads.Learnt, left-reads.Asked, left-reads.Learnt, put-binary-reads.Asked, put-binary-reads.Learnt)
+binary-calls t = (left-child-reads.Asked, left-child-reads.Learnt, eval-below t, eval.Post, load-reads.Asked, load-reads.Learnt, right-child-reads.Asked, right-child-reads.Learnt, remaining-reads.Asked, remaining-reads.Learnt, put-binary-reads.Asked, put-binary-reads.Learnt)
 
 binary-left-child-requires : (t : ℕ) → binary-lts.Need-left-child-requires (binary-calls t) (binary-at t) binary.Post
 binary-left-child-requires t c κs =
@@ -177,8 +177,8 @@ binary-right-child-requires t c κs =
     let p = start .pre .1 in
     (p .0 .fits, (p .1 .0, p .1 .1))
 
-binary-left-requires : (t : ℕ) → binary-lts.Need-left-requires (binary-calls t) (binary-at t) binary.Post
-binary-left-requires t c κs =
+binary-remaining-requires : (t : ℕ) → binary-lts.Need-remaining-requires (binary-calls t) (binary-at t) binary.Post
+binary-remaining-requires t c κs =
     let start = c .before .before .before .before .before .before .before .before .before .before .before .before .before .before .before in
     let the-if1 = c .before .before .before .if1 in
     let p = start .pre .1 in
@@ -190,10 +190,10 @@ binary-eval-requires-2 t c κs =
     let the-right-child = c .before .before .before .before .right-child in
     let the-eval = c .before .before .before .before .before .before .before .before .before .before .before .eval in
     let the-if1 = c .before .before .before .before .before .before .before .if1 in
-    let the-left = c .before .before .before .left in
+    let the-remaining = c .before .before .before .remaining in
     let p = start .pre .1 in (
       omega (arith, start .pre, the-right-child .ensures),
-      (again (the-eval .ensures) (omega (arith, the-if1 .left)) (the-left .ensures .0) (the-left .ensures .1) (p .0), omega (arith, p .1 .0, the-right-child .ensures)),
+      (again (the-eval .ensures) (omega (arith, the-if1 .left)) (the-remaining .ensures .0) (the-remaining .ensures .1) (p .0), omega (arith, p .1 .0, the-right-child .ensures)),
     )
 
 binary-load-requires-2 : (t : ℕ) → binary-lts.Need-load-requires-2 (binary-calls t) (binary-at t) binary.Post
@@ -215,10 +215,10 @@ binary-add-result t c =
     let start = c .before .before .before .before .before .before .before .before .before .before .before .before .before .before .before .before .before .before .before .before .before .before .before .before .before .before .before .before in
     let the-if1 = c .before .before .before .before .before .before .before .before .before .before .before .before .before .before .before .before .if1 in
     let the-eval = c .before .before .before .before .before .before .before .before .before .before .before .before .before .before .before .before .before .before .before .before .eval in
-    let the-left = c .before .before .before .before .before .before .before .before .before .before .before .before .left in
+    let the-remaining = c .before .before .before .before .before .before .before .before .before .before .before .before .remaining in
     let the-eval2 = c .before .before .before .before .before .before .before .before .eval2 in
     let p = start .pre .1 in
-    omega (arith, p .0 .budget, the-if1 .left, the-eval .ensures .number, the-left .ensures .1, the-eval2 .ensures .number)
+    omega (arith, p .0 .budget, the-if1 .left, the-eval .ensures .number, the-remaining .ensures .1, the-eval2 .ensures .number)
 
 binary-same-length-2 : (t : ℕ) → binary-lts.Need-same-length-2 (binary-calls t) (binary-at t) binary.Post
 binary-same-length-2 t c =
@@ -236,7 +236,7 @@ binary-returns-2 t c =
     let the-if1 = c .before .before .before .before .before .before .before .before .before .before .before .before .before .before .before .before .if1 in
     let the-left-child = c .before .before .before .before .before .before .before .before .before .before .before .before .before .before .before .before .before .before .before .before .before .before .before .before .left-child in
     let the-right-child = c .before .before .before .before .before .before .before .before .before .before .before .before .before .right-child in
-    let the-left = c .before .before .before .before .before .before .before .before .before .before .before .before .left in
+    let the-remaining = c .before .before .before .before .before .before .before .before .before .before .before .before .remaining in
     let a = start .args in
     let p = start .pre .1 in
     let v = the-eval .ensures in
@@ -250,12 +250,12 @@ binary-returns-2 t c =
     let sum = binary-rounds S (p .0 .fits) (a .i) (p .1 .0) M ρ (p .1 .1 .0) (p .1 .1 .1) in
     let first = ap (nodeRounds (a .site .now) S ρ) (the-left-child .ensures .0) in
     let second = ap (nodeRounds (a .site .now) S ρ) (the-right-child .ensures .0) in
-    let b = second-number v within (the-left .ensures .0) (the-left .ensures .1) w in
+    let b = second-number v within (the-remaining .ensures .0) (the-remaining .ensures .1) w in
     record {
       sized = record { sets-size = w .sized .sets-size; made-size = w .sized .made-size; work-size = omega (arith, w .sized, c .before .before .put-binary .kept) };
       number = omega (arith, v .number, b, sum, first, second);
       done = λ h.
-          let d = second-done v within (the-left .ensures .0) (the-left .ensures .1) w h in
+          let d = second-done v within (the-remaining .ensures .0) (the-remaining .ensures .1) w h in
           finish {P = nodeMakes M (nodeAt S (a .i)) P Q} (d .memo) (d .values) (c .before .before .put-binary .ensures M)
           (is-binary S (p .0 .fits) (a .i) (p .1 .0) M ρ P Q
           (child (v .done within) (the-load .ensures) (the-left-child .ensures .0)) (p .1 .1 .0) (p .1 .1 .1) (child d (the-load2 .ensures) (the-right-child .ensures .0)));
@@ -419,7 +419,7 @@ eval-returns-2 t c =
     record {
       sized = record { sets-size = c .keep .ensures .size; made-size = simp length-set (v .sized .made-size); work-size = v .sized .work-size };
       number = v .number;
-      done = λ h. noted (the-compute .result) (p .0 .short) (p .1) (v .sized .made-size) (v .done h) (c .keep .ensures) (omega (arith, v .number));
+      done = λ h. kept (the-compute .result) (p .0 .short) (p .1) (v .sized .made-size) (v .done h) (c .keep .ensures) (omega (arith, v .number));
     }
 
 fixpoint-kind-requires : (t : ℕ) → fixpoint-lts.Need-kind-requires (fixpoint-calls t) (fixpoint-at t) fixpoint.Post
@@ -468,15 +468,15 @@ fixpoint-returns-2 : (t : ℕ) → fixpoint-lts.Need-returns-2 (fixpoint-calls t
 fixpoint-returns-2 t c = c .before .before .fixpoint-from2 .ensures
 
 abbrev fixpoint-from-calls : ℕ → fixpoint-from-lts.Claims
-fixpoint-from-calls t = (number-reads.Asked, number-reads.Learnt, left-child-reads.Asked, left-child-reads.Learnt, load-reads.Asked, load-reads.Learnt, assign-reads.Asked, assign-reads.Learnt, left-reads.Asked, left-reads.Learnt, eval-below t, eval.Post, least-reads.Asked, least-reads.Learnt, same-set-reads.Asked, same-set-reads.Learnt, store-reads.Asked, store-reads.Learnt)
+fixpoint-from-calls t = (number-reads.Asked, number-reads.Learnt, left-child-reads.Asked, left-child-reads.Learnt, load-reads.Asked, load-reads.Learnt, assign-reads.Asked, assign-reads.Learnt, remaining-reads.Asked, remaining-reads.Learnt, eval-below t, eval.Post, least-reads.Asked, least-reads.Learnt, same-set-reads.Asked, same-set-reads.Learnt, store-reads.Asked, store-reads.Learnt)
 
 abbrev fixpoint-from-Inv-loop : fixpoint-from-lts.InvT-loop
-fixpoint-from-Inv-loop site table sets₀ made₀ work₀ i budget x b old set₀ total₀ rounds₀ moved₀ sets made work set total rounds moved =
-    Rounds site table sets₀ sets made work (budget .limit) (budget .cap) (nodeAt table i .kind) x b set rounds total moved
+fixpoint-from-Inv-loop site table sets₀ made₀ work₀ i budget x b old set₀ total₀ evaluations₀ moved₀ sets made work set total evaluations moved =
+    Rounds site table sets₀ sets made work (budget .limit) (budget .cap) (nodeAt table i .kind) x b set evaluations total moved
 
 abbrev fixpoint-from-μ-loop : fixpoint-from-lts.MeasureT-loop
-fixpoint-from-μ-loop site table sets₀ made₀ work₀ i budget x b old set₀ total₀ rounds₀ moved₀ sets made work set total rounds moved =
-    setSlots + 1 - rounds
+fixpoint-from-μ-loop site table sets₀ made₀ work₀ i budget x b old set₀ total₀ evaluations₀ moved₀ sets made work set total evaluations moved =
+    setSlots + 1 - evaluations
 
 fixpoint-from-number-requires : (t : ℕ) → fixpoint-from-lts.Need-number-requires (fixpoint-from-calls t) (fixpoint-from-at t) fixpoint-from.Post fixpoint-from-Inv-loop fixpoint-from-μ-loop
 fixpoint-from-number-requires t c κs =
@@ -513,8 +513,8 @@ fixpoint-from-assign-requires t c κs =
     let hx = loop-variable (p .1 .1 .0) (the-number .ensures .1) in
     (the-loop .inv .sized .sets-size, hx)
 
-fixpoint-from-left-requires : (t : ℕ) → fixpoint-from-lts.Need-left-requires (fixpoint-from-calls t) (fixpoint-from-at t) fixpoint-from.Post fixpoint-from-Inv-loop fixpoint-from-μ-loop
-fixpoint-from-left-requires t c κs =
+fixpoint-from-remaining-requires : (t : ℕ) → fixpoint-from-lts.Need-remaining-requires (fixpoint-from-calls t) (fixpoint-from-at t) fixpoint-from.Post fixpoint-from-Inv-loop fixpoint-from-μ-loop
+fixpoint-from-remaining-requires t c κs =
     let start = c .before .before .before .before .before .before .before .before .before .before .before .before .before in
     let the-loop = c .before .before .before .before .loop in
     let the-loop-test = c .before .before .before .loop-test in
@@ -530,11 +530,11 @@ fixpoint-from-eval-requires t c κs =
     let the-loop = c .before .before .before .before .before .before .before .before .loop in
     let the-loop-test = c .before .before .before .before .before .before .before .loop-test in
     let the-assign = c .before .before .before .before .assign in
-    let the-left = c .before .before .before .left in
+    let the-remaining = c .before .before .before .remaining in
     let p = start .pre .1 in
     let hx = loop-variable (p .1 .1 .0) (the-number .ensures .1) in (
       omega (arith, start .pre, the-left-child .ensures),
-      (assigned (the-loop .inv) (the-loop-test .taken) (the-assign .ensures) (the-left .ensures .0) (the-left .ensures .1) (p .0) hx, omega (arith, start .pre, the-left-child .ensures)),
+      (assigned (the-loop .inv) (the-loop-test .taken) (the-assign .ensures) (the-remaining .ensures .0) (the-remaining .ensures .1) (p .0) hx, omega (arith, start .pre, the-left-child .ensures)),
     )
 
 fixpoint-from-load-requires-2 : (t : ℕ) → fixpoint-from-lts.Need-load-requires-2 (fixpoint-from-calls t) (fixpoint-from-at t) fixpoint-from.Post fixpoint-from-Inv-loop fixpoint-from-μ-loop
@@ -557,10 +557,10 @@ fixpoint-from-add-least-2 t c =
     let start = c .before .before .before .before .before .before .before .before .before .before .before .before .before .before .before .before .before .before .before .before .before .before in
     let the-loop = c .before .before .before .before .before .before .before .before .before .before .before .before .before .loop in
     let the-loop-test = c .before .before .before .before .before .before .before .before .before .before .before .before .loop-test in
-    let the-left = c .before .before .before .before .before .before .before .before .left in
+    let the-remaining = c .before .before .before .before .before .before .before .before .remaining in
     let the-eval = c .before .before .before .before .eval in
     let p = start .pre .1 in
-    omega (arith, p .0 .budget, the-loop .inv .going (the-loop-test .taken), the-left .ensures .1, the-eval .ensures .number)
+    omega (arith, p .0 .budget, the-loop .inv .going (the-loop-test .taken), the-remaining .ensures .1, the-eval .ensures .number)
 
 fixpoint-from-least-requires : (t : ℕ) → fixpoint-from-lts.Need-least-requires (fixpoint-from-calls t) (fixpoint-from-at t) fixpoint-from.Post fixpoint-from-Inv-loop fixpoint-from-μ-loop
 fixpoint-from-least-requires t c κs = tt
@@ -568,8 +568,8 @@ fixpoint-from-least-requires t c κs = tt
 fixpoint-from-same-set-requires : (t : ℕ) → fixpoint-from-lts.Need-same-set-requires (fixpoint-from-calls t) (fixpoint-from-at t) fixpoint-from.Post fixpoint-from-Inv-loop fixpoint-from-μ-loop
 fixpoint-from-same-set-requires t c κs = tt
 
-fixpoint-from-add-rounds : (t : ℕ) → fixpoint-from-lts.Need-add-rounds (fixpoint-from-calls t) (fixpoint-from-at t) fixpoint-from.Post fixpoint-from-Inv-loop fixpoint-from-μ-loop
-fixpoint-from-add-rounds t c =
+fixpoint-from-add-evaluations : (t : ℕ) → fixpoint-from-lts.Need-add-evaluations (fixpoint-from-calls t) (fixpoint-from-at t) fixpoint-from.Post fixpoint-from-Inv-loop fixpoint-from-μ-loop
+fixpoint-from-add-evaluations t c =
     let the-loop = c .before .before .before .before .before .before .before .before .before .before .before .before .before .before .before .before .loop in
     omega (arith, the-loop .inv .few)
 
@@ -577,7 +577,7 @@ fixpoint-from-loop-less : (t : ℕ) → fixpoint-from-lts.Need-loop-less (fixpoi
 fixpoint-from-loop-less t c =
     let the-loop = c .before .before .before .before .before .before .before .before .before .before .before .before .before .before .before .before .loop in
     let the-if1 = c .before .before .before .before .before .before .before .before .before .before .before .before .before .before .if1 in
-    omega (arith, the-loop .inv .few, ltb-true (the-loop .rounds) (setSlots + 1) (the-if1 .taken))
+    omega (arith, the-loop .inv .few, ltb-true (the-loop .evaluations) (setSlots + 1) (the-if1 .taken))
 
 fixpoint-from-loop-again : (t : ℕ) → fixpoint-from-lts.Need-loop-again (fixpoint-from-calls t) (fixpoint-from-at t) fixpoint-from.Post fixpoint-from-Inv-loop fixpoint-from-μ-loop
 fixpoint-from-loop-again t c =
@@ -585,12 +585,12 @@ fixpoint-from-loop-again t c =
     let the-loop = c .before .before .before .before .before .before .before .before .before .before .before .before .before .before .before .before .loop in
     let the-loop-test = c .before .before .before .before .before .before .before .before .before .before .before .before .before .before .before .loop-test in
     let the-assign = c .before .before .before .before .before .before .before .before .before .before .before .before .assign in
-    let the-left = c .before .before .before .before .before .before .before .before .before .before .before .left in
+    let the-remaining = c .before .before .before .before .before .before .before .before .before .before .before .remaining in
     let the-if1 = c .before .before .before .before .before .before .before .before .before .before .before .before .before .before .if1 in
     let the-eval = c .before .before .before .before .before .before .before .eval in
     let the-load2 = c .before .before .before .load2 in
     let p = start .pre .1 in
-    rounds-more (the-loop .inv) (the-loop-test .taken) (the-assign .ensures) (the-left .ensures .0) (the-left .ensures .1) (p .0 .budget) (ltb-true (the-loop .rounds) (setSlots + 1) (the-if1 .taken))
+    rounds-more (the-loop .inv) (the-loop-test .taken) (the-assign .ensures) (the-remaining .ensures .0) (the-remaining .ensures .1) (p .0 .budget) (ltb-true (the-loop .evaluations) (setSlots + 1) (the-if1 .taken))
     (the-eval .ensures) (c .before .before .least .ensures) (the-load2 .ensures) (c .before .same-set .ensures .0) (c .before .same-set .ensures .1)
     (λ h. goes-on (c .before .same-set .result) _ (le-leb _ _ h)) (λ h. leb-true _ _ (and-r (not (c .before .same-set .result)) _ h))
 
@@ -632,8 +632,8 @@ fixpoint-from-returns t c =
     let ρ = valuation (a .sets .now) in
     let x : ℕ = the-number .result in
     let b : ℕ = the-left-child .result in
-    let out : (the-loop .moved ≡ false) ⊎ (setSlots + 1 ≤ the-loop .rounds) =
-    ⊎-elim (λ u. inr (ltb-false (the-loop .rounds) (setSlots + 1) (u .1 .left))) (λ u. inl (u .left)) (the-loop-test .came) in
+    let out : (the-loop .moved ≡ false) ⊎ (setSlots + 1 ≤ the-loop .evaluations) =
+    ⊎-elim (λ u. inr (ltb-false (the-loop .evaluations) (setSlots + 1) (u .1 .left))) (λ u. inl (u .left)) (the-loop-test .came) in
     let total = rounds-number R out in
     let own = loop-rounds S (p .0 .fits) (a .i) (p .1 .0) M ρ x b (the-number .ensures .0) (the-left-child .ensures .0) (p .1 .1 .0 .0) (p .1 .1 .0 .1) in
     record {
@@ -716,7 +716,7 @@ pub +binary+compute+eval+fixpoint+fixpoint-from+unary-spec : {M : Type 1} → st
     (binary-returns t)
     (binary-load-requires t)
     (binary-right-child-requires t)
-    (binary-left-requires t)
+    (binary-remaining-requires t)
     (binary-eval-requires-2 t)
     (binary-load-requires-2 t)
     (binary-put-binary-requires t)
@@ -775,14 +775,14 @@ pub +binary+compute+eval+fixpoint+fixpoint-from+unary-spec : {M : Type 1} → st
     (fixpoint-from-load-requires t)
     (fixpoint-from-loop-holds t)
     (fixpoint-from-assign-requires t)
-    (fixpoint-from-left-requires t)
+    (fixpoint-from-remaining-requires t)
     (fixpoint-from-eval-requires t)
     (fixpoint-from-load-requires-2 t)
     (fixpoint-from-add-least t)
     (fixpoint-from-add-least-2 t)
     (fixpoint-from-least-requires t)
     (fixpoint-from-same-set-requires t)
-    (fixpoint-from-add-rounds t)
+    (fixpoint-from-add-evaluations t)
     (fixpoint-from-loop-less t)
     (fixpoint-from-loop-again t)
     (fixpoint-from-assign-requires-2 t)

@@ -35,14 +35,14 @@ use Rattle.listing.specs.Listed.{workBytes}
 use Rattle.listing.specs.State.{Budgeted, Evaluable, Done}
 
 -- each variable of a table's trees is one of the sixteen
-Known : Form → Type 0
-Known φ = (b : Bool) (v : ℕ) → occ b v φ ≡ true → v < variables
+FewVariables : Form → Type 0
+FewVariables φ = (b : Bool) (v : ℕ) → occ b v φ ≡ true → v < variables
 
-known : (xs : List Node) → nodesFit 0 xs ≡ true → (i : ℕ) → i < length xs → Known (treeAt xs i)
-unfolding Known occ build atom one two Subtrees kindFits leafFits
-known xs f = tree-ind Known xs f (λ i x k φ ψ _ _ _ fit _ subtrees. go i x k φ ψ fit subtrees)
+few-variables : (xs : List Node) → nodesFit 0 xs ≡ true → (i : ℕ) → i < length xs → FewVariables (treeAt xs i)
+unfolding FewVariables occ build atom one two Subtrees kindFits leafFits
+few-variables xs f = tree-ind FewVariables xs f (λ i x k φ ψ _ _ _ fit _ subtrees. go i x k φ ψ fit subtrees)
   where
-    go : (i : ℕ) (x : Node) (k : Kind) (φ ψ : Form) → kindFits i x k ≡ true → Subtrees Known k φ ψ → Known (build k (x .param) φ ψ)
+    go : (i : ℕ) (x : Node) (k : Kind) (φ ψ : Form) → kindFits i x k ≡ true → Subtrees FewVariables k φ ψ → FewVariables (build k (x .param) φ ψ)
     go i x (leaf kTrue) φ ψ fit q b v o = clash o refl
     go i x (leaf kHere) φ ψ fit q b v o = clash o refl
     go i x (leaf kLabel) φ ψ fit q b v o = clash o refl
@@ -58,11 +58,11 @@ known xs f = tree-ind Known xs f (λ i x k φ ψ _ _ _ fit _ subtrees. go i x k 
     go i x (binary kAnd) φ ψ fit q b v o = either (or-out (occ b v φ) _ o) (λ p. q .0 b v p) (λ p. q .1 b v p)
 
 -- a closed tree has no free variable, so it has one set and one number of rounds under all valuations
-none-free : (φ : Form) → Known φ → closed φ ≡ true → (v : ℕ) → free v φ ≡ false
-unfolding Known closed free
+none-free : (φ : Form) → FewVariables φ → closed φ ≡ true → (v : ℕ) → free v φ ≡ false
+unfolding FewVariables closed free
 none-free φ k c v = no-true (λ o. not-out _ (all-out variables _ c v (either (or-out (occ true v φ) _ o) (k true v) (k false v))) o)
 
--- at the start no node is known
+-- at the start no node is few-variables
 pub none-known : {site S masks sets made work : List ℕ} {limit cap n : ℕ} → length site ≡ siteBytes → Sound S → FreeRows S masks → Started masks sets n
     → n ≡ length S / 6 → length made ≡ tableNodes → length work ≡ workBytes → Budgeted limit cap → Evaluable site S limit cap sets made work
 unfolding setAt
@@ -97,7 +97,7 @@ module _ {S : List ℕ} {i : ℕ} (sound : Sound S) (e : i ≡ length S / 6 - 1)
 
   unbound : (v : ℕ) → free v (treeAt (tableOf S) (length (tableOf S) - 1)) ≡ false
   unfolding formOf
-  unbound = none-free _ (known (tableOf S) (sound .fits) (length (tableOf S) - 1) inside) (sound .is-closed)
+  unbound = none-free _ (few-variables (tableOf S) (sound .fits) (length (tableOf S) - 1) inside) (sound .is-closed)
 
   answer-slot : (σ ρ : Env) (s : ℕ) → s < slots → (eval M σ (treeAt (tableOf S) i) s ≡ true) ↔ Holds M ρ (formOf (tableOf S)) s
   unfolding formOf

@@ -1,16 +1,16 @@
 -- The rounds of a node, from its kind and its children's rounds; and that a loop's rounds come to rest.
-use mathlib.Core.Path.{_≡_, sym, _∙_, ap, ap₂, subst}
+use mathlib.Core.Path.{_≡_, _∙_, ap, subst}
 use mathlib.Core.Logic.{_⊎_, inl, inr}
 use mathlib.Core.List.{List}
 use mathlib.Core.Bool.{true}
-use Prim.Native.Nat.{ℕ, _+_, _*_, _≤_, _<_}
+use Prim.Native.Nat.{ℕ, _+_, _*_, _≤_}
 use native.Mathlib.Omega.{arith}
 use lib.ListN.{length}
 use Rattle.finite.specs.Laws.Bools.{either}
 use Rattle.finite.specs.Laws.Below.{equal?}
 use Rattle.limits.specs.Limits.{slots, notNo, orNo, andNo, diaNo, boxNo, muNo, nuNo}
-use Rattle.semantics.specs.Holds.{Set, Env, put, Model}
-use Rattle.semantics.specs.Table.{Kind, Leaf, leaf, unary, binary, kTrue, kHere, kLabel, kName, kVar, kSlot, kNot, kDia, kBox, kMu, kNu, kOr, kAnd, kindOf, build, one, two, treeAt, nodesFit, evenTable}
+use Rattle.semantics.specs.Holds.{Env, put, Model}
+use Rattle.semantics.specs.Table.{Kind, Leaf, leaf, unary, binary, kTrue, kHere, kLabel, kName, kVar, kSlot, kNot, kDia, kBox, kMu, kNu, kOr, kAnd, kindOf, build, one, treeAt, nodesFit, evenTable}
 use Rattle.semantics.specs.Laws.FixedPoint.{iter}
 use Rattle.semantics.specs.Laws.Eval.{eval, evenTree, table-even}
 use Rattle.semantics.specs.Laws.Agree.{_≐_}

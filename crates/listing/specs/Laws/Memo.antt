@@ -1,17 +1,17 @@
 -- What the calls of the evaluator leave.
 use mathlib.Core.Path.{_≡_, refl, sym, _∙_, ap, subst}
 use mathlib.Core.List.{List}
-use mathlib.Core.Bool.{Bool, true, false, or-false}
+use mathlib.Core.Bool.{true, false, or-false}
 use Prim.Native.Nat.{ℕ, _+_, _-_, _*_, _≤_, _<_, min}
 use native.Mathlib.Omega.{arith}
-use lib.ListN.{length, getD, set, length-set}
+use lib.ListN.{length, getD, set}
 use lib.Seq.{getD-set-same, getD-set-other}
 use Rattle.finite.specs.Tests.{same}
-use Rattle.finite.specs.Laws.Bools.{either, look, clash, and-l, and-r, not-out}
+use Rattle.finite.specs.Laws.Bools.{either, clash, no-true, and-l, and-r, not-out}
 use Rattle.finite.specs.Laws.Below.{equal?, ne-same}
-use Rattle.limits.specs.Limits.{slots, variables, tableNodes, tableBytes}
+use Rattle.limits.specs.Limits.{variables, tableNodes, tableBytes}
 use Rattle.semantics.specs.Form.{free}
-use Rattle.semantics.specs.Holds.{Set, Env, put}
+use Rattle.semantics.specs.Holds.{Set, Env}
 use Rattle.semantics.specs.Table.{treeAt}
 use Rattle.semantics.specs.Laws.Monotone.{put-other}
 use Rattle.semantics.specs.Laws.Agree.{_≐_, eval-agree}
@@ -19,8 +19,8 @@ use Rattle.rounds.specs.Laws.Count.{rounds-agree}
 use Rattle.site.specs.Site.{siteOf}
 use Rattle.condition.specs.Bytes.{tableOf}
 use Rattle.listing_sets.specs.Offsets.{setAt, valuation, SetWritten}
-use Rattle.listing_memo.specs.Memo.{known, freeIn, Kept, Assigned}
-use Rattle.listing.specs.State.{nodeSet, nodeRounds, Sized, Budgeted, Right, Memo, Evaluable, Done, Evaluated}
+use Rattle.listing_memo.specs.Memo.{known, Kept, Assigned}
+use Rattle.listing.specs.State.{nodeSet, nodeRounds, Budgeted, Right, Memo, Evaluable, Done, Evaluated}
 
 -- where every variable that is free in node j has the same slots under two valuations, the node has the same set and the same rounds
 module _ (site S : List ℕ) (j : ℕ) (ρ ρ′ : Env) (e : (v : ℕ) → free v (treeAt (tableOf S) j) ≡ true → ρ′ v ≐ ρ v) where
@@ -54,14 +54,11 @@ moved {site} {S} {sets} {sets′} {x = x} short hx m a =
       free-right = λ y j hy h. a .same-free y j hy (omega arith) ∙ m .free-right y j hy h;
       known-right = λ j h k.
           let was = sym (a .known-left j (omega arith)) ∙ k in
-          let bound : free x (treeAt (tableOf S) j) ≡ false = sym (m .free-right x j hx h) ∙ not-true (not-out _ (and-r (known sets j) _ was)) in
+          let bound : free x (treeAt (tableOf S) j) ≡ false = sym (m .free-right x j hx h) ∙ no-true (not-out _ (and-r (known sets j) _ was)) in
           right-agrees site S j (valuation sets) (valuation sets′)
           (λ v o s q. a .values v s q ∙ put-other (valuation sets) _ s (λ e. clash (subst (λ (u : ℕ). free u (treeAt (tableOf S) j) ≡ true) e o) bound))
           (m .known-right j h (and-l _ _ was));
     }
-  where
-    not-true : {b : Bool} → ¬ (b ≡ true) → b ≡ false
-    not-true {b} n = either (look b) (λ e. absurd (n e)) (λ e. e)
 
 -- node i's set is written, which changes no other set, and nothing is said of node i
 pub finish : {site S sets sets′ made′ work work′ : List ℕ} {cap i : ℕ} {P : Set} → Memo site S cap sets′ made′ work
@@ -87,10 +84,10 @@ finish {site} {S} {sets} {sets′} {work′ = work′} {i = i} m values w e =
     }
 
 -- node i is known from now on, with the rounds made for it
-pub noted : {site S sets sets₁ sets₂ made₁ work₁ : List ℕ} {cap i : ℕ} (r : ℕ) → length S ≤ tableBytes → 6 * i + 6 ≤ length S → length made₁ ≡ tableNodes
+pub kept : {site S sets sets₁ sets₂ made₁ work₁ : List ℕ} {cap i : ℕ} (r : ℕ) → length S ≤ tableBytes → 6 * i + 6 ≤ length S → length made₁ ≡ tableNodes
     → Done site S cap sets sets₁ made₁ work₁ i → Kept sets₁ sets₂ i → min r cap ≡ min (nodeRounds site S (valuation sets) i) cap
     → Done site S cap sets sets₂ (set made₁ i r) work₁ i
-noted {site} {S} {sets} {sets₁} {sets₂} {made₁} {work₁} {cap} {i} r short hi hm d k e =
+kept {site} {S} {sets} {sets₁} {sets₂} {made₁} {work₁} {cap} {i} r short hi hm d k e =
     record {
       memo = record {
         free-right = λ y j hy h. k .same-free y j hy (omega arith) ∙ d .memo .free-right y j hy h;

@@ -3,16 +3,15 @@ use mathlib.Core.Path.{_≡_, refl, sym, _∙_, subst}
 use mathlib.Core.Logic.{_⊎_, inl, inr, _≢_}
 use mathlib.Core.List.{List}
 use mathlib.Core.Bool.{Bool, true, false, not, _&&_}
-use Prim.Native.Nat.{ℕ, suc, _+_, _-_, _*_, _≤_, _<_, min}
+use Prim.Native.Nat.{ℕ, _+_, _-_, _≤_, _<_, min}
 use native.Mathlib.Numerals.{add-one}
 use native.Mathlib.Omega.{arith}
-use lib.ListN.{length}
 use borrow.Author.Tests.{not-false}
 use Rattle.finite.specs.Tests.{below}
 use Rattle.finite.specs.Laws.Bools.{either, look, clash}
 use Rattle.finite.specs.Laws.Below.{equal?, below-out, not-below}
 use Rattle.bitset.specs.Set.{setSlots, has}
-use Rattle.limits.specs.Limits.{slots, variables, tableBytes}
+use Rattle.limits.specs.Limits.{slots, variables}
 use Rattle.semantics.specs.Holds.{Set, put}
 use Rattle.semantics.specs.Table.{treeAt}
 use Rattle.semantics.specs.Laws.Monotone.{put-same, put-other}

@@ -2,17 +2,17 @@
 use mathlib.Core.Path.{_≡_, refl, sym, _∙_, ap, ap₂}
 use mathlib.Core.Logic.{_≢_}
 use mathlib.Core.List.{List}
-use mathlib.Core.Bool.{Bool, true, false, not, _&&_, _||_, or-false}
+use mathlib.Core.Bool.{Bool, true, false, not, _&&_, _||_, and-false, or-false}
 use Prim.Native.Nat.{ℕ, suc, _+_, _-_, _*_, _/_, _%_, _≤_, _<_}
 use native.Mathlib.Omega.{arith}
 use lib.ListN.{length, getD, replicate, length-replicate, getD-replicate}
 use lib.Dec.{eqb}
 use Rattle.finite.specs.Tests.{same, below, bit}
-use Rattle.finite.specs.Laws.Bools.{either, look, and-l, and-r, both, or-out, or-l, or-r, and-in, clash}
+use Rattle.finite.specs.Laws.Bools.{either, look, and-l, both, and-in}
 use Rattle.finite.specs.Laws.Bits.{bit-suc}
 use Rattle.finite.specs.Laws.Weights.{bit-zero}
 use Rattle.finite.specs.Laws.Below.{equal?, same-refl, same-eq, eq-same, ne-same, below-in, below-out, below-not, not-below}
-use Rattle.bitset.specs.Set.{setBytes, setSlots, has, inserted}
+use Rattle.bitset.specs.Set.{setSlots, has, inserted}
 use Rattle.bitset.specs.Laws.Slot.{has-inserted, length-inserted}
 use Rattle.limits.specs.Limits.{slots, variables, tableNodes}
 use Rattle.semantics.specs.Holds.{Set, put}
@@ -20,7 +20,7 @@ use Rattle.semantics.specs.Laws.Monotone.{put-same, put-other}
 use Rattle.semantics.specs.Laws.Agree.{_≐_}
 use Rattle.listing_sets.specs.Offsets.{setAt, valuation, SetWritten}
 use Rattle.listing_sets.specs.Laws.Offsets.{valuation-is, valuation-same}
-use Rattle.listing_memo.specs.Memo.{nodeSets, knownAt, freeAt, memoBytes, known, freeIn, SameFree, Kept, Forgotten, Assigned, Noted, Started}
+use Rattle.listing_memo.specs.Memo.{nodeSets, knownAt, freeAt, memoBytes, freeIn, Kept, Forgotten, Assigned, Noted, Started}
 
 -- node j of the set of nodes that starts with set m stands in set m + j / 256
 far : (b : List ℕ) (m j : ℕ) → setAt b m j ≡ setAt b (m + j / setSlots) (j % setSlots)
@@ -49,7 +49,7 @@ kept b b′ j h l e =
     at s = ap (λ (B : List ℕ). has B s) e ∙ has-inserted b (setSlots * knownAt + j) s (omega arith)
 
     elsewhere : (s : ℕ) → s ≢ setSlots * knownAt + j → (has b s || same s (setSlots * knownAt + j)) ≡ has b s
-    elsewhere s n = rw (ne-same n) (either (look (has b s)) (λ q. rw q refl) (λ q. rw q refl))
+    elsewhere s n = rw (ne-same n) (or-false (has b s))
 
 -- a variable moves: the nodes in which it is free are taken out set by set
 pub forgotten-none : (b : List ℕ) (x : ℕ) → Forgotten b b x 0
@@ -103,10 +103,6 @@ assigned {b} {b₁} {b₂} {x} {P} hx hl w f =
 lowest-digit : (n : ℕ) → bit n 0 ≡ same (n % 2) 1
 unfolding bit same
 lowest-digit n = ap (λ (m : ℕ). eqb (m % 2) 1) (let q : n / 1 ≡ n = omega arith in q)
-
-and-false : (a : Bool) → (a && false) ≡ false
-and-false true = refl
-and-false false = refl
 
 module _ {b : List ℕ} {j mask : ℕ} where
   pub noted-none : length b ≡ memoBytes → Noted b b j mask 0

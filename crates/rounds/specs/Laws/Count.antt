@@ -1,7 +1,7 @@
 -- The rounds of a condition, computed beside its set.
-use mathlib.Core.Path.{_≡_, refl, sym, _∙_, ap, ap₂}
+use mathlib.Core.Path.{_≡_, refl, ap₂}
 use mathlib.Core.Bool.{Bool, true, false, not, cond, Bool·beq}
-use Prim.Native.Nat.{ℕ, zero, suc, _+_, _<_}
+use Prim.Native.Nat.{ℕ, zero, suc, _+_}
 use Rattle.finite.specs.Tests.{all}
 use Rattle.finite.specs.Laws.Bools.{clash, or-l, or-r, beq-true, eq-beq}
 use Rattle.finite.specs.Laws.Below.{all-in, all-out, all-cong}

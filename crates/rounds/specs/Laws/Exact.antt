@@ -15,17 +15,17 @@ use Rattle.semantics.specs.Laws.FixedPoint.{iter, none, full, settled, least, s
 use Rattle.semantics.specs.Table.{Node, treeAt, nodesFit, evenTable}
 use Rattle.semantics.specs.Laws.Eval.{eval, evenTree, body-grows, eval-holds, table-even}
 use Rattle.semantics.specs.Laws.Agree.{_≐_, Agrees, under, twice, agrees-free}
-use Rattle.rounds.specs.Makes.{Holding, Loop, last, more, Makes}
+use Rattle.rounds.specs.Makes.{SetOf, Loop, last, more, Makes}
 use Rattle.rounds.specs.Laws.Count.{sameSet, loop, enough, rounds, same-in, same-out}
 use Rattle.rounds.specs.Laws.Loops.{loop-last, loop-more}
 
 -- the slots where something holds, by another name or another set with the same slots; two sets of them have the same slots
-holding-as : {P Q : ℕ → Type 0} {S T : Set} → ((x : ℕ) → x < slots → P x ↔ Q x) → S ≐ T → Holding P S → Holding Q T
-unfolding Holding
+holding-as : {P Q : ℕ → Type 0} {S T : Set} → ((x : ℕ) → x < slots → P x ↔ Q x) → S ≐ T → SetOf P S → SetOf Q T
+unfolding SetOf
 holding-as f e h x k = (λ p. f x k .0 (h x k .0 (e x k ∙ p)), λ p. sym (e x k) ∙ h x k .1 (f x k .1 p))
 
-holding-one : (P : ℕ → Type 0) (S T : Set) → Holding P S → Holding P T → S ≐ T
-unfolding Holding
+holding-one : (P : ℕ → Type 0) (S T : Set) → SetOf P S → SetOf P T → S ≐ T
+unfolding SetOf
 holding-one P S T h g x k = both (λ p. g x k .1 (h x k .0 p)) (λ p. h x k .1 (g x k .0 p))
 
 -- Two loops whose bodies agree on sets with the same slots make as many rounds.
@@ -86,8 +86,8 @@ iter-next F S (suc j) = ap F (iter-next F S j)
 
 -- Where a map comes to rest after j rounds, one evaluation more, the one that shows it, is enough.
 module _ (Body : Set → ℕ → Type 0) (Inner : Set → ℕ → Type 0) (F : Set → Set) (g : Set → ℕ)
-    (value : (S : Set) → Holding (Body S) (F S)) (inside : (S : Set) → Inner S (g S)) where
-  back : (S : Set) → F S ≐ S → Holding (Body S) S
+    (value : (S : Set) → SetOf (Body S) (F S)) (inside : (S : Set) → Inner S (g S)) where
+  back : (S : Set) → F S ≐ S → SetOf (Body S) S
   back S e = holding-as (λ x k. Iff·rfl) e (value S)
 
   loop-made : (j k : ℕ) → j < k → (S : Set) → F (iter j F S) ≐ iter j F S → Loop Body Inner S (loop k F g S)
@@ -129,7 +129,7 @@ module _ (M : Model) where
 
   -- the number that is computed is made: within one evaluation more than there are slots each loop has ended
   pub rounds-made : (φ : Form) → evenTree φ ≡ true → (ρ : Env) → Makes M ρ φ (rounds M ρ φ)
-  unfolding Makes rounds evenTree none full Holding
+  unfolding Makes rounds evenTree none full SetOf
   rounds-made top w ρ = refl
   rounds-made here w ρ = refl
   rounds-made (label _) w ρ = refl

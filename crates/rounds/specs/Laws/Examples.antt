@@ -1,6 +1,6 @@
 -- Worked examples: loops of one and two rounds, and the condition R on a chain of places, which adds one place a round.
 use mathlib.Core.Path.{_≡_, refl, sym, _∙_, subst, fun-ext}
-use mathlib.Core.Logic.{_⊎_, inl, inr, _↔_}
+use mathlib.Core.Logic.{inl, inr, _↔_}
 use mathlib.Core.List.{[], _∷_}
 use mathlib.Core.Bool.{true, false, not, _&&_}
 use Prim.Native.Nat.{ℕ, zero, suc, _+_, _-_, _≤_, _<_}
@@ -13,29 +13,29 @@ use Rattle.semantics.specs.Form.{along, Form, top, label, var, neg, or, dia, mu
 use Rattle.semantics.specs.Holds.{Set, Env, put, Model, step, Holds}
 use Rattle.semantics.specs.Table.{node, kindOf, atom, one, two, build, tree, trees, treeAt, formOf}
 use Rattle.semantics.specs.Laws.Monotone.{put-same}
-use Rattle.rounds.specs.Makes.{Holding, Loop, last, more, Makes}
+use Rattle.rounds.specs.Makes.{SetOf, Loop, last, more, Makes}
 use Rattle.rounds.specs.Laws.Count.{enough}
 
 -- the empty set comes back at once
 pub mu-false : (M : Model) (ρ : Env) (v : ℕ) → Makes M ρ (mu v (neg top)) 1
-unfolding Makes Holds Holding
+unfolding Makes Holds SetOf
 mu-false M ρ v = last (λ x k. (λ p. clash p refl, λ p. absurd (p tt))) refl
 
 -- the full set comes back after one round
 pub mu-true : (M : Model) (ρ : Env) (v : ℕ) → Makes M ρ (mu v top) 2
-unfolding Makes Holds Holding slots
+unfolding Makes Holds SetOf slots
 mu-true M ρ v =
     let first : 0 < slots = omega arith in
     more {T = λ x. true} (λ h. clash (h 0 first .1 tt) refl) (λ x k. (λ p. tt, λ p. refl)) refl (last (λ x k. (λ p. tt, λ p. refl)) refl)
 
 -- an inner loop starts again in each round of the outer one: two rounds, and two inside each
-pub mu-mu-true : (M : Model) (ρ : Env) → Makes M ρ (mu 0 (mu 1 top)) 6
-unfolding Makes Holds Holding slots
+pub mu-mu-true : (M : Model) (ρ : Env) → Makes M ρ (mu 1 (mu 0 top)) 6
+unfolding Makes Holds SetOf slots
 mu-mu-true M ρ =
     let first : 0 < slots = omega arith in
     more {T = λ x. true} (λ h. clash (h 0 first .1 (λ T g. g 0 first tt)) refl) (λ x k. (λ p T g. g x k tt, λ p. refl))
-    (mu-true M (put ρ 0 (λ x. false)) 1)
-    (last (λ x k. (λ p T g. g x k tt, λ p. refl)) (mu-true M (put ρ 0 (λ x. true)) 1))
+    (mu-true M (put ρ 1 (λ x. false)) 0)
+    (last (λ x k. (λ p T g. g x k tt, λ p. refl)) (mu-true M (put ρ 1 (λ x. true)) 0))
 
 -- a shared node counts once for each path: true, mu 0 of it, and that loop or itself
 pub mu-twice : (M : Model) (ρ : Env) → Makes M ρ (formOf (node 0 0 0 0 ∷ node 10 0 0 0 ∷ node 6 0 1 1 ∷ [])) 4
@@ -93,22 +93,22 @@ module _ (M : Model) (ρ : Env) (a b : ℕ) (c : Chain M a b) where
         inr (x - 1, omega (arith, c .slots-hold, q .2), c .linked x (x - 1) .1 (e, omega (arith, q .0), omega (arith, q .2)), put-same ρ 0 (run a k) (x - 1) ∙ run-in a k (x - 1) (omega (arith, q .0)) (omega (arith, q .1)))),
   )
 
-  grown : (k : ℕ) → a + k ≤ b → Holding (Body (run a k)) (run a (suc k))
-  unfolding Holding
+  grown : (k : ℕ) → a + k ≤ b → SetOf (Body (run a k)) (run a (suc k))
+  unfolding SetOf
   grown k l x h = (
     λ p. let u = run-to a (suc k) x p in body-of k x .1 (run-from a (suc k) x p, omega arith, omega arith),
     λ p. let q = body-of k x .0 p in run-in a (suc k) x (q .0) (omega (arith, q .1)),
   )
 
-  whole : (k : ℕ) → a + k ≡ suc b → Holding (Body (run a k)) (run a k)
-  unfolding Holding
+  whole : (k : ℕ) → a + k ≡ suc b → SetOf (Body (run a k)) (run a k)
+  unfolding SetOf
   whole k e x h = (
     λ p. let u = run-to a k x p in body-of k x .1 (run-from a k x p, omega arith, omega arith),
     λ p. let q = body-of k x .0 p in run-in a k x (q .0) (omega (arith, q .2)),
   )
 
-  moves : (k : ℕ) → a + k ≤ b → ¬ Holding (Body (run a k)) (run a k)
-  unfolding Holding
+  moves : (k : ℕ) → a + k ≤ b → ¬ SetOf (Body (run a k)) (run a k)
+  unfolding SetOf
   moves k l h =
       let x = a + k in
       let u = run-to a k x (h x (omega (arith, c .slots-hold)) .1 (body-of k x .1 (omega arith, omega arith, omega arith))) in

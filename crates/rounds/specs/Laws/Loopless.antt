@@ -1,4 +1,5 @@
--- A table without a mu or nu: listing it makes no round, and what it is rewritten to has none either. No legal sheet and no fitting table is asked for.
+-- A table without a mu or nu: listing it makes no round, and what it is rewritten to has none either. No legal sheet and no fitting table
+-- is asked for.
 use mathlib.Core.Path.{_≡_, refl, _∙_, ap}
 use mathlib.Core.List.{List, [], _∷_, _++_}
 use mathlib.Core.Bool.{Bool, true, false, _&&_, cond}

@@ -1,4 +1,5 @@
--- The list of a condition without a loop after a sheet is that of the rewritten one today, and has the slots where the condition holds after the sheet.
+-- The list of a condition without a loop after a sheet is that of the rewritten one today, and has the slots where the condition holds
+-- after the sheet.
 -- Neither makes a round, so that no limit refuses them.
 use mathlib.Core.Path.{_≡_}
 use mathlib.Core.Logic.{_↔_, _≢_}

@@ -19,5 +19,5 @@ pub record Capped (limit cap : ℕ) (M : Model) (φ : Form) (set : List ℕ) (f 
   pub size : length set ≡ setBytes
 
 -- with a cap of one above the limit the number shows whether it is over
-abbrev pub Within : (limit : ℕ) (M : Model) (φ : Form) (set : List ℕ) (f : Found) → Type 0
-Within limit = Capped limit (suc limit)
+abbrev pub Limited : (limit : ℕ) (M : Model) (φ : Form) (set : List ℕ) (f : Found) → Type 0
+Limited limit = Capped limit (suc limit)

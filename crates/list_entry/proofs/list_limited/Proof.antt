@@ -2,8 +2,8 @@
 use native.Mathlib.Omega.{arith}
 use Rattle.list_entry.specs.Laws.Listing.{tried-within, tried-over}
 use borrow.Author.Needs.{needs}
-use Rattle.list_entry.proofs.list_within.Statement.{statement}
-use Rattle.list_entry.proofs.list_within.Tie as tie
+use Rattle.list_entry.proofs.list_limited.Statement.{statement}
+use Rattle.list_entry.proofs.list_limited.Tie as tie
 
 list-requires : tie.Need-list-requires
 list-requires c κs = search needs
@@ -36,8 +36,8 @@ returns-2 c =
     let p = c .before .before .before .before .before .before .before .before .before .before .before .before .before .before .pre .1 .1 .1 in
     tried-within (l .0) (l .1) (p .1 .1) (omega arith)
 
-pub list-within-spec : {M : Type 1} → statement M
-list-within-spec =
+pub list-limited-spec : {M : Type 1} → statement M
+list-limited-spec =
     tie.close
     (tie.spec
     list-requires
