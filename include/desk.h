@@ -34,7 +34,7 @@
  *
  * - Rounds up to the limit are answered, more are refused with DESK_ROUNDS, and this is the last test of all.
  * - An answer, or a refusal that is not DESK_ROUNDS, is the same under each larger limit up to DESK_LIMIT_MAX: every number and every byte.
- * - Each of the two lists of a job has the whole limit for itself. The rewritten table's list has as many rounds as the other, or more: the blocks of
+ * - Each of the two lists of a job has the whole limit for itself. The rewritten table's list can make more rounds than the other: the blocks of
  *   AT and DT1 have the node below a diamond or a box twice, so each of these edits can double the rounds of the loops below it.
  *
  * Time. The rounds of nested loops multiply, since each loop makes up to DESK_SLOT_COUNT + 1 of them. The limit bounds them, and so the time: a

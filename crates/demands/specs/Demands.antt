@@ -1,6 +1,6 @@
 -- The demands on the entry points together, over bytes. Demand 2: the rewritten condition lists today exactly what the condition lists
--- after the sheet, where neither list is refused with item 15. Demand 3: two slots have one class number after the sheet exactly if no closed condition without slot numbers, of any
--- length, rewritten through the sheet, tells them apart today.
+-- after the sheet, where neither list is refused with item 15. Demand 3: two slots have one class number after the sheet exactly if no closed
+-- condition without slot numbers, of any length, rewritten through the sheet, tells them apart today.
 use mathlib.Core.Path.{_≡_}
 use mathlib.Core.Logic.{_↔_, _≢_}
 use mathlib.Core.Bool.{true}
@@ -26,8 +26,8 @@ use Rattle.listing.specs.Listed.{workBytes, Listed, foundOf}
 use Rattle.classes_entry.specs.Refusal.{classesBytes}
 use Rattle.desk.specs.Returned.{ReturnedList, ReturnedApply, ReturnedRewrite, ReturnedClasses}
 
--- ---- a call of each entry point: buffers of the stated lengths, a limit up to the highest, and whatever it returns and leaves in them (′). That each call returns
--- so is the contract of its export, which holds for all inputs
+-- ---- a call of each entry point: buffers of the stated lengths, a limit up to the highest, and whatever it returns and leaves in them (′). That
+-- each call returns so is the contract of its export, which holds for all inputs
 
 pub record ApplyCall (site sheet : List ℕ) : Type 0 where
   pub result : List ℕ

@@ -2,6 +2,7 @@
 pub mod Accepted
 pub mod Demand1
 pub mod Demands
+pub mod Early
 pub mod Through
 pub mod Job
 pub mod Same

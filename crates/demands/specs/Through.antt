@@ -1,5 +1,6 @@
--- The demand on the condition for going through, over bytes: for every accepted site and accepted sheet whose table fits, listing accepts the table;
--- its list is all slots exactly if applying the sheet is not refused, and no slot exactly if it is, with item 13.
+-- The demand on the condition for going through, over bytes: for every accepted site and accepted sheet whose table fits, listing accepts the table
+-- under every limit, and makes no round; its list is all slots exactly if applying the sheet is not refused, and no slot exactly if it is, with
+-- item 13.
 use mathlib.Core.Path.{_≡_}
 use mathlib.Core.Logic.{_⊎_, _↔_}
 use mathlib.Core.List.{List}
@@ -35,12 +36,14 @@ pub record Foreseeable (site sheet : List ℕ) : Type 0 where
   pub sheet-accepted : sheetVerdict sheet ≡ Accepted
   pub table-fits : length (through (editsOf sheet)) ≤ tableNodes
 
--- what is to hold of the three calls: the table made from the sheet alone, the table listed on the site, and the sheet applied to the site
+-- what is to hold of the three calls, under every limit: the table made from the sheet alone, the table listed on the site, and the sheet applied
+-- to the site
 pub record Foretold {site sheet : List ℕ} (made : ThroughCall sheet) (listed : ListCall site (throughTable made)) (applied : ApplyCall site sheet)
     : Type 0 where
   -- neither of the first two is refused, and the third is not, or with item 13
   pub makes : made .reason ≡ 0
   pub lists : listed .reason ≡ 0
+  pub no-round : listed .rounds ≡ 0
   pub goes-or-not : (applied .reason ≡ 0) ⊎ (applied .reason ≡ 13)
   pub all-listed : (applied .reason ≡ 0) ↔ ((listed .set′ ≡ replicate setBytes 255) × (listed .count ≡ slots))
   pub none-listed : (applied .reason ≡ 13) ↔ ((listed .set′ ≡ replicate setBytes 0) × (listed .count ≡ 0))

@@ -35,7 +35,7 @@ module _ {file : List ℕ} (c : JobCall file) where
   -- ---- refused only where an item is met
 
   module _ (r : RunnableFile file) where
-    pub job-inputs : jobInputs (c .lent) (c .limit) file ≡ Accepted
+    job-inputs : jobInputs (c .lent) (c .limit) file ≡ Accepted
     job-inputs =
         job-accepted (c .lent) (c .limit) file
         (record {
@@ -66,6 +66,20 @@ module _ {file : List ℕ} (c : JobCall file) where
         let fit : roundsVerdict (c .limit) (f .after) then roundsVerdict (c .limit) (f .today) ≡ Accepted = rw (rounds-in a, rounds-in t) in
         c .returned .returned .reason-is ∙ ap reasonOf (job-due (f .after) (f .today) (f .makes) ∙ fit)
 
+  -- a file whose job meets no item but 15
+  pub runnable-inputs : jobInputs (c .lent) (c .limit) file ≡ Accepted → RunnableFile file
+  runnable-inputs v =
+      let a = job-accepts (c .lent) (c .limit) file v in
+      record {
+        trailer-accepted = a .trailer-accepted;
+        pieces =
+            record {
+              going = record { site-accepted = a .pieces .site-accepted; sheet-accepted = a .pieces .sheet-accepted; goes-through = a .pieces .goes };
+              table-accepted = a .pieces .cond-accepted;
+              table-fits = omega (arith, short-fits (conditionIn file) (sheetIn file) (a .pieces .cond-accepted) (a .pieces .short));
+            };
+      }
+
   module _ (e : c .reason ≡ 0) where
     accepted : dueOf ≡ Accepted
     accepted = job-numbered (c .lent) (c .limit) file _ _ .accepts (sym (c .returned .returned .reason-is) ∙ e)
@@ -76,17 +90,7 @@ module _ {file : List ℕ} (c : JobCall file) where
     parts = then-out (jobInputs (c .lent) (c .limit) file) _ accepted
 
     runnable : RunnableFile file
-    runnable =
-        let a = job-accepts (c .lent) (c .limit) file (parts .0) in
-        record {
-          trailer-accepted = a .trailer-accepted;
-          pieces =
-              record {
-                going = record { site-accepted = a .pieces .site-accepted; sheet-accepted = a .pieces .sheet-accepted; goes-through = a .pieces .goes };
-                table-accepted = a .pieces .cond-accepted;
-                table-fits = omega (arith, short-fits (conditionIn file) (sheetIn file) (a .pieces .cond-accepted) (a .pieces .short));
-              };
-        }
+    runnable = runnable-inputs (parts .0)
 
     fit : RoundsFit (c .limit) file
     fit =

@@ -26,14 +26,14 @@ use Rattle.applying.specs.Refusal.{goesVerdict}
 use Rattle.rewriting.specs.Laws.Grow.{through-grows, too-long-end}
 use Rattle.rewriting.specs.Laws.Accepted.{taken, taken-table, through-bytes-accepted}
 use Rattle.listing.specs.Laws.Same.{like-listed}
-use Rattle.list_entry.specs.Listing.{SiteMakes}
+use Rattle.list_entry.specs.Listing.{SiteMakes, SetAfter}
 use Rattle.apply_entry.specs.Refusal.{applyVerdict}
 use Rattle.refusals.specs.Laws.Items.{buffer-in, rounds-in}
 use Rattle.rewrite_entry.specs.Refusal.{throughVerdict}
 use Rattle.demands.specs.Demands.{ApplyCall, ListCall}
 use Rattle.demands.specs.Through.{ThroughCall, throughTable, Foreseeable, Foretold, DemandThrough}
-use Rattle.demands.specs.Laws.Accepted.{through-accepted, reason-none, table-left}
-use Rattle.demands.specs.Laws.Demands.{list-due, list-reason, listed}
+use Rattle.demands.specs.Laws.Accepted.{through-accepted, reason-none, same-makes, table-left}
+use Rattle.demands.specs.Laws.Demands.{list-due, list-reason, list-set, listed}
 
 module _ {site sheet : List ℕ} (j : Foreseeable site sheet) where
   abbrev es : List edits.Edit
@@ -74,12 +74,18 @@ module _ {site sheet : List ℕ} (j : Foreseeable site sheet) where
     -- ---- and listed
 
     module _ (t : ListCall site (throughTable c)) where
+      makes-none : SiteMakes site (throughTable c) 0
+      makes-none ρ = rw is-through (through-makes es (siteOf site) ρ)
+
       -- no round is made, so that the limit does not matter
-      no-round : t .reason ≢ 15
-      no-round e =
-          let made : SiteMakes site (throughTable c) 0 = λ ρ. rw is-through (through-makes es (siteOf site) ρ) in
-          let v = list-due (j .site-accepted) table-accepted t 0 made ∙ rounds-in (omega arith) in
+      not-over : t .reason ≢ 15
+      not-over e =
+          let v = list-due (j .site-accepted) table-accepted t 0 makes-none ∙ rounds-in (omega arith) in
           absurd (omega (arith, e, t .returned .returned .reason-is ∙ ap reasonOf v))
+
+      no-round : t .rounds ≡ 0
+      unfolding SetAfter
+      no-round = same-makes (siteOf site) _ (t .rounds) 0 (list-set (j .site-accepted) table-accepted t not-over .1) makes-none
 
       -- whether the sheet goes through
       abbrev goes : Bool
@@ -87,7 +93,7 @@ module _ {site sheet : List ℕ} (j : Foreseeable site sheet) where
 
       through-listed : (t .set′ ≡ replicate setBytes (cond goes 255 0)) × (t .count ≡ cond goes slots 0)
       through-listed =
-          like-listed goes (rw is-through at (listed (j .site-accepted) table-accepted t no-round)) (λ ρ s k. through-says es legal (siteOf site) valid ρ s k)
+          like-listed goes (rw is-through at (listed (j .site-accepted) table-accepted t not-over)) (λ ρ s k. through-says es legal (siteOf site) valid ρ s k)
 
       -- ---- beside applying
 
@@ -106,7 +112,8 @@ module _ {site sheet : List ℕ} (j : Foreseeable site sheet) where
             let l = rw g at through-listed in let r = rw g at apply-reason in
             record {
               makes = reason-none made-goes (c .returned);
-              lists = list-reason (j .site-accepted) table-accepted t no-round;
+              lists = list-reason (j .site-accepted) table-accepted t not-over;
+              no-round = no-round;
               goes-or-not = inl r;
               all-listed = (λ _. l, λ _. r);
               none-listed = (λ e. absurd (omega (arith, r, e)), λ p. absurd (omega (arith, l .1, p .1)));
@@ -115,7 +122,8 @@ module _ {site sheet : List ℕ} (j : Foreseeable site sheet) where
             let l = rw g at through-listed in let r = rw g at apply-reason in
             record {
               makes = reason-none made-goes (c .returned);
-              lists = list-reason (j .site-accepted) table-accepted t no-round;
+              lists = list-reason (j .site-accepted) table-accepted t not-over;
+              no-round = no-round;
               goes-or-not = inr r;
               all-listed = (λ e. absurd (omega (arith, r, e)), λ p. absurd (omega (arith, l .1, p .1)));
               none-listed = (λ _. l, λ _. r);

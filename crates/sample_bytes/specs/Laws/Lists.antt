@@ -1,35 +1,24 @@
--- The list of a condition without a loop after a sheet is that of the rewritten one today, and has the slots where the condition holds
--- after the sheet.
--- Neither makes a round, so that no limit refuses them.
+-- The list of a condition without a loop after a sheet is that of the rewritten one today, and has the slots where the condition holds after the
+-- sheet. Neither makes a round, so that no limit refuses them.
 use mathlib.Core.Path.{_≡_}
-use mathlib.Core.Logic.{_↔_, _≢_}
+use mathlib.Core.Logic.{_↔_}
 use mathlib.Core.Bool.{true}
 use mathlib.Core.List.{List}
 use Prim.Native.Nat.{ℕ, _<_}
 use native.Mathlib.Omega.{arith}
 use Rattle.bitset.specs.Set.{has}
 use Rattle.limits.specs.Limits.{slots}
-use Rattle.verdict.specs.declared.Verdict.the-variants.{Accepted}
 use Rattle.semantics.specs.Holds.{Env, Holds}
 use Rattle.semantics.specs.Table.{Node, formOf}
 use Rattle.rounds.specs.Laws.Loopless.{loopless, loopless-makes, sheet-loopless}
 use Rattle.site.specs.Site.{siteOf}
-use Rattle.site.specs.Refusal.{siteVerdict}
 use Rattle.condition.specs.Bytes as condition
-use Rattle.condition.specs.Refusal.{conditionVerdict}
 use Rattle.condition.specs.Laws.Bytes.{table-back}
 use Rattle.sheet.specs.Bytes.{editsOf}
 use Rattle.list_entry.specs.Listing.{SiteMakes}
 use Rattle.demands.specs.Demands.{ApplyCall, RewriteCall, ListCall, rewrittenTable, Runnable, SameLists, Demand2}
-use Rattle.demands.specs.Rounds.{DemandLimitList}
-use Rattle.demands.specs.Laws.Demands.{demand-2, left-accepted, table-accepted, is-rewritten}
-use Rattle.demands.specs.Laws.Rounds.{demand-rounds}
-
--- a list of no rounds is not over its limit
-not-over : {site table : List ℕ} → siteVerdict site ≡ Accepted → conditionVerdict table ≡ Accepted → SiteMakes site table 0 → (c : ListCall site table)
-    → c .reason ≢ 15
-unfolding DemandLimitList
-not-over {site} {table} a b m c e = absurd (omega (arith, demand-rounds .limit-list site table a b .1 0 m c .over .0 e))
+use Rattle.demands.specs.Laws.Demands.{demand-2, is-rewritten}
+use Rattle.demands.specs.Laws.Rounds.{not-over}
 
 module _ (site sheet : List ℕ) (xs : List Node) (still : loopless xs ≡ true) (j : Runnable site (condition.bytesOf xs) sheet)
     (applied : ApplyCall site sheet) (rewrote : RewriteCall (condition.bytesOf xs) sheet)
@@ -41,8 +30,8 @@ module _ (site sheet : List ℕ) (xs : List Node) (still : loopless xs ≡ true)
       let makes-today : SiteMakes site (rewrittenTable rewrote) 0 =
       λ ρ. rw (is-rewritten j rewrote, table-back xs) (loopless-makes _ (sheet-loopless (editsOf sheet) xs still) (siteOf site) ρ) in
       demand-2 site (condition.bytesOf xs) sheet j applied rewrote today after
-      (not-over (j .going .site-accepted) (table-accepted j rewrote) makes-today today)
-      (not-over (left-accepted (j .going) applied) (j .table-accepted) makes-after after)
+      (not-over makes-today today (omega arith))
+      (not-over makes-after after (omega arith))
 
   pub lists-same : today .set′ ≡ after .set′
   lists-same = same-lists .agree .same-set

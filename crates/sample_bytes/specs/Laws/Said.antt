@@ -33,9 +33,9 @@ use Rattle.list_entry.specs.Listing.{SiteMakes}
 use Rattle.apply_entry.specs.Refusal.{applyVerdict}
 use Rattle.rewrite_entry.specs.Refusal.{rewriteVerdict}
 use Rattle.demands.specs.Demands.{Runnable, ApplyCall, RewriteCall, ListCall, rewrittenTable}
-use Rattle.demands.specs.Rounds.{ListLimit, DemandLimitList}
+use Rattle.demands.specs.Rounds.{DemandLimitList}
 use Rattle.demands.specs.Laws.Demands.{list-due, listed, apply-reason, site-left, left-accepted, rewrite-reason, written, table-accepted, is-rewritten}
-use Rattle.demands.specs.Laws.Rounds.{demand-rounds}
+use Rattle.demands.specs.Laws.Rounds.{not-over, demand-rounds}
 use Rattle.sample_bytes.specs.Said.{siteIn, tableIn, sheetIn, Lists, ListsWithin, Answers, SampleWritten, Returns, AllReturned}
 use Rattle.sample_bytes.specs.Refused.{NotApplied, NotRewritten, NotListed}
 use Rattle.sample_bytes.specs.Laws.Write.{bytes-lt}
@@ -56,9 +56,9 @@ module _ {site table : List ℕ} (a : siteVerdict site ≡ Accepted) (b : condit
   makes-here : SiteMakes site table n
   makes-here ρ = rw (site-is, table-is) (makes ρ)
 
-  limited : ListLimit call n
+  returned : call .reason ≢ 15 → (call .reason ≡ 0) × (call .rounds ≡ n)
   unfolding DemandLimitList
-  limited = demand-rounds .limit-list site table a b .1 n makes-here call
+  returned = demand-rounds .limit-list site table .within (record { site-accepted = a; table-accepted = b }) n makes-here call
 
   listed-as : call .reason ≢ 15 → Lists call S c n
   unfolding slots
@@ -69,16 +69,16 @@ module _ {site table : List ℕ} (a : siteVerdict site ≡ Accepted) (b : condit
       (λ p. holds no-env s k .0 (l .listed no-env s k .0 p))
       (λ p. l .listed no-env s k .1 (holds no-env s k .1 p)) in
       record {
-        reason-is = limited .within h .0;
+        reason-is = returned h .0;
         count-is = l .counted ∙ count-cong slots (bitset.has (call .set′)) (has S) is ∙ size;
-        rounds-are = limited .within h .1;
+        rounds-are = returned h .1;
         set-is = is;
       }
 
   lists-within : ListsWithin call S c n
   lists-within =
       record {
-        within = λ h. listed-as (λ e. absurd (omega (arith, limited .over .0 e, h)));
+        within = λ h. listed-as (not-over makes-here call (omega (arith, h)));
         over = λ h. not-listed call 15 0 (list-due a b call n makes-here ∙ rounds-not (omega (arith, h)));
       }
 
