@@ -5,8 +5,8 @@
 //!
 //! With `--cfg before` an earlier build of the library is timed too (bench/beside). A line then gives the times of the earlier build, of the
 //! present one and of the Rust, the ratio of present to earlier, in how many samples the present was slower, and the ratio to the Rust. With
-//! `--cfg before_through` the earlier build has `through` too, and with `--cfg before_limit` its lists and jobs take a limit; lines of what it does not
-//! have are of the present library and the Rust. So are lines with names that the earlier build does not have, and those of labels that its AP
+//! `--cfg before_through` the earlier build has `through` too, and with `--cfg before_limit` its lists and jobs take a limit; lines of what it does
+//! not have are of the present library and the Rust. So are lines with names that the earlier build does not have, and those of labels that its AP
 //! rewrites to other nodes.
 //!
 //! The part `sets` has tables of its own kind (sets.rs).

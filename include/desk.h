@@ -17,8 +17,8 @@
  *
  *   desk_apply     under 1 KB for any input
  *   desk_classes   142 KB for any site
- *   desk_list      24 KB, plus 250 bytes for each node on the longest path of the condition, or 560 if the node is a mu or nu:
- *                  0.6 MB for a line of 2,048 nodes, 1.2 MB for 2,047 nested loops
+ *   desk_list      21 KB, plus 290 bytes for each node on the longest path of the condition, or 600 if the node is a mu or nu:
+ *                  0.61 MB for a line of 2,048 nodes, 1.23 MB for 2,047 nested loops
  *   desk_rewrite   45 KB, plus 110 bytes for each node on the longest path of the condition; at most 0.12 MB was measured, for a line of
  *                  2,048 nodes
  *   desk_job       the largest of the above, plus 5 KB. It lists two tables, the condition and the REWRITTEN one, and the
@@ -39,8 +39,9 @@
  *
  * Time. The rounds of nested loops multiply, since each loop makes up to DESK_SLOT_COUNT + 1 of them. The limit bounds them, and so the time: a
  * round evaluates each node of its body at most once, and what does not depend on a variable that has changed is not evaluated again, though it
- * counts. On a chain of 256 slots one loop took 0.1 ms and two nested loops, 66,000 rounds, took 24 ms. A round can take far longer: with 2,000
- * diamonds in the body, on a site with every link, about a millisecond. If conditions come from strangers, give a limit that suits your time.
+ * counts. On a chain of 256 slots one loop took 0.1 ms, two nested loops, 66,000 rounds, took 21 ms, and sixteen were refused under the highest
+ * limit after 0.34 s. A round can take far longer: with 1,990 diamonds in the body, on a site with every arc, 0.8 ms, so that the highest limit
+ * allows a quarter of an hour. If conditions come from strangers, give a limit that suits your time.
  */
 #ifndef DESK_H
 #define DESK_H

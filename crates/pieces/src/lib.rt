@@ -105,3 +105,22 @@ pub fn print_refusal(item: u8, w: u16) {
     io::write_all(STDOUT_FILENO, b" ");
     io::print_decimal(STDOUT_FILENO, w as u64);
 }
+
+// How many limits stand behind a pair or a job.
+pub fn read_count() -> u8 {
+    let mut bytes = [0u8; 1];
+    io::read_full(STDIN_FILENO, &mut bytes);
+    bytes[0]
+}
+
+// The number of four bytes, low byte first.
+fn quad(b0: u8, b1: u8, b2: u8, b3: u8) -> u32 {
+    b0 as u32 + 256 * (b1 as u32) + 65536 * (b2 as u32) + 16777216 * (b3 as u32)
+}
+
+// A limit on rounds.
+pub fn read_limit() -> u32 {
+    let mut bytes = [0u8; 4];
+    io::read_full(STDIN_FILENO, &mut bytes);
+    quad(bytes[0], bytes[1], bytes[2], bytes[3])
+}

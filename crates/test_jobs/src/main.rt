@@ -5,7 +5,6 @@
 use bitset::SET_BYTES;
 use bitset::SET_SLOTS;
 use job_run::Job;
-use libc::STDIN_FILENO;
 use libc::STDOUT_FILENO;
 use limits::TABLE_BYTES;
 use listing::Found;
@@ -155,24 +154,6 @@ fn try_short(file: &[u8], limit: u32) {
     );
 }
 
-// The number of four bytes, low byte first.
-fn quad(b0: u8, b1: u8, b2: u8, b3: u8) -> u32 {
-    b0 as u32 + 256 * (b1 as u32) + 65536 * (b2 as u32) + 16777216 * (b3 as u32)
-}
-
-fn read_limit() -> u32 {
-    let mut bytes = [0u8; 4];
-    io::read_full(STDIN_FILENO, &mut bytes);
-    quad(bytes[0], bytes[1], bytes[2], bytes[3])
-}
-
-// How many limits stand behind a job.
-fn read_count() -> u8 {
-    let mut bytes = [0u8; 1];
-    io::read_full(STDIN_FILENO, &mut bytes);
-    bytes[0]
-}
-
 fn try_both(file: &[u8], limit: u32) {
     answer(file, limit);
     try_short(file, limit);
@@ -181,7 +162,7 @@ fn try_both(file: &[u8], limit: u32) {
 // Does the job under each limit that stands behind it.
 fn try_limits(file: &[u8], count: u8) {
     for k in 0..count {
-        try_both(file, read_limit());
+        try_both(file, pieces::read_limit());
     }
 }
 
@@ -196,7 +177,7 @@ fn next_in(file: &mut [u8]) -> bool
         return false;
     }
     let n = piece.len + (kind as usize - 1);
-    try_limits(&file[0..n], read_count());
+    try_limits(&file[0..n], pieces::read_count());
     true
 }
 

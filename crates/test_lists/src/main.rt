@@ -3,7 +3,6 @@
 // set of a refusal. What is listed is listed without a limit too. Buffers of other lengths have to be refused with 1, whatever the limit is,
 // and come back as zeros too. Any buffer that does not is named after the answer.
 use bitset::SET_BYTES;
-use libc::STDIN_FILENO;
 use libc::STDOUT_FILENO;
 use list_entry::Listing;
 use listing::Found;
@@ -115,28 +114,10 @@ fn print_line(site: &[u8], cond: &[u8], limit: u32) {
     io::write_all(STDOUT_FILENO, b"\n");
 }
 
-// The number of four bytes, low byte first.
-fn quad(b0: u8, b1: u8, b2: u8, b3: u8) -> u32 {
-    b0 as u32 + 256 * (b1 as u32) + 65536 * (b2 as u32) + 16777216 * (b3 as u32)
-}
-
-fn read_limit() -> u32 {
-    let mut bytes = [0u8; 4];
-    io::read_full(STDIN_FILENO, &mut bytes);
-    quad(bytes[0], bytes[1], bytes[2], bytes[3])
-}
-
-// How many limits stand behind a pair.
-fn read_count() -> u8 {
-    let mut bytes = [0u8; 1];
-    io::read_full(STDIN_FILENO, &mut bytes);
-    bytes[0]
-}
-
 // Prints a line for each limit that stands behind the pair.
 fn print_lines(site: &[u8], cond: &[u8], count: u8) {
     for k in 0..count {
-        print_line(site, cond, read_limit());
+        print_line(site, cond, pieces::read_limit());
     }
 }
 
@@ -145,7 +126,7 @@ fn read_condition(site: &[u8]) {
     let mut cond = [0u8; ROOM];
     let piece = pieces::read(&mut cond);
     let n = piece.len;
-    print_lines(site, &cond[0..n], read_count());
+    print_lines(site, &cond[0..n], pieces::read_count());
 }
 
 // Reads one pair and prints its lines; false at the end of the input.
