@@ -10,10 +10,10 @@ use Rattle.limits.specs.Limits.{tableBytes}
 use Rattle.trailer.specs.Refusal.{trailerVerdict}
 use Rattle.trailer.specs.Pieces.{siteIn, conditionIn, sheetIn}
 use Rattle.listing.specs.Listed.{workBytes}
-use Rattle.refusals.specs.Refusal.{bufferVerdict, limitVerdict, roundsVerdict}
+use Rattle.refusals.specs.Refusal.{bufferVerdict, limitVerdict}
 use Rattle.classes_entry.specs.Refusal.{classesBytes}
 use Rattle.job_run.specs.Buffers.{Buffers}
-use Rattle.job_run.specs.Refusal.{piecesVerdict}
+use Rattle.job_run.specs.Refusal.{piecesVerdict, listsVerdict}
 
 -- item 1 of the six buffers
 unfoldable pub buffersVerdict : Buffers → Verdict
@@ -35,4 +35,4 @@ jobInputs b limit file =
 
 -- the job, where its lists make a rounds on the site after and t today: 15 of each, under the whole limit, comes last
 unfoldable pub jobVerdict : Buffers → (limit : ℕ) (file : List ℕ) (a t : ℕ) → Verdict
-jobVerdict b limit file a t = jobInputs b limit file then roundsVerdict limit a then roundsVerdict limit t
+jobVerdict b limit file a t = jobInputs b limit file then listsVerdict limit a t

@@ -12,6 +12,7 @@ use Rattle.sheet.specs.Bytes.{editsOf}
 use Rattle.sheet.specs.Refusal.{sheetVerdict}
 use Rattle.applying.specs.Refusal.{goesVerdict}
 use Rattle.rewriting.specs.Refusal.{lengthVerdict}
+use Rattle.refusals.specs.Refusal.{roundsVerdict}
 
 -- 3 to 6 of the site, 7 to 10 of the condition, 11 and 12 of the sheet, then 13, then 14
 unfoldable pub piecesVerdict : (site cond sheet : List ℕ) → Verdict
@@ -21,3 +22,7 @@ piecesVerdict site cond sheet =
     then sheetVerdict sheet
     then goesVerdict (editsOf sheet) (siteOf site)
     then lengthVerdict rewriteTable (editsOf sheet) (tableOf cond)
+
+-- then 15, where the lists make a rounds on the site after and t today: each has the whole limit
+abbrev pub listsVerdict : (limit a t : ℕ) → Verdict
+listsVerdict limit a t = roundsVerdict limit a then roundsVerdict limit t

@@ -14,7 +14,6 @@ use Rattle.condition.specs.Bytes.{tableOf}
 use Rattle.condition.specs.Refusal.{conditionVerdict}
 use Rattle.even_rule.specs.Free.{FreeRows}
 use Rattle.limits.specs.Limits.{tableNodes, highestLimit}
-use Rattle.refusals.specs.Refusal.{roundsVerdict}
 use Rattle.listing.specs.Listed.{workBytes, Listed}
 use Rattle.bitset.specs.Set.{setBytes}
 use Rattle.rewriting.specs.declared.Rewriting.{Rewriting}
@@ -27,7 +26,7 @@ use Rattle.job_run.specs.declared.Job.{Job}
 use Rattle.job_run.specs.Buffers.{Buffers}
 use Rattle.job_run.specs.Job.{JobMakes, JobAfter}
 use Rattle.job_run.specs.Answer.{verdictOf, afterOf, todayOf, nodesOf, classesOf}
-use Rattle.job_run.specs.Refusal.{piecesVerdict}
+use Rattle.job_run.specs.Refusal.{piecesVerdict, listsVerdict}
 
 -- the limit can be taken, and the three buffers that listing writes have the stated lengths
 pub record Sets (limit : ℕ) (after today work : List ℕ) : Type 0 where
@@ -81,7 +80,7 @@ pub record BothTried (limit : ℕ) (site cond changed table : List ℕ) (n : ℕ
   pub today-made : ℕ
   pub after-makes : SiteMakes changed cond after-made
   pub today-makes : SiteMakes site (take (6 * n) table) today-made
-  pub verdict : verdictOf r ≡ roundsVerdict limit after-made then roundsVerdict limit today-made
+  pub verdict : verdictOf r ≡ listsVerdict limit after-made today-made
   pub both : verdictOf r ≡ Accepted → BothListed site cond changed table n after′ today′ work′ r
 
 -- the site and the table are changed, and both lists are there
@@ -95,7 +94,7 @@ pub record Judged (first : Verdict) (limit : ℕ) (site cond sheet : List ℕ) (
   pub after-made : ℕ
   pub today-made : ℕ
   pub makes : first then piecesVerdict site cond sheet ≡ Accepted → JobMakes site cond sheet after-made today-made
-  pub verdict : v ≡ (first then piecesVerdict site cond sheet) then roundsVerdict limit after-made then roundsVerdict limit today-made
+  pub verdict : v ≡ (first then piecesVerdict site cond sheet) then listsVerdict limit after-made today-made
 
 -- all but the class numbers is done, with the answer r
 pub record Tried (first : Verdict) (limit : ℕ) (site cond sheet changed changed′ table table′ after′ today′ work′ : List ℕ) (r : Job) : Type 0 where

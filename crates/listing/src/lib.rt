@@ -48,7 +48,7 @@ pub struct Found {
 
 // What a call may count: its number goes as far as the cap, and it stops where its rounds are over the limit. The cap is one above the limit, so
 // that a number over the limit shows; or it is the limit itself, and then nothing stops.
-pub struct Budget {
+struct Budget {
     limit: u32,
     cap: u32,
 }

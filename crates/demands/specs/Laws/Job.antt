@@ -19,6 +19,7 @@ use Rattle.refusals.specs.Laws.Items.{then-out, rounds-in, rounds-out}
 use Rattle.listing.specs.Listed.{foundOf}
 use Rattle.list_entry.specs.Listing.{SetAfter}
 use Rattle.apply_entry.specs.Applying.{SiteAfter}
+use Rattle.job_run.specs.Refusal.{listsVerdict}
 use Rattle.job_run.specs.Job.{JobMakes, JobAfter}
 use Rattle.job_entry.specs.Refusal.{jobInputs, jobVerdict}
 use Rattle.job_entry.specs.Laws.Refusal.{job-accepts}
@@ -53,7 +54,7 @@ module _ {file : List ℕ} (c : JobCall file) where
         })
 
     -- where its lists make a and t rounds, nothing but item 15 is left to test
-    pub job-due : (a t : ℕ) → JobMakes (siteIn file) (conditionIn file) (sheetIn file) a t → dueOf ≡ roundsVerdict (c .limit) a then roundsVerdict (c .limit) t
+    pub job-due : (a t : ℕ) → JobMakes (siteIn file) (conditionIn file) (sheetIn file) a t → dueOf ≡ listsVerdict (c .limit) a t
     unfolding jobVerdict
     job-due a t m =
         let k = c .returned .makes job-inputs in
@@ -63,7 +64,7 @@ module _ {file : List ℕ} (c : JobCall file) where
     runs f =
         let a : f .after ≤ c .limit = omega (arith, f .after-fits) in
         let t : f .today ≤ c .limit = omega (arith, f .today-fits) in
-        let fit : roundsVerdict (c .limit) (f .after) then roundsVerdict (c .limit) (f .today) ≡ Accepted = rw (rounds-in a, rounds-in t) in
+        let fit : listsVerdict (c .limit) (f .after) (f .today) ≡ Accepted = rw (rounds-in a, rounds-in t) in
         c .returned .returned .reason-is ∙ ap reasonOf (job-due (f .after) (f .today) (f .makes) ∙ fit)
 
   -- a file whose job meets no item but 15
@@ -85,7 +86,7 @@ module _ {file : List ℕ} (c : JobCall file) where
     accepted = job-numbered (c .lent) (c .limit) file _ _ .accepts (sym (c .returned .returned .reason-is) ∙ e)
 
     parts : (jobInputs (c .lent) (c .limit) file ≡ Accepted)
-        × (roundsVerdict (c .limit) (c .returned .after-made) then roundsVerdict (c .limit) (c .returned .today-made) ≡ Accepted)
+        × (listsVerdict (c .limit) (c .returned .after-made) (c .returned .today-made) ≡ Accepted)
     unfolding jobVerdict
     parts = then-out (jobInputs (c .lent) (c .limit) file) _ accepted
 

@@ -32,6 +32,7 @@ use Rattle.listing.specs.Listed.{workBytes, foundOf}
 use Rattle.listing.specs.Laws.Answer.{accepted-makes}
 use Rattle.list_entry.specs.Refusal.{listInputs, listVerdict}
 use Rattle.list_entry.specs.Listing.{SiteMakes, SetAfter, ListAfter}
+use Rattle.job_run.specs.Refusal.{listsVerdict}
 use Rattle.job_run.specs.Buffers.{Buffers, Sized, buffersOf}
 use Rattle.job_run.specs.Job.{JobAfter}
 use Rattle.job_entry.specs.Refusal.{jobInputs, jobVerdict}
@@ -65,7 +66,7 @@ module _ {file : List ℕ} (c : JobCall file) where
   job-first = rw (sized-in (c .lent) (c .sized), limit-in (c .limit-fits))
 
   abbrev bothRounds : Verdict
-  bothRounds = roundsVerdict (c .limit) (c .returned .after-made) then roundsVerdict (c .limit) (c .returned .today-made)
+  bothRounds = listsVerdict (c .limit) (c .returned .after-made) (c .returned .today-made)
 
   job-then : dueOf c ≡ jobItems file then bothRounds
   unfolding jobVerdict
@@ -84,7 +85,7 @@ over-one {limit} {n} e = (
   λ h. e ∙ ap reasonOf (rounds-not h),
 )
 
-over-two : {limit a t reason : ℕ} → reason ≡ reasonOf (roundsVerdict limit a then roundsVerdict limit t) → (reason ≡ 15) ↔ ((limit < a) ⊎ (limit < t))
+over-two : {limit a t reason : ℕ} → reason ≡ reasonOf (listsVerdict limit a t) → (reason ≡ 15) ↔ ((limit < a) ⊎ (limit < t))
 over-two {limit} {a} {t} {reason} e =
     either
     (over? limit a)
@@ -135,7 +136,7 @@ not-over m c h e = let o = list-over-out c e in absurd (omega (arith, h, o .over
 -- the job
 
 -- two lists, each under the whole limit: there is no item but 15 to meet
-else-two : (limit a t : ℕ) → reasonOf (roundsVerdict limit a then roundsVerdict limit t) ≢ 15 → roundsVerdict limit a then roundsVerdict limit t ≡ Accepted
+else-two : (limit a t : ℕ) → reasonOf (listsVerdict limit a t) ≢ 15 → listsVerdict limit a t ≡ Accepted
 else-two limit a t h =
     either
     (over? limit a)
@@ -157,7 +158,7 @@ file-makes {file} r =
 
 module _ {file : List ℕ} (c : JobCall file) where
   -- what is returned, where the lists make a and t rounds
-  job-reason : RunnableFile file → (a t : ℕ) → FileMakes file a t → c .reason ≡ reasonOf (roundsVerdict (c .limit) a then roundsVerdict (c .limit) t)
+  job-reason : RunnableFile file → (a t : ℕ) → FileMakes file a t → c .reason ≡ reasonOf (listsVerdict (c .limit) a t)
   job-reason r a t m = c .returned .returned .reason-is ∙ ap reasonOf (job-due c r a t m)
 
   job-over-in : JobOver (c .limit) file → c .reason ≡ 15
@@ -215,9 +216,9 @@ highest-list limit site table set set′ work work′ reason fault f p q r =
     highest limit u (r .returned .reason-is ∙ ap reasonOf d) (r .returned .fault-is ∙ ap faultOf d)
 
 job-limit-first : (b : Buffers) (limit : ℕ) (file : List ℕ) (a t : ℕ) → Sized b
-    → jobVerdict b limit file a t ≡ limitVerdict limit then (jobItems file then (roundsVerdict limit a then roundsVerdict limit t))
+    → jobVerdict b limit file a t ≡ limitVerdict limit then (jobItems file then (listsVerdict limit a t))
 unfolding jobVerdict jobInputs
-job-limit-first b limit file a t s = rw (sized-in b s) (then-assoc (limitVerdict limit) (jobItems file) (roundsVerdict limit a then roundsVerdict limit t))
+job-limit-first b limit file a t s = rw (sized-in b s) (then-assoc (limitVerdict limit) (jobItems file) (listsVerdict limit a t))
 
 highest-job : DemandHighestJob
 unfolding DemandHighestJob
@@ -226,7 +227,7 @@ highest-job limit file b b′ reason fault after today nodes classes s r =
     let t = r .today-made in
     let d = job-limit-first b limit file a t s in
     let both = chain (roundsVerdict limit a) (roundsVerdict limit t) (rounds-item limit a) (rounds-item limit t) in
-    let u = chain (jobItems file) (roundsVerdict limit a then roundsVerdict limit t) (wider (job-early file)) both in
+    let u = chain (jobItems file) (listsVerdict limit a t) (wider (job-early file)) both in
     highest limit u (r .returned .reason-is ∙ ap reasonOf d) (r .returned .fault-is ∙ ap faultOf d)
 
 -- ---- a larger limit

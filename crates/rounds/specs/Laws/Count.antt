@@ -25,21 +25,25 @@ loop (suc k) F g S = let rest = loop k F g (F S) in 1 + g S + cond (sameSet (F S
 abbrev pub enough : ℕ
 enough = suc slots
 
--- the rounds that listing a condition makes
-unfoldable pub rounds : Model → Env → Form → ℕ
-rounds M ρ top = 0
-rounds M ρ here = 0
-rounds M ρ (label p) = 0
-rounds M ρ (name y) = 0
-rounds M ρ (var v) = 0
-rounds M ρ (neg φ) = rounds M ρ φ
-rounds M ρ (or φ ψ) = rounds M ρ φ + rounds M ρ ψ
-rounds M ρ (and φ ψ) = rounds M ρ φ + rounds M ρ ψ
-rounds M ρ (dia w φ) = rounds M ρ φ
-rounds M ρ (box w φ) = rounds M ρ φ
-rounds M ρ (mu v φ) = loop enough (λ S. eval M (put ρ v S) φ) (λ S. rounds M (put ρ v S) φ) none
-rounds M ρ (nu v φ) = loop enough (λ S. eval M (put ρ v S) φ) (λ S. rounds M (put ρ v S) φ) full
-rounds M ρ (slot k) = 0
+-- the rounds that listing a condition makes, where `value` computes its sets
+unfoldable pub roundsBy : (Model → Env → Form → Set) → Model → Env → Form → ℕ
+roundsBy value M ρ top = 0
+roundsBy value M ρ here = 0
+roundsBy value M ρ (label p) = 0
+roundsBy value M ρ (name y) = 0
+roundsBy value M ρ (var v) = 0
+roundsBy value M ρ (neg φ) = roundsBy value M ρ φ
+roundsBy value M ρ (or φ ψ) = roundsBy value M ρ φ + roundsBy value M ρ ψ
+roundsBy value M ρ (and φ ψ) = roundsBy value M ρ φ + roundsBy value M ρ ψ
+roundsBy value M ρ (dia w φ) = roundsBy value M ρ φ
+roundsBy value M ρ (box w φ) = roundsBy value M ρ φ
+roundsBy value M ρ (mu v φ) = loop enough (λ S. value M (put ρ v S) φ) (λ S. roundsBy value M (put ρ v S) φ) none
+roundsBy value M ρ (nu v φ) = loop enough (λ S. value M (put ρ v S) φ) (λ S. roundsBy value M (put ρ v S) φ) full
+roundsBy value M ρ (slot k) = 0
+
+-- by `eval`
+abbrev pub rounds : Model → Env → Form → ℕ
+rounds = roundsBy eval
 
 -- what the test says
 pub same-in : (S T : Set) → S ≐ T → sameSet S T ≡ true
@@ -65,7 +69,7 @@ loop-agree F F′ g g′ f h (suc k) S S′ e =
 
 module _ (M : Model) where
   count-agree : (φ : Form) (ρ ρ′ : Env) → Agrees φ ρ ρ′ → rounds M ρ φ ≡ rounds M ρ′ φ
-  unfolding rounds occ
+  unfolding roundsBy occ
   count-agree top ρ ρ′ h = refl
   count-agree here ρ ρ′ h = refl
   count-agree (label p) ρ ρ′ h = refl

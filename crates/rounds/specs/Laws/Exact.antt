@@ -16,7 +16,7 @@ use Rattle.semantics.specs.Table.{Node, treeAt, nodesFit, evenTable}
 use Rattle.semantics.specs.Laws.Eval.{eval, evenTree, body-grows, eval-holds, table-even}
 use Rattle.semantics.specs.Laws.Agree.{_≐_, Agrees, under, twice, agrees-free}
 use Rattle.rounds.specs.Makes.{SetOf, Loop, last, more, Makes}
-use Rattle.rounds.specs.Laws.Count.{sameSet, loop, enough, rounds, same-in, same-out}
+use Rattle.rounds.specs.Laws.Count.{roundsBy, sameSet, loop, enough, rounds, same-in, same-out}
 use Rattle.rounds.specs.Laws.Loops.{loop-last, loop-more}
 
 -- the slots where something holds, by another name or another set with the same slots; two sets of them have the same slots
@@ -129,7 +129,7 @@ module _ (M : Model) where
 
   -- the number that is computed is made: within one evaluation more than there are slots each loop has ended
   pub rounds-made : (φ : Form) → evenTree φ ≡ true → (ρ : Env) → Makes M ρ φ (rounds M ρ φ)
-  unfolding Makes rounds evenTree none full SetOf
+  unfolding Makes roundsBy evenTree none full SetOf
   rounds-made top w ρ = refl
   rounds-made here w ρ = refl
   rounds-made (label _) w ρ = refl

@@ -144,30 +144,22 @@ leaf-loopless (DS n) kName y = cond-loopless (same y 0) _ _ refl refl
 leaf-loopless e kVar p = refl
 leaf-loopless e kSlot p = refl
 
-dia-loopless : (c : Change) (w i : ℕ) → looplessBlock (blockDia c w (old i)) ≡ true
-unfolding blockDia looplessBlock noLoop
-dia-loopless keep w i = refl
-dia-loopless (added a b) w i = refl
-dia-loopless (cut a b) w i = refl
-dia-loopless (cutFrom n) w i = refl
-dia-loopless (cutTo n) w i = refl
-dia-loopless (cutOff n) w i = refl
-
-box-loopless : (c : Change) (w i : ℕ) → looplessBlock (blockBox c w (old i)) ≡ true
-unfolding blockBox looplessBlock noLoop
-box-loopless keep w i = refl
-box-loopless (added a b) w i = refl
-box-loopless (cut a b) w i = refl
-box-loopless (cutFrom n) w i = refl
-box-loopless (cutTo n) w i = refl
-box-loopless (cutOff n) w i = refl
+-- what a diamond becomes, and a box
+change-loopless : (c : Change) (w i : ℕ) → (looplessBlock (blockDia c w (old i)) ≡ true) × (looplessBlock (blockBox c w (old i)) ≡ true)
+unfolding blockDia blockBox looplessBlock noLoop
+change-loopless keep w i = (refl, refl)
+change-loopless (added a b) w i = (refl, refl)
+change-loopless (cut a b) w i = (refl, refl)
+change-loopless (cutFrom n) w i = (refl, refl)
+change-loopless (cutTo n) w i = (refl, refl)
+change-loopless (cutOff n) w i = (refl, refl)
 
 block-loopless : (e : Edit) (k : Kind) (p i j : ℕ) → noLoop k ≡ true → looplessBlock (block e k p (old i) (old j)) ≡ true
 unfolding block looplessBlock noLoop
 block-loopless e (leaf k) p i j q = leaf-loopless e k p
 block-loopless e (unary kNot) p i j q = refl
-block-loopless e (unary kDia) p i j q = dia-loopless (change e (wayOf p)) p i
-block-loopless e (unary kBox) p i j q = box-loopless (change e (wayOf p)) p i
+block-loopless e (unary kDia) p i j q = change-loopless (change e (wayOf p)) p i .0
+block-loopless e (unary kBox) p i j q = change-loopless (change e (wayOf p)) p i .1
 block-loopless e (unary kMu) p i j q = q
 block-loopless e (unary kNu) p i j q = q
 block-loopless e (binary k) p i j q = refl

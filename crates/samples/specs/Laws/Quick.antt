@@ -13,7 +13,7 @@ use Rattle.semantics.specs.Holds.{Set, Env, put, Model, step}
 use Rattle.semantics.specs.Edit.{Valid}
 use Rattle.semantics.specs.Laws.FixedPoint.{iter, none, full}
 use Rattle.semantics.specs.Laws.Eval.{eval}
-use Rattle.rounds.specs.Laws.Count.{loop, enough, rounds}
+use Rattle.rounds.specs.Laws.Count.{roundsBy, loop, enough, rounds}
 
 -- the slots that the examples use
 unfoldable pub span : ℕ
@@ -86,20 +86,8 @@ quick M ρ (nu v φ) = iterAt slots (λ S. quick M (put ρ v S) φ) full
 quick M ρ (slot k) = at k
 
 -- the rounds that listing a condition makes, by its sets so computed
-unfoldable pub quickRounds : Model → Env → Form → ℕ
-quickRounds M ρ top = 0
-quickRounds M ρ here = 0
-quickRounds M ρ (label p) = 0
-quickRounds M ρ (name n) = 0
-quickRounds M ρ (var v) = 0
-quickRounds M ρ (neg φ) = quickRounds M ρ φ
-quickRounds M ρ (or φ ψ) = quickRounds M ρ φ + quickRounds M ρ ψ
-quickRounds M ρ (and φ ψ) = quickRounds M ρ φ + quickRounds M ρ ψ
-quickRounds M ρ (dia w φ) = quickRounds M ρ φ
-quickRounds M ρ (box w φ) = quickRounds M ρ φ
-quickRounds M ρ (mu v φ) = loop enough (λ S. quick M (put ρ v S) φ) (λ S. quickRounds M (put ρ v S) φ) none
-quickRounds M ρ (nu v φ) = loop enough (λ S. quick M (put ρ v S) φ) (λ S. quickRounds M (put ρ v S) φ) full
-quickRounds M ρ (slot k) = 0
+abbrev pub quickRounds : Model → Env → Form → ℕ
+quickRounds = roundsBy quick
 
 -- the present slots are among the first
 unfoldable pub fewSlots : Model → Bool
@@ -189,7 +177,7 @@ module _ (M : Model) (valid : Valid M) (few : fewSlots M ≡ true) where
       (fun-ext (λ S. fun-ext (λ x. quick-eval φ (put ρ v S) x))) (fun-ext (λ S. same (put ρ v S)))
 
   pub quick-rounds : (φ : Form) (ρ : Env) → quickRounds M ρ φ ≡ rounds M ρ φ
-  unfolding quickRounds rounds
+  unfolding roundsBy
   quick-rounds top ρ = refl
   quick-rounds here ρ = refl
   quick-rounds (label p) ρ = refl
