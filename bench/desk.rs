@@ -1,8 +1,9 @@
 //! A second desk in plain Rust, written from the specification alone. The proved library is timed beside it.
 //!
-//! The six functions have the library's arguments and answers, test the same items in the same order, and leave the same bytes in
+//! The seven functions have the library's arguments and answers, test the same items in the same order, and leave the same bytes in
 //! every buffer. Sets are four words; listing keeps each node's set and computes it again where a free variable has moved. Rounds are added up as
-//! the tree is walked; those of a node that is known are kept with its set, and added once more.
+//! the tree is walked; those of a node that is known are kept with its set, and added once more. A chain comes from a search with a queue, or from
+//! layers around the goal where the rows of the site lead that way.
 
 use std::ops::{BitAnd, BitOr, Not};
 
@@ -63,6 +64,15 @@ pub struct Classed {
     pub reason: u32,
     pub place: u32,
     pub count: u32,
+}
+
+#[derive(Debug, PartialEq)]
+#[repr(C)]
+pub struct Chained {
+    pub reason: u32,
+    pub place: u32,
+    pub found: u32,
+    pub steps: u32,
 }
 
 #[derive(Debug, PartialEq)]
@@ -990,7 +1000,145 @@ fn different(classes: &Classes) -> u32 {
     seen.count()
 }
 
-// ---- the six functions
+// ---- the chain
+
+/// A chain to the goal, start first; or all slots that can be reached.
+enum Search {
+    Chain(Vec<u8>),
+    Reached(Set),
+}
+
+/// A functional link leaves no choice.
+fn follow(targets: &[u8; SLOTS], start: usize, goal: Set) -> Search {
+    let (mut chain, mut seen, mut s) = (Vec::with_capacity(SLOTS), Set::NONE, start);
+    loop {
+        chain.push(s as u8);
+        seen.insert(s);
+        if goal.has(s) {
+            return Search::Chain(chain);
+        }
+        s = targets[s] as usize;
+        if s == 0 || seen.has(s) {
+            return Search::Reached(seen);
+        }
+    }
+}
+
+/// The chain that ends at this slot, from the slot before each.
+fn traced(before: &[u8; SLOTS], start: usize, last: usize) -> Vec<u8> {
+    let (mut chain, mut s) = (Vec::with_capacity(SLOTS), last);
+    chain.push(s as u8);
+    while s != start {
+        s = before[s] as usize;
+        chain.push(s as u8);
+    }
+    chain.reverse();
+    chain
+}
+
+/// Slots wait in the order of their best chains: the shorter first, and of equal ones the one with the lower slot at the first difference. The new
+/// neighbours of a slot come in from the lowest up, which keeps that order. So the first slot that leads to the goal is the one to take.
+fn search(start: usize, goal: Set, neighbours: impl Fn(usize) -> Set) -> Search {
+    if goal.has(start) {
+        return Search::Chain(vec![start as u8]);
+    }
+    let (mut queue, mut queued, mut taken) = ([start as u8; SLOTS], 1, 0);
+    let (mut before, mut seen) = ([0; SLOTS], Set::only(start));
+    while taken < queued {
+        let s = queue[taken];
+        taken += 1;
+        let next = neighbours(s as usize);
+        if let Some(last) = (next & goal).slots().next() {
+            before[last] = s;
+            return Search::Chain(traced(&before, start, last));
+        }
+        (next & !seen).slots().for_each(|t| {
+            before[t] = s;
+            queue[queued] = t as u8;
+            queued += 1;
+        });
+        seen = seen | next;
+    }
+    Search::Reached(seen)
+}
+
+/// By the reverse of a general link the rows lead from the goal to the start. So layers of slots are made around the goal, one for each number of
+/// steps. Where none has the start, the rows are turned over for a search from there.
+fn search_back(site: Site, m: usize, start: usize, goal: Set) -> Search {
+    let (mut layers, mut layer, mut seen) = (Vec::with_capacity(SLOTS), goal, goal);
+    while !layer.has(start) {
+        if layer.is_empty() {
+            let reversed = reversed_rows(site, m);
+            return search(start, goal, |s| reversed[s]);
+        }
+        let next = layer.slots().fold(Set::NONE, |rows, s| rows | site.row(m, s));
+        layers.push(layer);
+        layer = next & !seen;
+        seen = seen | next;
+    }
+    let (mut chain, mut s) = (Vec::with_capacity(SLOTS), start);
+    chain.push(s as u8);
+    for layer in layers.into_iter().rev() {
+        s = layer.slots().find(|&t| site.row(m, t).has(s)).unwrap();
+        chain.push(s as u8);
+    }
+    Search::Chain(chain)
+}
+
+/// Turns a block of bits over: bit j of word i becomes bit i of word j. Quarters change places, then quarters of quarters, down to single bits.
+fn transpose(block: &mut [u64; 64]) {
+    let (mut width, mut low) = (32, u32::MAX as u64);
+    while width > 0 {
+        for pair in block.chunks_exact_mut(2 * width) {
+            let (upper, lower) = pair.split_at_mut(width);
+            for (a, b) in upper.iter_mut().zip(lower) {
+                let differ = (*a >> width ^ *b) & low;
+                *a ^= differ << width;
+                *b ^= differ;
+            }
+        }
+        width /= 2;
+        low ^= low << width;
+    }
+}
+
+/// The neighbours of each slot by the reverse of a general link. Whole blocks are turned over, since a dense link has too many arcs to take one by
+/// one.
+fn reversed_rows(site: Site, m: usize) -> [Set; SLOTS] {
+    let mut reversed = [Set::NONE; SLOTS];
+    for (i, j) in (0..4).flat_map(|i| (0..4).map(move |j| (i, j))) {
+        let mut block = std::array::from_fn(|k| site.row(m, 64 * i + k).0[j]);
+        transpose(&mut block);
+        for (set, word) in reversed[64 * j..].iter_mut().zip(block) {
+            set.0[i] = word;
+        }
+    }
+    reversed
+}
+
+/// The same for a functional link.
+fn reversed_targets(targets: &[u8; SLOTS]) -> [Set; SLOTS] {
+    let mut reversed = [Set::NONE; SLOTS];
+    for (s, &t) in targets.iter().enumerate().filter(|(_, &t)| t != 0) {
+        reversed[t as usize].insert(s);
+    }
+    reversed
+}
+
+fn search_along(site: Site, way: usize, start: usize, goal: Set) -> Search {
+    let (link, reverse) = (way % LINKS, way >= LINKS);
+    match link {
+        0..GENERAL if reverse => search_back(site, link, start, goal),
+        0..GENERAL => search(start, goal, |s| site.row(link, s)),
+        _ if reverse => {
+            let reversed = reversed_targets(site.targets(link));
+            search(start, goal, |s| reversed[s])
+        }
+        _ => follow(site.targets(link), start, goal),
+    }
+}
+
+// ---- the seven functions
 
 /// Item 1.
 fn lengths(buffers: &[(&[u8], usize)]) -> Result<(), Refusal> {
@@ -1087,6 +1235,42 @@ pub fn classes(site: &[u8], classes: &mut [u8]) -> Classed {
             classes.fill(0);
             Classed { reason, place, count: 0 }
         }
+    }
+}
+
+/// Item 17.
+fn way_and_start(site: Site, way: u32, start: u32) -> Result<(usize, usize), Refusal> {
+    let (way, start) = (way as usize, start as usize);
+    if way >= E || start >= SLOTS || !site.present().has(start) {
+        return Err((17, 0));
+    }
+    Ok((way, start))
+}
+
+/// Items 3 to 10 and 17. The goal's list has no limit: its rounds are counted up to the highest number, which is not over itself.
+fn run_chain(site: &[u8], cond: &[u8], way: u32, start: u32) -> Result<Search, Refusal> {
+    let site = Site::check(site)?;
+    let condition = Condition::check(cond)?;
+    let (way, start) = way_and_start(site, way, start)?;
+    let (goal, _) = Lister::list(site, &condition, u32::MAX)?;
+    Ok(search_along(site, way, start, goal))
+}
+
+pub fn chain(site: &[u8], cond: &[u8], way: u32, start: u32, chain: &mut [u8], set: &mut [u8], work: &mut [u8]) -> Chained {
+    let outcome = lengths(&[(chain, SLOTS), (set, SET), (work, WORK)]).and_then(|_| run_chain(site, cond, way, start));
+    for buffer in [&mut *chain, &mut *set, work] {
+        buffer.fill(0);
+    }
+    match outcome {
+        Ok(Search::Chain(slots)) => {
+            chain[..slots.len()].copy_from_slice(&slots);
+            Chained { reason: 0, place: 0, found: 1, steps: slots.len() as u32 - 1 }
+        }
+        Ok(Search::Reached(reached)) => {
+            reached.write(set);
+            Chained { reason: 0, place: 0, found: 0, steps: 0 }
+        }
+        Err((reason, place)) => Chained { reason, place, found: 0, steps: 0 },
     }
 }
 

@@ -43,6 +43,7 @@ pub fn call(call: &Call) -> Call {
         Call::List(today, cond, limit) => Call::List(site(today), cond, limit),
         Call::Apply(today, sheet) => Call::Apply(site(today), sheet),
         Call::Classes(today) => Call::Classes(site(today)),
+        Call::Chain(today, goal, way, start) => Call::Chain(site(today), goal, way, start),
         Call::Job(_, today, cond, sheet) => Call::job(site(today), cond, sheet),
         siteless => siteless,
     }

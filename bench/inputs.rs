@@ -86,6 +86,70 @@ pub fn rounds(general: bool) -> Vec<u8> {
     site
 }
 
+/// Site A of docs/SPEC.md.
+pub fn site_a() -> Vec<u8> {
+    let mut site = bare(4);
+    site[NAMES_AT..TARGETS_AT].fill(0);
+    (site[NAMES_AT + 1], site[NAMES_AT + 2]) = (2, 3);
+    (site[TARGETS_AT + 2], site[TARGETS_AT + 3]) = (1, 2);
+    site
+}
+
+/// An arc by link 0.
+fn arc(site: &mut [u8], from: usize, to: usize) {
+    put(&mut site[ROWS_AT + SET * from..], to);
+}
+
+/// Links 0 and 4 from each slot to the one below it, down to slot 1.
+pub fn path() -> Vec<u8> {
+    let mut site = bare(SLOTS);
+    for s in 2..SLOTS {
+        arc(&mut site, s, s - 1);
+        site[TARGETS_AT + s] = (s - 1) as u8;
+    }
+    site
+}
+
+/// The same, and from slot 1 back to the last.
+pub fn ring() -> Vec<u8> {
+    let mut site = path();
+    arc(&mut site, 1, SLOTS - 1);
+    site[TARGETS_AT + 1] = (SLOTS - 1) as u8;
+    site
+}
+
+/// A path, but link 4 leads from the slots up to this one only.
+pub fn cut(last: usize) -> Vec<u8> {
+    let mut site = path();
+    site[TARGETS_AT + last + 1..TARGETS_AT + SLOTS].fill(0);
+    site
+}
+
+/// Slots 1 to 255 in 15 rows; link 0 to the next slot of the row and to the one below.
+pub fn grid() -> Vec<u8> {
+    const WIDTH: usize = 17;
+    let mut site = bare(SLOTS);
+    for s in 1..SLOTS {
+        if s % WIDTH != 0 {
+            arc(&mut site, s, s + 1);
+        }
+        if s + WIDTH < SLOTS {
+            arc(&mut site, s, s + WIDTH);
+        }
+    }
+    site
+}
+
+/// Slots 1 to 255 in layers of so many; link 0 to every slot of the next layer.
+pub fn layers(width: usize) -> Vec<u8> {
+    let mut site = bare(SLOTS);
+    for s in 1..SLOTS {
+        let next = 1 + ((s - 1) / width + 1) * width;
+        (next..SLOTS.min(next + width)).for_each(|t| arc(&mut site, s, t));
+    }
+    site
+}
+
 pub fn slots(site: &[u8]) -> u32 {
     site[..SET].iter().map(|b| b.count_ones()).sum()
 }
@@ -152,6 +216,21 @@ impl Table {
             inner = Some(self.push(10 + (x % 2) as u8, x, body, 0));
         }
     }
+}
+
+/// One slot alone.
+pub fn slot(k: usize) -> Vec<u8> {
+    let mut t = Table::default();
+    t.push(12, k, 0, 0);
+    t.0
+}
+
+/// No slot: not true.
+pub fn nowhere() -> Vec<u8> {
+    let mut t = Table::default();
+    let all = t.push(0, 0, 0, 0);
+    t.push(5, 0, all, 0);
+    t.0
 }
 
 /// mu 0 (label 0 or diamond `way` variable 0)

@@ -1,10 +1,10 @@
-//! The proved library's six functions, as include/desk.h has them. With `--cfg before` also those of an earlier build (bench/beside).
+//! The proved library's seven functions, as include/desk.h has them. With `--cfg before` also those of an earlier build (bench/beside).
 
-use crate::desk::{Applied, Classed, Done, Listed, Rewritten};
-use crate::Desk;
+use crate::desk::{Applied, Chained, Classed, Done, Listed, Rewritten};
+use crate::{AskChain, Desk};
 
-/// Declares `through` of one build. It stands apart from the others, since an earlier build may lack it; so do `list` and `job`, which may have no
-/// limit there.
+/// Declares `through` of one build. It stands apart from the others, since an earlier build may lack it; so does `chain`, and so do `list` and `job`,
+/// which may have no limit there.
 macro_rules! through {
     ($through:ident) => {{
         extern "C" {
@@ -12,6 +12,25 @@ macro_rules! through {
         }
         // Safety: as below.
         |sheet, result| unsafe { $through(sheet.as_ptr(), sheet.len(), result.as_mut_ptr(), result.len()) }
+    }};
+}
+
+/// Declares `chain` of one build.
+macro_rules! chain {
+    ($chain:ident) => {{
+        extern "C" {
+            fn $chain(
+                site: *const u8, site_len: usize, cond: *const u8, cond_len: usize, way: u32, start: u32,
+                chain: *mut u8, chain_len: usize, set: *mut u8, set_len: usize, work: *mut u8, work_len: usize,
+            ) -> Chained;
+        }
+        // Safety: as below.
+        |site, cond, way, start, chain, set, work| unsafe {
+            $chain(
+                site.as_ptr(), site.len(), cond.as_ptr(), cond.len(), way, start,
+                chain.as_mut_ptr(), chain.len(), set.as_mut_ptr(), set.len(), work.as_mut_ptr(), work.len(),
+            )
+        }
     }};
 }
 
@@ -109,7 +128,7 @@ macro_rules! old_job {
 
 /// Declares what else one build exports, and makes a desk of it.
 macro_rules! library {
-    ($name:ident: $apply:ident $rewrite:ident $classes:ident, $limited:expr, $list:expr, $job:expr, $through:expr) => {
+    ($name:ident: $apply:ident $rewrite:ident $classes:ident, $limited:expr, $list:expr, $job:expr, $through:expr, $chain:expr) => {
         extern "C" {
             fn $apply(
                 site: *const u8, site_len: usize, sheet: *const u8, sheet_len: usize, result: *mut u8, result_len: usize,
@@ -132,18 +151,31 @@ macro_rules! library {
             },
             through: $through,
             classes: |site, classes| unsafe { $classes(site.as_ptr(), site.len(), classes.as_mut_ptr(), classes.len()) },
+            chain: $chain,
             job: $job,
         };
     };
 }
 
-library!(NOW: desk_apply desk_rewrite desk_classes, true, list!(desk_list), job!(desk_job), through!(desk_through));
+const CHAIN: AskChain = chain!(desk_chain);
+#[cfg(before_chain)]
+const OLD_CHAIN: AskChain = chain!(before_chain);
+#[cfg(all(before, not(before_chain)))]
+const OLD_CHAIN: AskChain = |_, _, _, _, _, _, _| unreachable!("not timed");
+
+library!(NOW: desk_apply desk_rewrite desk_classes, true, list!(desk_list), job!(desk_job), through!(desk_through), CHAIN);
 #[cfg(before_limit)]
-library!(BEFORE: before_apply before_rewrite before_classes, true, list!(before_list), job!(before_job), through!(before_through));
+library!(BEFORE: before_apply before_rewrite before_classes, true, list!(before_list), job!(before_job), through!(before_through), OLD_CHAIN);
 #[cfg(all(before_through, not(before_limit)))]
-library!(BEFORE: before_apply before_rewrite before_classes, false, old_list!(before_list), old_job!(before_job), through!(before_through));
+library!(
+    BEFORE: before_apply before_rewrite before_classes, false, old_list!(before_list), old_job!(before_job),
+    through!(before_through), OLD_CHAIN
+);
 #[cfg(all(before, not(before_through)))]
-library!(BEFORE: before_apply before_rewrite before_classes, false, old_list!(before_list), old_job!(before_job), |_, _| unreachable!("not timed"));
+library!(
+    BEFORE: before_apply before_rewrite before_classes, false, old_list!(before_list), old_job!(before_job),
+    |_, _| unreachable!("not timed"), OLD_CHAIN
+);
 
 // Without an earlier build the present one stands here, and is not timed twice.
 #[cfg(not(before))]

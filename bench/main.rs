@@ -5,12 +5,13 @@
 //!
 //! With `--cfg before` an earlier build of the library is timed too (bench/beside). A line then gives the times of the earlier build, of the
 //! present one and of the Rust, the ratio of present to earlier, in how many samples the present was slower, and the ratio to the Rust. With
-//! `--cfg before_through` the earlier build has `through` too, and with `--cfg before_limit` its lists and jobs take a limit; lines of what it does
-//! not have are of the present library and the Rust. So are lines with names that the earlier build does not have, and those of labels that its AP
-//! rewrites to other nodes.
+//! `--cfg before_through` the earlier build has `through` too, with `--cfg before_chain` it has `chain`, and with `--cfg before_limit` its lists and
+//! jobs take a limit; lines of what it does not have are of the present library and the Rust. So are lines with names that the earlier build does
+//! not have, and those of labels that its AP rewrites to other nodes.
 //!
 //! The part `sets` has tables of its own kind (sets.rs).
 
+mod chains;
 mod desk;
 mod earlier;
 mod inputs;
@@ -18,10 +19,12 @@ mod library;
 mod sets;
 mod stack;
 
-use desk::{Applied, Classed, Done, Listed, Results, Rewritten, E, GENERAL, HIGHEST, NAMES, NODES, SET, SITE, SLOTS, TABLE, WORK};
+use desk::{Applied, Chained, Classed, Done, Listed, Results, Rewritten, E, GENERAL, HIGHEST, NAMES, NODES, SET, SITE, SLOTS, TABLE, WORK};
 use std::time::Duration;
 
-/// The six functions of a desk, and whether its lists and jobs take a limit and tell their rounds.
+type AskChain = fn(&[u8], &[u8], u32, u32, &mut [u8], &mut [u8], &mut [u8]) -> Chained;
+
+/// The seven functions of a desk, and whether its lists and jobs take a limit and tell their rounds.
 struct Desk {
     limited: bool,
     list: fn(&[u8], &[u8], u32, &mut [u8], &mut [u8]) -> Listed,
@@ -29,6 +32,7 @@ struct Desk {
     rewrite: fn(&[u8], &[u8], &mut [u8]) -> Rewritten,
     through: fn(&[u8], &mut [u8]) -> Rewritten,
     classes: fn(&[u8], &mut [u8]) -> Classed,
+    chain: AskChain,
     job: fn(&[u8], u32, Results) -> Done,
 }
 
@@ -39,6 +43,7 @@ const RUST: Desk = Desk {
     rewrite: desk::rewrite,
     through: desk::through,
     classes: desk::classes,
+    chain: desk::chain,
     job: desk::job,
 };
 
@@ -55,22 +60,23 @@ struct Buffers {
     after: Vec<u8>,
     today: Vec<u8>,
     classes: Vec<u8>,
+    chain: Vec<u8>,
     work: Vec<u8>,
 }
 
 impl Buffers {
     fn new() -> Buffers {
         let of = |length| vec![0xAA; length];
-        Buffers { site: of(SITE), table: of(TABLE), after: of(SET), today: of(SET), classes: of(SLOTS), work: of(WORK) }
+        Buffers { site: of(SITE), table: of(TABLE), after: of(SET), today: of(SET), classes: of(SLOTS), chain: of(SLOTS), work: of(WORK) }
     }
 
     fn results(&mut self) -> Results<'_> {
-        let Buffers { site, table, after, today, classes, work } = self;
+        let Buffers { site, table, after, today, classes, work, .. } = self;
         Results { site, table, after, today, classes, work }
     }
 }
 
-/// What is called. A list has a limit on its rounds; a job has the highest.
+/// What is called. A list has a limit on its rounds; a job has the highest. A chain has a way and a start.
 #[derive(Clone)]
 enum Call {
     List(Vec<u8>, Vec<u8>, u32),
@@ -78,6 +84,7 @@ enum Call {
     Rewrite(Vec<u8>, Vec<u8>),
     Through(Vec<u8>),
     Classes(Vec<u8>),
+    Chain(Vec<u8>, Vec<u8>, u32, u32),
     Job(Vec<u8>, Vec<u8>, Vec<u8>, Vec<u8>),
 }
 
@@ -128,6 +135,10 @@ impl Call {
                 let r = (desk.classes)(site, &mut out.classes);
                 vec![r.reason, r.place, r.count]
             }
+            Call::Chain(site, goal, way, start) => {
+                let r = (desk.chain)(site, goal, *way, *start, &mut out.chain, &mut out.after, &mut out.work);
+                vec![r.reason, r.place, r.found, r.steps]
+            }
             Call::Job(file, ..) => {
                 let r = (desk.job)(file, HIGHEST, out.results());
                 told(desk, [r.reason, r.place, r.after, r.today, r.nodes, r.classes, r.after_rounds, r.today_rounds], 2)
@@ -147,6 +158,7 @@ impl Call {
             Call::Rewrite(cond, sheet) => [None, None, nodes(cond), edits(sheet)],
             Call::Through(sheet) => [None, None, None, edits(sheet)],
             Call::Classes(site) => [slots(site), arcs(site), None, None],
+            Call::Chain(site, goal, ..) => [slots(site), arcs(site), nodes(goal), None],
             Call::Job(_, site, cond, sheet) => [slots(site), arcs(site), nodes(cond), edits(sheet)],
         }
     }
@@ -160,6 +172,9 @@ impl Call {
             Call::Apply(..) => "through".to_string(),
             Call::Rewrite(..) | Call::Through(..) => format!("{} nodes", answer[2]),
             Call::Classes(..) => format!("{} classes", answer[2]),
+            Call::Chain(..) if answer[2] == 0 => "no chain".to_string(),
+            Call::Chain(..) if answer[3] == 1 => "1 step".to_string(),
+            Call::Chain(..) => format!("{} steps", answer[3]),
             Call::Job(..) => format!("{} nodes, {} classes", answer[4], answer[5]),
         }
     }
@@ -294,11 +309,17 @@ fn measure_of(what: &str, call: Call, two_builds: bool) {
     measure_answer(what, call, two_builds, 0);
 }
 
-/// Measures a call that is answered with this reason.
-fn measure_answer(what: &str, call: Call, two_builds: bool, reason: u32) {
-    let mut sides = Side::all(&call, two_builds);
+/// The sides after a call, and their answers, which are the same.
+fn compared(what: &str, call: &Call, two_builds: bool) -> (Vec<Side>, Vec<Vec<u32>>) {
+    let mut sides = Side::all(call, two_builds);
     let answers: Vec<Vec<u32>> = sides.iter_mut().map(Side::answer).collect();
     assert!(answers.iter().all(|answer| answers[0].starts_with(answer)) && same(&sides), "{what}: the sides differ, {answers:?}");
+    (sides, answers)
+}
+
+/// Measures a call that is answered with this reason.
+fn measure_answer(what: &str, call: Call, two_builds: bool, reason: u32) {
+    let (mut sides, answers) = compared(what, &call, two_builds);
     assert_eq!(answers[0][0], reason, "{what}: another reason");
     let mut sample = |side: usize, turns| time(turns, || drop(std::hint::black_box(sides[side].answer())));
     let once = sample(0, 1);
@@ -494,6 +515,7 @@ fn all() {
     rewriting();
     going_through();
     classing();
+    chains::show();
     jobs();
     sets::show();
     stack::show();
@@ -507,12 +529,13 @@ fn main() {
         Some("rewrite") => rewriting(),
         Some("through") => going_through(),
         Some("classes") => classing(),
+        Some("chain") => chains::show(),
         Some("job") => jobs(),
         Some("sets") => sets::show(),
         Some("stack") => stack::show(),
         Some("worst") => worst(),
         Some(other) => {
-            eprintln!("{other} is none of list, apply, rewrite, through, classes, job, sets, stack and worst");
+            eprintln!("{other} is none of list, apply, rewrite, through, classes, chain, job, sets, stack and worst");
             std::process::exit(2);
         }
     }

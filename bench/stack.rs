@@ -70,6 +70,8 @@ pub fn show() {
         ("going through, 42 AS, to 1,975 nodes", Call::Through(inputs::slots_added(42))),
         ("going through, a path of 249 nodes", Call::Through(inputs::long_paths())),
         ("classes", Call::Classes(dense.clone())),
+        ("the chain, 254 steps", Call::Chain(inputs::path(), inputs::slot(1), 0, SLOTS as u32 - 1)),
+        ("the chain, 2,047 nested loops", Call::Chain(dense.clone(), loops.clone(), 0, 1)),
         ("the job, 2,047 nested loops", Call::job(dense, loops, Vec::new())),
     ] {
         println!("{what:40} {:>9}", used(Some(&call)) - base);

@@ -53,6 +53,7 @@ static const uint8_t even[] = {4, 0, 0, 0, 0, 0, 5, 0, 0, 0, 0, 0, 5, 0, 1, 0, 0
 
 static uint8_t site_a[DESK_SITE_BYTES];
 static uint8_t result[DESK_SITE_BYTES], table[DESK_TABLE_BYTES], set[DESK_SET_BYTES], classes[DESK_CLASSES_BYTES], work[DESK_WORK_BYTES];
+static uint8_t chain[DESK_CHAIN_BYTES];
 
 /* Whether the condition lists exactly the slots s whose bit, of weight 2 to the power s, is in `slots`. */
 static int lists(const uint8_t *site, const uint8_t *cond, size_t cond_len, uint8_t slots)
@@ -99,6 +100,32 @@ static int through(const uint8_t *sheet, size_t sheet_len, uint32_t count, int w
     memset(wanted, works ? 0xff : 0, sizeof wanted);
     return t.reason == DESK_OK && t.nodes == count && r.reason == DESK_OK && r.count == (works ? (uint32_t)DESK_SLOT_COUNT : 0) &&
            memcmp(set, wanted, sizeof set) == 0;
+}
+
+/* The chain on A to the slots that the condition lists. */
+static struct desk_chained ask_chain(const uint8_t *cond, size_t cond_len, uint32_t way, uint32_t start)
+{
+    return desk_chain(site_a, sizeof site_a, cond, cond_len, way, start, chain, sizeof chain, set, sizeof set, work, sizeof work);
+}
+
+/* Whether it has these slots, of which there are one more than steps, and zeros behind; and the set is all zeros. */
+static int chains(const uint8_t *cond, size_t cond_len, uint32_t way, uint32_t start, uint32_t steps, const uint8_t *slots)
+{
+    static const uint8_t none[DESK_SET_BYTES] = {0};
+    uint8_t wanted[DESK_CHAIN_BYTES] = {0};
+    struct desk_chained r = ask_chain(cond, cond_len, way, start);
+    memcpy(wanted, slots, steps + 1);
+    return r.reason == DESK_OK && r.where == 0 && r.found == 1 && r.steps == steps && memcmp(chain, wanted, sizeof chain) == 0 &&
+           memcmp(set, none, sizeof set) == 0;
+}
+
+/* Whether there is no chain, for this reason or for none, and the set has the slots s whose bit, of weight 2 to the power s, is in `slots`. */
+static int has_no_chain(const uint8_t *cond, size_t cond_len, uint32_t way, uint32_t start, uint32_t reason, uint8_t slots)
+{
+    static const uint8_t none[DESK_CHAIN_BYTES] = {0};
+    const uint8_t wanted[DESK_SET_BYTES] = {slots};
+    struct desk_chained r = ask_chain(cond, cond_len, way, start);
+    return r.reason == reason && r.found == 0 && r.steps == 0 && memcmp(chain, none, sizeof chain) == 0 && memcmp(set, wanted, sizeof set) == 0;
 }
 
 /* ---- the samples */
@@ -179,6 +206,25 @@ static void check_through(void)
     check("through AT 0 1 2: 13 nodes, works", through(at_0, sizeof at_0, 13, 1));
     check("through AT 4 1 2: 26 nodes, does not", through(at_12, sizeof at_12, 26, 0));
     check("through AT 4 1 1: 26 nodes, does not", through(at_11, sizeof at_11, 26, 0));
+}
+
+static void check_chains(void)
+{
+    static const uint8_t label_0[] = {2, 0, 0, 0, 0, 0}, label_1[] = {2, 1, 0, 0, 0, 0}, name_0[] = {3, 0, 0, 0, 0, 0}, name_2[] = {3, 2, 0, 0, 0, 0};
+    static const uint8_t down[] = {3, 2, 1}, up[] = {1, 2, 3}, nil[] = {0};
+    check("link 4 from 3 to label 0: 2 steps, 3 2 1", chains(label_0, sizeof label_0, 4, 3, 2, down));
+    check("from 1: 0 steps", chains(label_0, sizeof label_0, 4, 1, 0, up));
+    check("from 3 to R: 0 steps, since R lists 3", chains(condition_r, sizeof condition_r, 4, 3, 0, down));
+    check("against link 4 from 1 to name 2: 2 steps, 1 2 3", chains(name_2, sizeof name_2, DESK_REVERSE(4), 1, 2, up));
+    check("link 4 from 2 to name 2: none, {1, 2}", has_no_chain(name_2, sizeof name_2, 4, 2, DESK_OK, S1 | S2));
+    check("to label 1, which no slot has, from 3: none, {1, 2, 3}", has_no_chain(label_1, sizeof label_1, 4, 3, DESK_OK, S1 | S2 | S3));
+    check("link 5, which A does not have, from 3: none, {3}", has_no_chain(label_0, sizeof label_0, 5, 3, DESK_OK, S3));
+    check("from 0 to name 0: 0 steps", chains(name_0, sizeof name_0, 4, 0, 0, nil));
+    check("from 0 to label 0: none, {0}", has_no_chain(label_0, sizeof label_0, 4, 0, DESK_OK, 1));
+    check("from 4, which is absent: refused, 17", has_no_chain(label_0, sizeof label_0, 4, 4, DESK_START, 0));
+    check("from 256: refused, 17", has_no_chain(label_0, sizeof label_0, 4, DESK_SLOT_COUNT, DESK_START, 0));
+    check("everywhere: refused, 17", has_no_chain(label_0, sizeof label_0, DESK_EVERYWHERE, 3, DESK_START, 0));
+    check("the same with variable 0, not, mu 0: refused, 9", has_no_chain(odd, sizeof odd, DESK_EVERYWHERE, 3, DESK_EVEN_RULE, 0));
 }
 
 static void check_classes(void)
@@ -276,6 +322,7 @@ int main(void)
     check_rounds();
     check_sheets();
     check_through();
+    check_chains();
     check_classes();
     check_names();
     check_job();

@@ -1,6 +1,6 @@
 /* A cooperative plans to pull a probe. Does the plan work on the site as it is? Which places will still have a chain of uplinks to a gateway,
- * and which fans will no longer be driven by a connected probe? Everything that this program uses is explained in docs/SPEC.md and
- * include/desk.h. It prints examples/plan.out, and returns 1 if a call is refused.
+ * and over which places does it go? Which fans will no longer be driven by a connected probe? Everything that this program uses is explained in
+ * docs/SPEC.md and include/desk.h. It prints examples/plan.out, and returns 1 if a call is refused.
  *
  *     rt staticlib desk
  *     gcc -std=c11 -Iinclude examples/plan.c target/staticlib/libdesk.a -o plan && ./plan
@@ -49,6 +49,9 @@ static const struct place places[PLACES] = {
         DESK_NODE_INIT(DESK_KIND_MU, CONNECTED, 3, 0)          /* 4 */
 
 static const uint8_t chain[] = {CHAIN_TO_GATEWAY};
+
+/* Where a chain ends: desk_chain needs no loop for it, only the goal. */
+static const uint8_t gateway[] = {DESK_NODE_INIT(DESK_KIND_LABEL, GATEWAY, 0, 0)};
 
 /* A fan such that nothing that drives it has a chain of uplinks to a gateway. */
 static const uint8_t idle_fan[] = {
@@ -159,6 +162,21 @@ static int ask(struct plan *plan, const uint8_t *site, const uint8_t *cond, size
     return refused(plan->listed.reason, plan->listed.where) || refused(plan->done.reason, plan->done.where);
 }
 
+/* The uplinks from a place on: the chain to a gateway, or else all places that they lead to. */
+struct uplinks {
+    uint8_t chain[DESK_CHAIN_BYTES], set[DESK_SET_BYTES];
+    struct desk_chained chained;
+};
+
+/* Returns 0 if the call was not refused. */
+static int ask_uplinks(struct uplinks *uplinks, const uint8_t *site, int from)
+{
+    static uint8_t work[DESK_WORK_BYTES];
+    uplinks->chained = desk_chain(site, DESK_SITE_BYTES, gateway, sizeof gateway, UPLINK, (uint32_t)from, uplinks->chain, sizeof uplinks->chain,
+                                  uplinks->set, sizeof uplinks->set, work, sizeof work);
+    return refused(uplinks->chained.reason, uplinks->chained.where);
+}
+
 /* ---- printing */
 
 static void print_places(const struct plan *plan)
@@ -174,13 +192,41 @@ static void print_places(const struct plan *plan)
 static void print_set(const char *when, const uint8_t *set)
 {
     const char *between = "";
-    printf("  %s: ", when);
+    printf("%s: ", when);
     for (int slot = OFFICE; slot < PLACES; slot++)
         if (has_slot(set, slot)) {
             printf("%s%s", between, places[slot].name);
             between = "; ";
         }
     printf("%s\n", *between ? "" : "none");
+}
+
+static void print_uplinks(const char *when, const struct uplinks *uplinks)
+{
+    if (!uplinks->chained.found) {
+        printf("  %s, no chain; all that is reached", when);
+        print_set("", uplinks->set);
+        return;
+    }
+    printf("  %s, %u steps: %s", when, (unsigned)uplinks->chained.steps, places[uplinks->chain[0]].name);
+    for (uint32_t step = 1; step <= uplinks->chained.steps; step++)
+        printf(" > %s", places[uplinks->chain[step]].name);
+    printf("\n");
+}
+
+/* Asks and prints for some places that stay. Returns 0 if no call was refused. */
+static int show_uplinks(const uint8_t *before, const uint8_t *after)
+{
+    static const int from[] = {HAY, SEED, FAN_4};
+    static struct uplinks now, then;
+    for (size_t k = 0; k < sizeof from / sizeof *from; k++) {
+        if (ask_uplinks(&now, before, from[k]) || ask_uplinks(&then, after, from[k]))
+            return 1;
+        printf("%s\n", places[from[k]].name);
+        print_uplinks("before", &now);
+        print_uplinks("after", &then);
+    }
+    return 0;
 }
 
 int main(void)
@@ -201,8 +247,11 @@ int main(void)
     printf("\n%u places before, %u after\n", (unsigned)chains.listed.count, (unsigned)chains.done.after);
     printf("rewritten to %u nodes, the condition lists %u places today: %s\n", (unsigned)chains.done.nodes, (unsigned)chains.done.today,
            memcmp(chains.after, chains.today, sizeof chains.after) == 0 ? "the same" : "OTHERS");
+    printf("\nThe uplinks of some places:\n\n");
+    if (show_uplinks(site, chains.site_after))
+        return 1;
     printf("\nFans that no connected probe drives:\n");
-    print_set("before", fans.before);
-    print_set("after", fans.after);
+    print_set("  before", fans.before);
+    print_set("  after", fans.after);
     return 0;
 }

@@ -1,4 +1,4 @@
-/* The desk for C: six functions over bytes, in libdesk.a (`rt staticlib desk`), for x86-64 Linux.
+/* The desk for C: seven functions over bytes, in libdesk.a (`rt staticlib desk`), for x86-64 Linux.
  *
  * docs/SPEC.md says what the bytes mean and has a glossary. This file names all the numbers, so that no caller has to write one: the
  * offset of each part of a site, the kinds of node, the ways, the operations, the lengths of buffers and the reasons for a refusal.
@@ -6,8 +6,8 @@
  *
  * Every input gets an answer. Either the reason is DESK_OK and the result is complete; or the reason is the first item that the input
  * meets. In that case `where` is the node or edit at fault, counted from 0 (0 if the item names none), every result and work buffer is
- * all zeros, whatever its length, and the counts and rounds are 0. Items are tested in the order 1, 16, 2 to 15, each over all the inputs of the
- * function.
+ * all zeros, whatever its length, and all other numbers of the answer are 0. Items are tested in the order 1, 16, 2 to 10, 17, 11 to 15, each
+ * over all the inputs of the function.
  *
  * Each pointer must be valid for its length and must not be NULL, even for a length of 0. No result or work buffer may overlap another
  * buffer or an input. Inputs are only read. Nothing is kept between calls, so several threads may call at the same time.
@@ -24,6 +24,7 @@
  *   desk_job       the largest of the above, plus 5 KB. It lists two tables, the condition and the REWRITTEN one, and the
  *                  second has longer paths: DS, for instance, puts three nodes on the path for each diamond
  *   desk_through   31 KB, plus 110 bytes for each node on the longest path of the table; at most 42 KB was measured, for a path of 249 nodes
+ *   desk_chain     that of desk_list for the goal, plus TBD
  *
  * Rounds. A round is one evaluation of the body of a mu or nu. A mu starts from the empty set, a nu from the set of all slots, and both go on
  * until the body gives back the set that it was given; this last evaluation counts too. The rounds of a list are those of the whole tree of its
@@ -36,12 +37,15 @@
  * - An answer, or a refusal that is not DESK_ROUNDS, is the same under each larger limit up to DESK_LIMIT_MAX: every number and every byte.
  * - Each of the two lists of a job has the whole limit for itself. The rewritten table's list can make more rounds than the other: the blocks of
  *   AT and DT1 have the node below a diamond or a box twice, so each of these edits can double the rounds of the loops below it.
+ * - desk_chain takes no limit and counts no rounds: it lists its goal however many that takes.
  *
  * Time. The rounds of nested loops multiply, since each loop makes up to DESK_SLOT_COUNT + 1 of them. The limit bounds them, and so the time: a
  * round evaluates each node of its body at most once, and what does not depend on a variable that has changed is not evaluated again, though it
  * counts. On a chain of 256 slots one loop took 0.1 ms, two nested loops, 66,000 rounds, took 21 ms, and sixteen were refused under the highest
  * limit after 0.34 s. A round can take far longer: with 1,990 diamonds in the body, on a site with every arc, 0.8 ms, so that the highest limit
- * allows a quarter of an hour. If conditions come from strangers, give a limit that suits your time.
+ * allows a quarter of an hour. If conditions come from strangers, give a limit that suits your time. desk_chain takes none, and a goal of
+ * sixteen nested loops can keep it for ever: list a stranger's goal with desk_list first, under a limit. desk_chain lists it again in about the
+ * same time; the search for the chain or the set comes on top, and does not depend on the goal's length.
  */
 #ifndef DESK_H
 #define DESK_H
@@ -154,6 +158,7 @@ enum desk_operation {
 /* ---- the lengths of the other buffers */
 
 #define DESK_CLASSES_BYTES DESK_SLOT_COUNT           /* the class number of each slot */
+#define DESK_CHAIN_BYTES DESK_SLOT_COUNT             /* the slots of a chain, start first, then zeros */
 #define DESK_TABLE_BYTES DESK_CONDITION_BYTES_MAX    /* a table of desk_rewrite or desk_through, then zeros */
 #define DESK_WORK_BYTES (DESK_NODES_MAX * DESK_SET_BYTES) /* all zeros at return */
 
@@ -183,7 +188,8 @@ enum desk_reason {
     DESK_NOT_THROUGH = 13,      /* an edit does not go through on the site that the edits before it leave; where: the first such edit */
     DESK_TABLE_FULL = 14,       /* after some edit the table of desk_rewrite or desk_through has over 2,048 nodes */
     DESK_ROUNDS = 15,           /* a list makes more rounds than the limit; tested after all others */
-    DESK_LIMIT = 16             /* the limit is over DESK_LIMIT_MAX; tested right after DESK_BUFFER_LENGTH */
+    DESK_LIMIT = 16,            /* the limit is over DESK_LIMIT_MAX; tested right after DESK_BUFFER_LENGTH */
+    DESK_START = 17             /* the way of a chain is over 15, or its start is absent or over 255; tested right after DESK_FREE_VARIABLE */
 };
 
 /* ---- the answers. `reason` is a number of enum desk_reason */
@@ -206,6 +212,12 @@ struct desk_rewritten {
 struct desk_classed {
     uint32_t reason, where;
     uint32_t count;             /* how many different class numbers there are */
+};
+
+struct desk_chained {
+    uint32_t reason, where;
+    uint32_t found;             /* 1 if a chain is given, 0 if the set is */
+    uint32_t steps;             /* how many steps the chain has: 0 if the goal lists the start, and where no chain is given */
 };
 
 struct desk_done {
@@ -240,6 +252,23 @@ struct desk_rewritten desk_through(const uint8_t *sheet, size_t sheet_len, uint8
 /* Writes the class number of each slot into `classes` (DESK_CLASSES_BYTES): the lowest slot that some likeness (bisimulation) relates to it.
  * Items 1, 3 to 6. */
 struct desk_classed desk_classes(const uint8_t *site, size_t site_len, uint8_t *classes, size_t classes_len);
+
+/* Gives a chain of fewest steps from the slot `start` to a slot that the condition, the goal, lists on the site. Each step leads from a slot to one
+ * of its neighbours by the way, 0 to 15; DESK_EVERYWHERE is refused. Among chains of equally few steps it is the one with the lowest slot at the
+ * first place where they differ, counted from the start.
+ *
+ * - If there is one, `found` is 1, `steps` is how many steps it has, and `chain` (DESK_CHAIN_BYTES) has its steps + 1 slots, the start first, then
+ *   zeros. `set` is all zeros. With 0 steps the goal lists the start, and the chain is the start alone.
+ * - If there is none, `found` and `steps` are 0, and `set` (DESK_SET_BYTES) has all slots that can be reached from the start by any number of steps,
+ *   the start among them: every neighbour by the way of a slot in the set is in it, and no slot that the goal lists is. `chain` is all zeros.
+ *
+ * There is a chain exactly if the condition mu 15 (goal or diamond `way` of variable 15) lists the start, also where its table would have over
+ * DESK_NODES_MAX nodes. No slot comes twice in a chain, and slot 0 has no neighbours, so that a chain has at most 254 steps. Slot 0 may be the
+ * start: its chain of 0 steps is all zeros, and `found` tells it from none; its set is slot 0 alone.
+ *
+ * Items 1, 3 to 10, 17. There is no limit on rounds, so 15 and 16 are never met. */
+struct desk_chained desk_chain(const uint8_t *site, size_t site_len, const uint8_t *cond, size_t cond_len, uint32_t way, uint32_t start,
+                               uint8_t *chain, size_t chain_len, uint8_t *set, size_t set_len, uint8_t *work, size_t work_len);
 
 /* Runs a job file, if neither list takes more rounds than the limit. Writes the site after into `site`, the rewritten table into `table`, the
  * condition's set on the site after into `after`, the rewritten table's set on the site of the file into `today`, and the class numbers of the site

@@ -1,11 +1,12 @@
 /* Compares the library with the oracle on random and damaged jobs: `desk_test [JOBS [SEED]]`.
  *
- * Each job goes through desk_job, its pieces through the other five functions, and once more through one of the six with each buffer in
+ * Each job goes through desk_job, its pieces through the other six functions, and once more through one of the seven with each buffer in
  * turn a byte short or a byte long, and with buffers of other wrong lengths. Results, counts, reasons and W are compared, and every byte
  * of every buffer; buffers are filled with 0xAA before, inputs must stay as they are, and the memory after each input and buffer may not
  * be touched. Listing and the job get limits about the rounds that they make, and then a larger one, under which nothing may change. The condition
- * for a sheet's going through is listed on the job's site, and applying has to agree with it. The first difference ends the run with 1, and so does
- * something that so many jobs should have met and have not. */
+ * for a sheet's going through is listed on the job's site, and applying has to agree with it. Chains are asked for by several ways from several
+ * starts, and also on sites that have long ones; all chains are tried where they are few, and the list of mu 15 (goal or diamond of variable 15) has
+ * to agree. The first difference ends the run with 1, and so does something that so many jobs should have met and have not. */
 #define _DEFAULT_SOURCE
 #include "random_jobs.h"
 
@@ -19,6 +20,8 @@ static uint64_t seed;
 static int job = -1;                      /* below 0: a case with a known answer */
 static uint32_t limit = DESK_LIMIT_MAX;   /* on the rounds of a list, for listing and the job */
 static uint32_t larger = DESK_LIMIT_MAX;  /* another one, if there is a larger one */
+static uint32_t chain_way = 4;            /* the way and the start of a chain */
+static uint32_t chain_start = 1;
 
 static void fail(const char *function, const char *what)
 {
@@ -85,6 +88,11 @@ static bool all_zero(const uint8_t *at, size_t length)
     return length == 0 || (at[0] == 0 && memcmp(at, at + 1, length - 1) == 0);
 }
 
+static bool has_slot(const uint8_t *set, int slot)
+{
+    return set[slot / 8] >> slot % 8 & 1;
+}
+
 static void check_buffers(const char *function, int count, uint32_t reason, int work)
 {
     for (int k = 0; k < count; k++) {
@@ -117,14 +125,21 @@ static void check_numbers(const char *function, const void *one, const void *oth
 
 /* ---- what the jobs have met */
 
-enum { LIST, APPLY, REWRITE, CLASSES, JOB, THROUGH, ENTRIES };
-enum { BUFFERS = 12 };
+enum { LIST, APPLY, REWRITE, CLASSES, JOB, THROUGH, CHAIN, ENTRIES };
+enum { BUFFERS = 15 };
 enum { AT_NIL, ALONE, SHARED, PLACES };    /* where a name is: at nil, at a slot of its own, with other names */
 enum { HIGH = LABELS };                    /* the first name whose number no label has, nor a variable: there are as many */
 enum { MARKED, UNMARKED, ASKED, EFFECTS }; /* AP: the name is on site; it is at nil; and then the condition has the label, too */
 enum { NIL_ALONE, ABSENT, STRAYS };        /* where labels are that may not be: on slot 0 alone, or on absent slots */
 enum { WITHIN, EQUAL, OVER_BY_ONE, FAR_OVER, STANDINGS };       /* how the rounds of a list, one at least, stand to the limit */
 enum { BOTH_OVER, TODAY_OVER, SUM_OVER, TODAY_EQUAL, SHAREDS }; /* which of a job's lists are over the limit, or just within it */
+
+/* What a chain is: the start alone; of a step or more; long; one of several with as few steps; past a lower neighbour, which would cost more. A set:
+ * the start alone, or more slots. And from slot 0, a chain or a set. */
+enum { NO_STEP, STEPS, LONG, TIED, PASSED_BY, STAYED, ENCLOSED, NIL_FOUND, NIL_STAYED, OUTCOMES };
+enum { LONG_FROM = 8, LONGEST = 17 };                           /* steps; so many or more are counted together */
+enum { BY_E, BY_WAY, BY_NUMBER, BY_ABSENCE, STARTS };           /* why item 17 is met, if for one cause alone: the way is E, or over E; the start
+                                                                 * is over 255, or absent */
 
 static struct {
     unsigned long reasons[ENTRIES][REASONS];
@@ -143,6 +158,12 @@ static struct {
     unsigned long shareds[SHAREDS];                          /* jobs that items 2 to 14 accept */
     unsigned long walked;                                    /* lists with rounds whose tree was walked */
     unsigned long larger[2];                                 /* refusals and answers that were the same under a larger limit */
+    unsigned long outcomes[OUTCOMES], starts[STARTS];        /* of chains */
+    unsigned long lengths[LONGEST + 1];                      /* chains with so many steps */
+    unsigned long chain_ways[EVERYWHERE];                    /* chains of a step or more */
+    unsigned long set_ways[EVERYWHERE];                      /* sets with more than the start */
+    unsigned long tried[2];                                  /* sets and chains that trying all chains gave too */
+    unsigned long exact[2];                                  /* and with which the list of the loop agreed */
 } met;
 
 static void meet_nodes(void)
@@ -300,6 +321,118 @@ static void check_walk(const struct desk_listed *listed)
     met.walked += walked && listed->rounds > 0;
 }
 
+/* ---- what holds of a chain and of the set in its place, beside the oracle */
+
+/* Whether the way of the chain leads from one slot to the other, by the bytes of the site. */
+static bool leads(int from, int to)
+{
+    const int link = (int)chain_way % LINKS, back = chain_way >= LINKS, a = back ? to : from, b = back ? from : to;
+    return link < GENERAL ? has_slot(site.at + row_at(link, a), b) : b != DESK_NIL && site.at[target_at(link, a)] == b;
+}
+
+/* From the start by steps of the way to the first slot that the goal lists, and zeros behind it. */
+static bool is_chain(const uint8_t *chain, uint32_t steps, const uint8_t *goal)
+{
+    bool right = chain[0] == chain_start && steps < SLOTS - 1 && has_slot(goal, chain[steps]);
+    for (uint32_t n = 0; right && n < steps; n++)
+        right = leads(chain[n], chain[n + 1]) && !has_slot(goal, chain[n]);
+    return right && all_zero(chain + steps + 1, DESK_CHAIN_BYTES - steps - 1);
+}
+
+/* The start is in it, all neighbours by the way are, and no slot that the goal lists is. */
+static bool is_closed(const uint8_t *set, const uint8_t *goal)
+{
+    bool right = has_slot(set, (int)chain_start);
+    for (int s = 0; s < SLOTS; s++)
+        for (int t = 0; has_slot(set, s) && t < SLOTS; t++)
+            right &= !has_slot(goal, s) && (!leads(s, t) || has_slot(set, t));
+    return right;
+}
+
+/* Mu 15 (goal or diamond of variable 15) lists the start exactly if there is a chain. By the library's own lists, so that a mistake that the oracle
+ * shares shows too; nothing is said where the table is too long or a list takes too many rounds. */
+static void check_exact(const struct desk_chained *r, const uint8_t *chain, const uint8_t *set)
+{
+    static uint8_t goal[DESK_SET_BYTES], reach[DESK_SET_BYTES], work[DESK_WORK_BYTES];
+    const size_t length = cond.length;
+    const int last = (int)length / DESK_NODE_BYTES - 1;
+    struct desk_listed one = desk_list(site.at, site.length, cond.at, cond.length, DESK_LIMIT_MAX, goal, sizeof goal, work, sizeof work);
+    if (one.reason == DESK_OK && !(r->found ? is_chain(chain, r->steps, goal) : is_closed(set, goal)))
+        fail("desk_chain", "what a chain or a set has to be");
+    if (last + 4 >= DESK_NODES_MAX)
+        return;
+    add_node(VARIABLE, 15, 0, 0);
+    add_node(DIAMOND, (int)chain_way, last + 1, 0);
+    add_node(OR, 0, last, last + 2);
+    add_node(MU, 15, last + 3, 0);
+    struct desk_listed two = desk_list(site.at, site.length, cond.at, cond.length, DESK_LIMIT_MAX, reach, sizeof reach, work, sizeof work);
+    cond.length = length;
+    if (two.reason != DESK_ROUNDS && (two.reason != DESK_OK || has_slot(reach, (int)chain_start) != r->found))
+        fail("desk_chain", "the list of the loop from the chain");
+    met.exact[r->found] += two.reason == DESK_OK;
+}
+
+/* The chain from the second slot is the rest of the chain. */
+static void check_rest(const struct desk_chained *r, const uint8_t *chain)
+{
+    static uint8_t rest[DESK_CHAIN_BYTES], set[DESK_SET_BYTES], work[DESK_WORK_BYTES];
+    if (r->steps == 0)
+        return;
+    struct desk_chained next = desk_chain(site.at, site.length, cond.at, cond.length, chain_way, chain[1], rest, sizeof rest, set, sizeof set,
+                                          work, sizeof work);
+    if (next.reason != DESK_OK || next.found != 1 || next.steps != r->steps - 1 || memcmp(rest, chain + 1, sizeof rest - 1) != 0)
+        fail("desk_chain", "the rest of a chain");
+}
+
+/* By trying all chains; gives how many are as short as the one that is given, 0 where they are too many to try. */
+static uint32_t check_tried(const struct desk_chained *r, const uint8_t *chain, const uint8_t *set)
+{
+    static struct tried tried;
+    if (!oracle_try_chains(site.at, cond.at, cond.length, chain_way, chain_start, &tried))
+        return 0;
+    if (tried.found != r->found || tried.steps != r->steps || memcmp(tried.chain, chain, sizeof tried.chain) != 0 ||
+        memcmp(tried.set, set, sizeof tried.set) != 0)
+        fail("oracle_try_chains", "the chain or the set");
+    met.tried[r->found]++;
+    return tried.ties;
+}
+
+static bool passes_by(const uint8_t *chain, uint32_t steps)
+{
+    for (uint32_t n = 0; n < steps; n++)
+        for (int t = 0; t < chain[n + 1]; t++)
+            if (leads(chain[n], t))
+                return true;
+    return false;
+}
+
+static void meet_chain(const struct desk_chained *r, const uint8_t *chain, const uint8_t *set, uint32_t ties)
+{
+    uint8_t alone[DESK_SET_BYTES] = {0};
+    put_slot(alone, (int)chain_start);
+    const bool more = !r->found && memcmp(set, alone, sizeof alone) != 0;
+    met.outcomes[NO_STEP] += r->found && r->steps == 0;
+    met.outcomes[STEPS] += r->steps > 0;
+    met.outcomes[LONG] += r->steps >= LONG_FROM;
+    met.outcomes[TIED] += ties > 1;
+    met.outcomes[PASSED_BY] += passes_by(chain, r->steps);
+    met.outcomes[STAYED] += !r->found && !more;
+    met.outcomes[ENCLOSED] += more;
+    if (chain_start == DESK_NIL)
+        met.outcomes[r->found ? NIL_FOUND : NIL_STAYED]++;
+    if (r->found)
+        met.lengths[least(r->steps, LONGEST)]++;
+    met.chain_ways[chain_way] += r->steps > 0;
+    met.set_ways[chain_way] += more;
+}
+
+static void meet_start(void)
+{
+    const bool by_way = chain_way >= EVERYWHERE, by_number = chain_start >= SLOTS, by_absence = !by_number && !has_slot(site.at, (int)chain_start);
+    if (by_way + by_number + by_absence == 1)
+        met.starts[by_absence ? BY_ABSENCE : by_number ? BY_NUMBER : chain_way == EVERYWHERE ? BY_E : BY_WAY]++;
+}
+
 /* ---- the calls: each gives its reason */
 
 #define BUFFER(k) buffers[k].at, buffers[k].length
@@ -422,6 +555,28 @@ static uint32_t try_job(const size_t *lengths)
     return other.reason;
 }
 
+static uint32_t try_chain(const size_t *lengths)
+{
+    struct input a = lend(0, &site), b = lend(1, &cond);
+    for (int k = 0; k < 3; k++)
+        open_buffer(k, lengths[k]);
+    struct desk_chained one = desk_chain(INPUT(a), INPUT(b), chain_way, chain_start, BUFFER(0), BUFFER(1), BUFFER(2));
+    struct desk_chained other = oracle_chain(INPUT(a), INPUT(b), chain_way, chain_start, ORACLE(0), ORACLE(1), ORACLE(2));
+    check_numbers("desk_chain", &one, &other, sizeof one);
+    check_buffers("desk_chain", 3, other.reason, 2);
+    check_input("desk_chain", a);
+    check_input("desk_chain", b);
+    if (other.reason == DESK_OK) {
+        const uint8_t *chain = buffers[0].at, *set = buffers[1].at;
+        check_exact(&one, chain, set);
+        check_rest(&one, chain);
+        meet_chain(&one, chain, set, check_tried(&one, chain, set));
+    }
+    if (other.reason == DESK_START)
+        meet_start();
+    return other.reason;
+}
+
 static const struct entry {
     uint32_t (*try)(const size_t *lengths);
     int buffers;
@@ -433,6 +588,7 @@ static const struct entry {
     [CLASSES] = {try_classes, 1, {DESK_CLASSES_BYTES}},
     [JOB] = {try_job, 6, {DESK_SITE_BYTES, DESK_TABLE_BYTES, DESK_SET_BYTES, DESK_SET_BYTES, DESK_CLASSES_BYTES, DESK_WORK_BYTES}},
     [THROUGH] = {try_through, 1, {DESK_TABLE_BYTES}},
+    [CHAIN] = {try_chain, 3, {DESK_CHAIN_BYTES, DESK_SET_BYTES, DESK_WORK_BYTES}},
 };
 
 static uint32_t try_entry(int e, const size_t *lengths)
@@ -467,8 +623,52 @@ static uint32_t list_rounds(void)
     return r.reason == DESK_ROUNDS ? DESK_LIMIT_MAX + 1 : r.rounds;
 }
 
-/* A random job gets limits about the rounds of its lists. */
-static void choose_limit(int e)
+/* The numbers from this one on, as a caller may have them by mistake. */
+static uint32_t too_high(uint32_t first)
+{
+    switch (below(5)) {
+    case 0:
+        return first;
+    case 1:
+        return first + (uint32_t)below(3);
+    case 2: /* a number that fits in its low bytes */
+        return (one_in(2) ? 1u << 8 : 1u << (16 + below(16))) + (uint32_t)below((int)first);
+    case 3:
+        return UINT32_MAX - (uint32_t)below(3);
+    default:
+        return first + (uint32_t)below(1 << 30) * 3;
+    }
+}
+
+/* One of the slots that are present; 0 if the site has none. */
+static uint32_t some_present(void)
+{
+    int slots[SLOTS], count = 0;
+    for (int s = 0; s < SLOTS; s++)
+        if (has_slot(site.at, s))
+            slots[count++] = s;
+    return count == 0 ? 0 : (uint32_t)slots[below(count)];
+}
+
+/* A link that the site has, for the most part. */
+static int some_link(void)
+{
+    int link = below(LINKS);
+    for (int tries = 0; tries < 6; tries++, link = below(LINKS))
+        if (link < GENERAL ? !all_zero(site.at + row_at(link, 0), LINK_BYTES) : !all_zero(site.at + target_at(link, 0), SLOTS))
+            break;
+    return link;
+}
+
+/* Ways and starts of all kinds. */
+static void choose_chain(void)
+{
+    chain_way = one_in(16) ? too_high(EVERYWHERE) : (uint32_t)(some_link() + (one_in(2) ? LINKS : 0));
+    chain_start = one_in(16) ? too_high(SLOTS) : one_in(16) ? (uint32_t)below(SLOTS) : some_present();
+}
+
+/* A random job gets limits about the rounds of its lists, and ways and starts for its chains. */
+static void choose_numbers(int e)
 {
     uint32_t after = 0, today = 0;
     if (e == LIST) {
@@ -480,21 +680,41 @@ static void choose_limit(int e)
         set_limit(one_in(2) ? today : after + (uint32_t)below((int)(today - after) + 1));
         if (runs)
             meet_shared(after, today);
+    } else if (e == CHAIN) {
+        choose_chain();
     }
 }
 
-/* The job at hand through all six, with buffers as they should be. */
+/* The job at hand through all seven, with buffers as they should be. */
 static void try_all(void)
 {
     for (int e = 0; e < ENTRIES; e++) {
         if (job >= 0)
-            choose_limit(e);
+            choose_numbers(e);
         try_entry(e, entries[e].lengths);
     }
     try_works();
+    for (int more = 0; job >= 0 && more < 3; more++) {
+        choose_chain();
+        try_entry(CHAIN, entries[CHAIN].lengths);
+    }
 }
 
-/* One buffer of the twelve, counted over the entry points, is a byte short or a byte long. */
+/* A site with long chains, in place of the job's: the way that they go, from where they begin, and others. */
+static void try_route(void)
+{
+    const struct route route = build_route();
+    for (int k = 0; k < 4; k++) {
+        choose_chain();
+        if (k < 2 || one_in(2))
+            chain_way = (uint32_t)route.way;
+        if (k < 1 || one_in(2))
+            chain_start = (uint32_t)route.start;
+        try_entry(CHAIN, entries[CHAIN].lengths);
+    }
+}
+
+/* One buffer of the fifteen, counted over the entry points, is a byte short or a byte long. */
 static void try_off_by_one(int number, bool longer)
 {
     size_t lengths[BUFFERS_MOST];
@@ -1519,11 +1739,6 @@ static const uint8_t *applied(void)
     return result;
 }
 
-static bool has_slot(const uint8_t *set, int slot)
-{
-    return set[slot / 8] >> slot % 8 & 1;
-}
-
 /* Some slot has the label. */
 static void build_some(int label)
 {
@@ -2068,6 +2283,487 @@ static void try_rounds(void)
     try_forked();
 }
 
+/* ---- chains from slot to slot */
+
+static void expect_chained(const struct desk_chained *wanted, const uint8_t *chain, const uint8_t *set, const char *what)
+{
+    static struct {
+        uint8_t chain[DESK_CHAIN_BYTES], set[DESK_SET_BYTES], work[DESK_WORK_BYTES];
+    } to;
+    memset(&to, 0xaa, sizeof to);
+    struct desk_chained r = desk_chain(site.at, site.length, cond.at, cond.length, chain_way, chain_start, to.chain, sizeof to.chain, to.set,
+                                       sizeof to.set, to.work, sizeof to.work);
+    expect(r.reason == wanted->reason && r.where == wanted->where && r.found == wanted->found && r.steps == wanted->steps, what);
+    expect(memcmp(to.chain, chain, sizeof to.chain) == 0 && memcmp(to.set, set, sizeof to.set) == 0 && all_zero(to.work, sizeof to.work), what);
+}
+
+static const uint8_t no_chain[DESK_CHAIN_BYTES], no_set[DESK_SET_BYTES];
+
+/* The chain has these slots, one more than steps. */
+static void expect_steps(uint32_t steps, const uint8_t *slots, const char *what)
+{
+    uint8_t chain[DESK_CHAIN_BYTES] = {0};
+    memcpy(chain, slots, steps + 1);
+    expect_chained(&(struct desk_chained){DESK_OK, 0, 1, steps}, chain, no_set, what);
+}
+
+static void expect_enclosed(const uint8_t *set, const char *what)
+{
+    expect_chained(&(struct desk_chained){DESK_OK, 0, 0, 0}, no_chain, set, what);
+}
+
+/* A refusal, also beside the oracle. */
+static void expect_start(uint32_t reason, uint32_t where, const char *what)
+{
+    expect_chained(&(struct desk_chained){reason, where, 0, 0}, no_chain, no_set, what);
+    expect(try_entry(CHAIN, entries[CHAIN].lengths) == reason, what);
+}
+
+static void build_label(int label)
+{
+    cond.length = 0;
+    add_node(LABEL, label, 0, 0);
+}
+
+static void build_slot(int slot)
+{
+    cond.length = 0;
+    add_node(SLOT, slot, 0, 0);
+}
+
+/* Small sites: arcs and the slots of the goal, each up to a 0, and the chain's slots or, with steps below 0, those of the set. */
+static const struct trip {
+    const char *what;
+    int start, steps;
+    uint8_t arcs[14][2], goal[4], slots[8];
+} trips[] = {
+    {"the goal lists the start", 1, 0, {{1, 2}}, {1}, {1}},
+    {"the goal lists the start and its neighbour", 1, 0, {{1, 2}}, {1, 2}, {1}},
+    {"the goal lists the start on a ring", 2, 0, {{1, 2}, {2, 1}}, {2}, {2}},
+    {"one step", 1, 1, {{1, 2}}, {2}, {1, 2}},
+    {"one step to a lower slot", 2, 1, {{2, 1}}, {1}, {2, 1}},
+    {"one step with the last slots", 255, 1, {{255, 254}}, {254}, {255, 254}},
+    {"a line", 1, 3, {{1, 2}, {2, 3}, {3, 4}}, {4}, {1, 2, 3, 4}},
+    {"a line down", 4, 3, {{4, 3}, {3, 2}, {2, 1}}, {1}, {4, 3, 2, 1}},
+    {"a line from its middle", 2, 2, {{1, 2}, {2, 3}, {3, 4}}, {1, 4}, {2, 3, 4}},
+    {"the nearer goal on a line", 1, 2, {{1, 2}, {2, 3}, {3, 4}}, {3, 4}, {1, 2, 3}},
+    {"across the words of a set", 63, 4, {{63, 64}, {64, 128}, {128, 192}, {192, 7}}, {7}, {63, 64, 128, 192, 7}},
+    {"a ring", 2, 2, {{1, 2}, {2, 3}, {3, 4}, {4, 1}}, {4}, {2, 3, 4}},
+    {"nearly all of a ring", 3, 3, {{1, 2}, {2, 3}, {3, 4}, {4, 1}}, {2}, {3, 4, 1, 2}},
+    {"a ring without a goal", 3, -1, {{1, 2}, {2, 3}, {3, 4}, {4, 1}}, {5}, {1, 2, 3, 4}},
+    {"a ring behind a line", 1, -1, {{1, 2}, {2, 3}, {3, 2}}, {0}, {1, 2, 3}},
+    {"a link to itself", 1, -1, {{1, 1}}, {2}, {1}},
+    {"a link to itself and on", 1, 1, {{1, 1}, {1, 2}}, {2}, {1, 2}},
+    {"a link to itself on the way", 1, 2, {{1, 2}, {2, 2}, {2, 3}}, {3}, {1, 2, 3}},
+    {"a link to itself in the goal", 1, 0, {{1, 1}}, {1}, {1}},
+    {"a link to itself at the end", 1, 1, {{1, 2}, {2, 2}}, {2}, {1, 2}},
+    {"no link", 1, -1, {{0}}, {2}, {1}},
+    {"no link and no goal", 1, -1, {{0}}, {0}, {1}},
+    {"only against the way", 1, -1, {{2, 1}}, {2}, {1}},
+    {"no slot has the label", 1, -1, {{1, 2}, {2, 3}}, {0}, {1, 2, 3}},
+    {"the goal in another part", 1, -1, {{1, 2}, {3, 4}, {4, 3}}, {3, 4}, {1, 2}},
+    {"the goal behind the start", 2, -1, {{1, 2}, {2, 3}}, {1}, {2, 3}},
+    {"a slot that leads here is not reached", 2, -1, {{1, 2}, {2, 3}, {4, 3}}, {5}, {2, 3}},
+    {"two ends", 1, 1, {{1, 3}, {1, 2}}, {2, 3}, {1, 2}},
+    {"two ways to one end", 1, 2, {{1, 3}, {1, 2}, {2, 4}, {3, 4}}, {4}, {1, 2, 4}},
+    {"a choice at each step", 1, 3, {{1, 2}, {1, 3}, {2, 4}, {2, 5}, {3, 4}, {3, 5}, {4, 6}, {4, 7}, {5, 6}, {5, 7}}, {6, 7}, {1, 2, 4, 6}},
+    {"a choice at each step but the last", 1, 3, {{1, 2}, {1, 3}, {2, 4}, {2, 5}, {3, 4}, {3, 5}, {4, 6}, {4, 7}, {5, 6}, {5, 7}}, {7}, {1, 2, 4, 7}},
+    {"choices with slots in reverse", 7, 3, {{7, 6}, {7, 5}, {6, 4}, {6, 3}, {5, 4}, {5, 3}, {4, 2}, {4, 1}, {3, 2}, {3, 1}}, {1, 2}, {7, 5, 3, 1}},
+    {"the first difference, not the lowest end", 1, 2, {{1, 2}, {1, 3}, {2, 9}, {3, 4}}, {4, 9}, {1, 2, 9}},
+    {"the first difference, not the lowest middle", 1, 3, {{1, 2}, {1, 3}, {2, 9}, {3, 4}, {9, 8}, {4, 8}}, {8}, {1, 2, 9, 8}},
+    {"the lowest neighbour leads to a longer chain", 1, 2, {{1, 2}, {2, 3}, {3, 9}, {1, 5}, {5, 9}}, {9}, {1, 5, 9}},
+    {"the lowest neighbour leads nowhere", 1, 2, {{1, 2}, {1, 5}, {5, 9}}, {9}, {1, 5, 9}},
+    {"the lowest neighbour leads back", 3, 2, {{3, 1}, {1, 3}, {3, 3}, {3, 5}, {5, 9}}, {9}, {3, 5, 9}},
+    {"the lower goal is farther", 1, 2, {{1, 4}, {4, 5}, {5, 2}, {1, 200}, {200, 201}}, {2, 201}, {1, 200, 201}},
+    {"lower ways that are a step longer", 1, 3, {{1, 2}, {2, 3}, {1, 3}, {3, 4}, {4, 5}, {3, 5}, {5, 6}, {6, 7}, {5, 7}}, {7}, {1, 3, 5, 7}},
+    {"a step to the goal past lower ones", 9, 1, {{9, 1}, {9, 2}, {1, 8}, {2, 8}, {9, 8}}, {8}, {9, 8}},
+    {"back past the start", 5, 2, {{5, 6}, {6, 5}, {6, 4}}, {4}, {5, 6, 4}},
+    {"all that is reached from two sides", 1, -1, {{1, 2}, {1, 3}, {2, 4}, {3, 4}, {4, 250}, {250, 2}}, {6}, {1, 2, 3, 4, 250}},
+};
+
+/* The slots of a trip are there, and label 0 is on the goal. The link leads over its arcs, or against them; false if it is functional and a slot
+ * would have two targets. */
+static bool build_trip(const struct trip *trip, int link, bool back)
+{
+    site.length = DESK_SITE_BYTES;
+    memset(site.at, 0, site.length);
+    put_slot(site.at, DESK_NIL);
+    put_slot(site.at, trip->start);
+    for (int k = 0; trip->goal[k]; k++) {
+        put_slot(site.at, trip->goal[k]);
+        put_slot(site.at + label_at(0), trip->goal[k]);
+    }
+    for (int k = 0; trip->arcs[k][0]; k++) {
+        const int from = trip->arcs[k][back], to = trip->arcs[k][!back];
+        put_slot(site.at, from);
+        put_slot(site.at, to);
+        if (link < GENERAL)
+            put_slot(site.at + row_at(link, from), to);
+        else if (site.at[target_at(link, from)] != 0)
+            return false;
+        else
+            site.at[target_at(link, from)] = (uint8_t)to;
+    }
+    return true;
+}
+
+/* Label 0: alone, by a loop of the variable that the loop of the chain has, and behind so many nots that the table has no room for that loop. */
+static void build_trip_goal(int form)
+{
+    build_label(0);
+    if (form == 1) {
+        add_node(VARIABLE, 15, 0, 0);
+        add_node(AND, 0, 0, 1);
+        add_node(OR, 0, 0, 2);
+        add_node(MU, 15, 3, 0);
+    }
+    for (int k = 1; form == 2 && k < DESK_NODES_MAX - 1; k++)
+        add_node(NOT, 0, k - 1, 0);
+}
+
+/* By all ways that its arcs allow. */
+static void try_trip(const struct trip *trip)
+{
+    uint8_t set[DESK_SET_BYTES] = {0};
+    for (int k = 0; trip->steps < 0 && trip->slots[k]; k++)
+        put_slot(set, trip->slots[k]);
+    for (chain_way = 0; chain_way < EVERYWHERE; chain_way++) {
+        if (!build_trip(trip, (int)chain_way % LINKS, chain_way >= LINKS))
+            continue;
+        build_trip_goal((int)chain_way % 3);
+        chain_start = (uint32_t)trip->start;
+        if (trip->steps < 0)
+            expect_enclosed(set, trip->what);
+        else
+            expect_steps((uint32_t)trip->steps, trip->slots, trip->what);
+        expect(try_entry(CHAIN, entries[CHAIN].lengths) == DESK_OK, trip->what);
+    }
+}
+
+static void try_trips(void)
+{
+    for (size_t k = 0; k < sizeof trips / sizeof *trips; k++)
+        try_trip(&trips[k]);
+}
+
+/* The slots from one to the other, down or up. */
+static void expect_line(int from, int to, const char *what)
+{
+    uint8_t slots[SLOTS];
+    const int steps = from < to ? to - from : from - to;
+    for (int k = 0; k <= steps; k++)
+        slots[k] = (uint8_t)(from < to ? from + k : from - k);
+    chain_start = (uint32_t)from;
+    expect_steps((uint32_t)steps, slots, what);
+}
+
+/* All slots but 0 in one line, down by link 4. No link touches slot 0, so that the longest chain of a valid site has 255 slots, 254 steps, and
+ * one byte at least is 0 behind it. */
+static void try_longest_chain(void)
+{
+    uint8_t set[DESK_SET_BYTES] = {0};
+    build_chain_site(SLOTS);
+    for (int s = 1; s < SLOTS; s++) {
+        chain_way = 4;
+        build_label(0);
+        expect_line(s, 1, "down the line of all slots");
+        if (s % 16 == 15)
+            try_entry(CHAIN, entries[CHAIN].lengths);
+        put_slot(set, s);
+        build_slot(DESK_NIL);
+        expect_enclosed(set, "all slots down the line");
+        chain_way = 4 + LINKS;
+        build_slot(SLOTS - 1);
+        expect_line(s, SLOTS - 1, "up the line of all slots");
+    }
+}
+
+/* The ring of all slots, from each of them to the one before it, and with no goal. */
+static void try_ring(void)
+{
+    uint8_t slots[SLOTS], set[DESK_SET_BYTES];
+    memset(set, 0xff, sizeof set);
+    flip(set, DESK_NIL);
+    build_chain_site(SLOTS);
+    site.at[target_at(4, 1)] = SLOTS - 1;
+    chain_way = 4;
+    for (int s = 1; s < SLOTS; s++) {
+        for (int k = 0; k < SLOTS - 1; k++)
+            slots[k] = (uint8_t)(1 + (s - 1 + SLOTS - 1 - k) % (SLOTS - 1));
+        chain_start = (uint32_t)s;
+        build_slot(slots[SLOTS - 2]);
+        expect_steps(SLOTS - 2, slots, "around the ring of all slots");
+        build_slot(DESK_NIL);
+        expect_enclosed(set, "the ring of all slots without a goal");
+    }
+    try_entry(CHAIN, entries[CHAIN].lengths);
+}
+
+/* Slot 1 and then pairs of slots, 2 and 3 up to 254 and 255. The link leads from the last slot of a pair to both of the next; from the first one
+ * as well (0), nowhere (1), or to the last one of its pair (2). */
+static void build_ladder(int link, int form)
+{
+    build_bare();
+    for (int s = 1; s < SLOTS; s++) {
+        const int next = s - s % 2 + 2;
+        for (int t = next; t <= next + 1 && t < SLOTS && (s % 2 == 1 || form == 0); t++)
+            put_slot(site.at + row_at(link, s), t);
+        if (s % 2 == 0 && form == 2)
+            put_slot(site.at + row_at(link, s), s + 1);
+    }
+}
+
+/* 2 to the power 126 chains of 127 steps and more, of which the first one takes the lower slot of each pair; if that one leads nowhere, or has a
+ * step more, no chain of fewest steps has it before the end. */
+static void try_ladders(void)
+{
+    enum { PAIRS = 127 };
+    uint8_t slots[PAIRS + 1] = {1};
+    for (int form = 0; form <= 2; form++)
+        for (int end = 2 * PAIRS; end <= 2 * PAIRS + 1; end++) {
+            chain_way = (uint32_t)(form + 1);
+            chain_start = 1;
+            build_ladder(form + 1, form);
+            build_slot(end);
+            for (int k = 1; k < PAIRS; k++)
+                slots[k] = (uint8_t)(form == 0 ? 2 * k : 2 * k + 1);
+            slots[PAIRS] = (uint8_t)end;
+            expect_steps(PAIRS, slots, "a ladder");
+            try_entry(CHAIN, entries[CHAIN].lengths);
+        }
+}
+
+/* Every arc of a link: a step leads everywhere, and all slots but 0 are reached. */
+static void try_every_arc(void)
+{
+    uint8_t set[DESK_SET_BYTES];
+    build_bare();
+    for (int s = 1; s < SLOTS; s++) {
+        memset(site.at + row_at(3, s), 0xff, DESK_SET_BYTES);
+        flip(site.at + row_at(3, s), DESK_NIL);
+    }
+    memcpy(set, site.at + row_at(3, 1), sizeof set);
+    for (int s = 1; s < SLOTS; s++) {
+        const int end = 1 + s * 7 % (SLOTS - 1);
+        const uint8_t slots[] = {(uint8_t)s, (uint8_t)end};
+        chain_way = s % 2 ? 3 : 3 + LINKS;
+        chain_start = (uint32_t)s;
+        build_slot(end);
+        expect_steps(s != end, slots, "a step on a site with every arc");
+        build_slot(DESK_NIL);
+        expect_enclosed(set, "every slot that a link can reach");
+    }
+    try_entry(CHAIN, entries[CHAIN].lengths);
+}
+
+/* From one slot over all slots from some slot on to another: the lowest of them, whichever it is, and at each place in a set. */
+static void try_lowest(void)
+{
+    for (int k = 0; k < 2 * SLOTS; k++) {
+        const int lowest = k / 2, start = 1, end = SLOTS - 1, back = k % 2;
+        const uint8_t slots[] = {(uint8_t)start, (uint8_t)lowest, (uint8_t)end};
+        if (lowest <= start || lowest >= end)
+            continue;
+        build_bare();
+        for (int s = lowest; s < end; s++) {
+            put_slot(site.at + row_at(2, back ? s : start), back ? start : s);
+            put_slot(site.at + row_at(2, back ? end : s), back ? s : end);
+        }
+        chain_way = back ? 2 + LINKS : 2;
+        chain_start = (uint32_t)start;
+        build_slot(end);
+        expect_steps(2, slots, "the lowest slot between two");
+        expect(try_entry(CHAIN, entries[CHAIN].lengths) == DESK_OK, "the lowest slot between two");
+    }
+}
+
+/* Slot 0 is present, and no link touches it: the start alone, as a chain or as a set. No other slot leads to it, and none to an absent one. */
+static void try_nil_chains(void)
+{
+    static const uint8_t nil[] = {DESK_NIL}, first[DESK_SET_BYTES] = {1};
+    for (chain_way = 0; chain_way < EVERYWHERE; chain_way++) {
+        build_spread();
+        chain_start = DESK_NIL;
+        for (int k = 0; k < 3; k++) {
+            cond.length = 0;
+            add_node(k == 0 ? TRUE : k == 1 ? HERE : NAME, 0, 0, 0);
+            expect_steps(0, nil, "from slot 0 to slot 0");
+            try_entry(CHAIN, entries[CHAIN].lengths);
+        }
+        build_name(1);
+        expect_enclosed(first, "slot 0 alone");
+        try_entry(CHAIN, entries[CHAIN].lengths);
+        for (int k = 0; k < 3; k++) {
+            chain_start = (uint32_t)place(1 + (int)chain_way);
+            cond.length = 0;
+            add_node(k == 0 ? NAME : k == 1 ? SLOT : HERE, k == 1 ? 1 : 0, 0, 0);
+            if (k == 2)
+                add_node(NOT, 0, 0, 0);
+            const bool accepted = try_entry(CHAIN, entries[CHAIN].lengths) == DESK_OK;
+            expect(accepted && !all_zero(buffers[1].at, DESK_SET_BYTES), "slot 0 or an absent slot as a goal");
+        }
+    }
+}
+
+/* Ways over 15 and starts over 255, also those whose low byte or low half would do; absent starts; and the two together. */
+static void try_starts(void)
+{
+    static const uint32_t ways[] = {4, 15, 16, 17, 127, 128, 255, 256, 256 + 4, 65536 + 4, 1u << 31, (1u << 31) + 4, UINT32_MAX};
+    static const uint32_t starts[] = {3, 0, 4, 5, 254, 255, 256, 256 + 3, 65536 + 1, 65536 + 3, 1u << 31, (1u << 31) + 3, UINT32_MAX};
+    build_a();
+    build_r();
+    put_slot(site.at, 255);
+    for (size_t k = 0; k < sizeof ways / sizeof *ways; k++)
+        for (size_t l = 0; l < sizeof starts / sizeof *starts; l++) {
+            chain_way = ways[k];
+            chain_start = starts[l];
+            if (chain_way > 15 || chain_start > 255 || !has_slot(site.at, (int)chain_start))
+                expect_start(DESK_START, 0, "a way or a start that is refused");
+            else
+                expect(try_entry(CHAIN, entries[CHAIN].lengths) == DESK_OK, "a way and a start at their limits");
+        }
+    for (int s = 0; s < SLOTS; s++) {
+        build_bare();
+        flip(site.at, s == 0 ? 1 : s);
+        chain_way = (uint32_t)s % EVERYWHERE;
+        chain_start = (uint32_t)s;
+        build_slot(s);
+        expect(try_entry(CHAIN, entries[CHAIN].lengths) == (s == 0 ? DESK_OK : DESK_START), "the only absent slot as a start");
+    }
+}
+
+/* Each buffer a byte short, a byte long, and of no byte. */
+static void try_chain_lengths(uint32_t way, uint32_t start)
+{
+    chain_way = way;
+    chain_start = start;
+    for (int k = 0; k < 3; k++)
+        for (int fault = 0; fault < 3; fault++) {
+            size_t lengths[BUFFERS_MOST];
+            memcpy(lengths, entries[CHAIN].lengths, sizeof lengths);
+            lengths[k] = fault == 0 ? lengths[k] - 1 : fault == 1 ? lengths[k] + 1 : 0;
+            expect(try_entry(CHAIN, lengths) == DESK_BUFFER_LENGTH, "a buffer of a chain with a wrong length");
+        }
+}
+
+/* Items 3 to 10 and 17: each alone, each beside 17, each beside 1; and of the items before 17 each beside each other one. */
+static void try_chain_order(void)
+{
+    static const uint32_t pairs[][2] = {{4, 3}, {16, 3}, {4, 9}, {4, 256}, {UINT32_MAX, UINT32_MAX}};
+    for (uint32_t site_fault = DESK_SITE_LENGTH - 1; site_fault <= DESK_LINKS; site_fault++)
+        for (uint32_t fault = DESK_CONDITION_LENGTH - 1; fault <= DESK_FREE_VARIABLE; fault++)
+            for (size_t k = 0; k < sizeof pairs / sizeof *pairs; k++) {
+                const bool on_site = site_fault >= DESK_SITE_LENGTH, in_goal = !on_site && fault >= DESK_CONDITION_LENGTH;
+                const uint32_t reason = on_site ? site_fault : in_goal ? fault : k > 0 ? (uint32_t)DESK_START : DESK_OK;
+                build_a();
+                build_r();
+                build_site_fault(site_fault);
+                build_condition_fault(fault);
+                try_chain_lengths(pairs[k][0], pairs[k][1]);
+                if (reason != DESK_OK)
+                    expect_start(reason, reason == DESK_NODE || reason == DESK_FREE_VARIABLE ? 5 : reason == DESK_EVEN_RULE ? 6 : 0,
+                                 "the order of the items of a chain");
+            }
+}
+
+/* Tables of full length as goals, and one that is a node too long. Odd nots leave label 0 out, so that slot 2 is in the goal and slot 1 is not. */
+static void try_long_goals(void)
+{
+    static const uint8_t two[] = {2}, to_label[] = {3, 2, 1};
+    chain_way = 4;
+    build_a();
+    for (int less = -1; less <= 4; less++) {
+        build_chain(NOT, 0, DESK_NODES_MAX - less);
+        chain_start = less % 2 == 0 ? 2 : 3;
+        if (less < 0)
+            expect_start(DESK_CONDITION_LENGTH, 0, "a goal of 2,049 nodes");
+        else if (less % 2 == 0)
+            expect_steps(0, two, "an odd number of nots");
+        else
+            expect_steps(2, to_label, "an even number of nots");
+        try_entry(CHAIN, entries[CHAIN].lengths);
+    }
+}
+
+/* The goal at hand and label 0, or, where the table is full, the goal alone; from the last slot of the line of so many slots down to slot 1. */
+static void expect_down(int slots, const char *what)
+{
+    const int last = last_node();
+    if (last + 1 < DESK_NODES_MAX) {
+        add_node(LABEL, 0, 0, 0);
+        add_node(AND, 0, last, last + 1);
+    }
+    chain_way = 4;
+    expect_line(slots - 1, 1, what);
+}
+
+/* Goals whose lists are refused for their rounds under the highest limit; a chain has none. */
+static void try_goals_without_limit(void)
+{
+    static uint8_t set[DESK_SET_BYTES], work[DESK_WORK_BYTES];
+    for (int k = 0; k < 5; k++) {
+        const int slots = k < 3 ? 30 : k == 3 ? 110 : 36;
+        build_chain_site(slots);
+        if (k == 0) {
+            build_chain(MU, 3, 20);
+        } else if (k == 1) {
+            build_once();
+            add_doubles(2000);
+            add_node(NOT, 0, last_node(), 0);
+        } else if (k == 2) {
+            build_chain(NU, 15, DESK_NODES_MAX);
+        } else {
+            build_nested(k);
+        }
+        struct desk_listed r = desk_list(site.at, site.length, cond.at, cond.length, DESK_LIMIT_MAX, set, sizeof set, work, sizeof work);
+        expect(r.reason == DESK_ROUNDS, "a goal with many rounds");
+        expect_down(slots, "a chain to a goal with many rounds");
+        if (k == 1) /* the others take the oracle too long */
+            try_entry(CHAIN, entries[CHAIN].lengths);
+    }
+}
+
+/* Loops as goals, also with the variable that the loop of the chain has, and goals that look along the way themselves. */
+static void try_loop_goals(void)
+{
+    static const uint8_t three[] = {3};
+    build_a();
+    for (int v = 0; v < VARIABLES; v++)
+        for (chain_way = 0; chain_way < EVERYWHERE; chain_way++) {
+            chain_start = 3;
+            cond.length = 0;
+            add_node(LABEL, 0, 0, 0);
+            add_node(VARIABLE, v, 0, 0);
+            add_node(DIAMOND, 4, 1, 0);
+            add_node(OR, 0, 0, 2);
+            add_node(MU, v, 3, 0);
+            expect_steps(0, three, "R lists the start");
+            try_entry(CHAIN, entries[CHAIN].lengths);
+            add_node(BOX, (int)chain_way, 4, 0);
+            add_node(NU, v, 5, 0);
+            add_node(NOT, 0, 6, 0);
+            try_entry(CHAIN, entries[CHAIN].lengths);
+        }
+}
+
+static void try_known_chains(void)
+{
+    try_trips();
+    try_longest_chain();
+    try_ring();
+    try_ladders();
+    try_every_arc();
+    try_lowest();
+    try_nil_chains();
+    try_starts();
+    try_chain_order();
+    try_long_goals();
+    try_loop_goals();
+    try_goals_without_limit();
+    chain_way = 4;
+    chain_start = 1;
+}
+
 static void *try_known_answers(void *unused)
 {
     try_chains();
@@ -2088,6 +2784,7 @@ static void *try_known_answers(void *unused)
     try_every_slot();
     try_nil();
     try_rounds();
+    try_known_chains();
     return unused;
 }
 
@@ -2130,8 +2827,9 @@ static const struct row {
     {"apply: reason", met.reasons[APPLY], REASONS, 0x387b},
     {"rewrite: reason", met.reasons[REWRITE], REASONS, 0x5f83},
     {"classes: reason", met.reasons[CLASSES], REASONS, 0x7b},
-    {"job: reason", met.reasons[JOB], REASONS, ALL(REASONS)},
+    {"job: reason", met.reasons[JOB], REASONS, 0x1ffff},
     {"through: reason", met.reasons[THROUGH], REASONS, 0x5803},
+    {"chain: reason", met.reasons[CHAIN], REASONS, 0x207fb},
     {"through: works", met.works, 2, ALL(2)},
     {"kind", met.kinds, KINDS, ALL(KINDS)},
     {"way, diamond", met.diamonds, WAYS, ALL(WAYS)},
@@ -2152,6 +2850,13 @@ static const struct row {
     {"job, rounds", met.shareds, SHAREDS, ALL(SHAREDS)},
     {"list, walked", &met.walked, 1, ALL(1)},
     {"limit, larger", met.larger, 2, ALL(2)},
+    {"chain, outcome", met.outcomes, OUTCOMES, ALL(OUTCOMES)},
+    {"chain, start", met.starts, STARTS, ALL(STARTS)},
+    {"chain, way", met.chain_ways, EVERYWHERE, ALL(EVERYWHERE)},
+    {"set, way", met.set_ways, EVERYWHERE, ALL(EVERYWHERE)},
+    {"chain, steps", met.lengths, LONGEST + 1, ALL(LONGEST + 1)},
+    {"chain, all tried", met.tried, 2, ALL(2)},
+    {"chain, exact", met.exact, 2, ALL(2)},
     {"buffer, short", met.shorter, BUFFERS, ALL(BUFFERS)},
     {"buffer, long", met.longer, BUFFERS, ALL(BUFFERS)},
 };
@@ -2159,7 +2864,7 @@ static const struct row {
 static void print_rows(void)
 {
     printf("%-17s", "");
-    for (int n = 0; n < WAYS; n++)
+    for (int n = 0; n < REASONS; n++)
         printf("%6d", n);
     for (size_t k = 0; k < sizeof rows / sizeof *rows; k++) {
         printf("\n%-17s", rows[k].name);
@@ -2195,6 +2900,8 @@ int main(int argc, char **argv)
         try_all();
         try_off_by_one(job % BUFFERS, job / BUFFERS % 2 == 1);
         try_wrong_lengths();
+        if (job % 4 == 0)
+            try_route();
     }
     printf("seed %llu, %d jobs, half of them damaged; %lu lists with a slot\n", (unsigned long long)seed, jobs, met.listed);
     print_rows();

@@ -6,10 +6,12 @@ VARIABLES = 16
 GENERAL = 4  # links 0 to 3, with a set of targets for each slot
 FUNCTIONAL = 4  # links 4 to 7, with one target for each slot
 LINKS = GENERAL + FUNCTIONAL
-EVERYWHERE = 2 * LINKS  # the way behind the links and their reverses
+LINK_WAYS = 2 * LINKS  # the ways along the links and against them
+EVERYWHERE = LINK_WAYS  # the way behind them
 WAYS = EVERYWHERE + 1
 
 SET_BYTES = SLOTS // 8
+CHAIN_BYTES = SLOTS
 LINK_BYTES = SLOTS * SET_BYTES
 LABELS_AT = SET_BYTES
 NAMES_AT = LABELS_AT + LABELS * SET_BYTES

@@ -1,4 +1,4 @@
-/* The desk's six functions once more: plain, in another way than the library, from the specification alone. */
+/* The desk's seven functions once more: plain, in another way than the library, from the specification alone. */
 #include "oracle.h"
 
 #include <stdlib.h>
@@ -223,11 +223,23 @@ struct found {
     uint32_t rounds;
 };
 
-static struct found value(const struct model *, const struct node *, int, const struct slots *);
+/* A table that is evaluated on a site: up to OVER rounds, where the sets no longer matter, or to the end however many they are. */
+struct asked {
+    const struct model *model;
+    const struct node *table;
+    bool to_the_end;
+};
+
+static bool goes_on(const struct asked *asked, uint32_t rounds)
+{
+    return asked->to_the_end || rounds < OVER;
+}
+
+static struct found value(const struct asked *, int, const struct slots *);
 
 /* Mu from nothing, nu from everything, until the body gives back what it was given; the body is evaluated afresh each time, with all the loops in
  * it, and the last time counts too. */
-static struct found loop(const struct model *model, const struct node *table, const struct node *node, const struct slots *variables)
+static struct found loop(const struct asked *asked, const struct node *node, const struct slots *variables)
 {
     struct slots inner[VARIABLES];
     struct found next = {all_slots(node->kind == NU), 0};
@@ -235,9 +247,9 @@ static struct found loop(const struct model *model, const struct node *table, co
     memcpy(inner, variables, sizeof inner);
     do {
         inner[node->param] = next.set;
-        next = value(model, table, node->left, inner);
+        next = value(asked, node->left, inner);
         rounds = sum(rounds, sum(1, next.rounds));
-    } while (memcmp(&next.set, &inner[node->param], sizeof next.set) != 0 && rounds < OVER);
+    } while (memcmp(&next.set, &inner[node->param], sizeof next.set) != 0 && goes_on(asked, rounds));
     next.rounds = rounds;
     return next;
 }
@@ -272,14 +284,13 @@ static struct slots node_value(const struct model *model, const struct node *nod
 }
 
 /* A node, from what was found for its children. */
-static struct found node_found(const struct model *model, const struct node *table, const struct node *node, const struct found *found,
-                               const struct slots *variables)
+static struct found node_found(const struct asked *asked, const struct node *node, const struct found *found, const struct slots *variables)
 {
     const struct found *left = &found[node->left], *right = &found[node->right];
     if (is_loop(node))
-        return loop(model, table, node, variables);
+        return loop(asked, node, variables);
     int used = children(node->kind);
-    return (struct found){node_value(model, node, &left->set, &right->set, variables),
+    return (struct found){node_value(asked->model, node, &left->set, &right->set, variables),
                           sum(used >= 1 ? left->rounds : 0, used == 2 ? right->rounds : 0)};
 }
 
@@ -298,15 +309,15 @@ static void mark_needed(const struct node *table, int root, bool *needed)
 }
 
 /* The set of a node and its rounds: first the nodes that it needs, in ascending order. Of a node that is over, so is each that needs it. */
-static struct found value(const struct model *model, const struct node *table, int root, const struct slots *variables)
+static struct found value(const struct asked *asked, int root, const struct slots *variables)
 {
     struct found *found = malloc(sizeof *found * ((size_t)root + 1)), result;
     bool *needed = malloc((size_t)root + 1);
-    mark_needed(table, root, needed);
+    mark_needed(asked->table, root, needed);
     result.rounds = 0;
-    for (int i = 0; i <= root && result.rounds < OVER; i++)
+    for (int i = 0; i <= root && goes_on(asked, result.rounds); i++)
         if (needed[i])
-            result = found[i] = node_found(model, table, &table[i], found, variables);
+            result = found[i] = node_found(asked, &asked->table[i], found, variables);
     free(found);
     free(needed);
     return result;
@@ -325,12 +336,23 @@ static uint32_t set_write(const struct slots *slots, uint8_t *set)
     return count;
 }
 
-static struct found list(const struct model *model, const struct node *table, int count)
+static struct found evaluate(const struct asked *asked, int count)
 {
     struct slots variables[VARIABLES];
     for (int v = 0; v < VARIABLES; v++)
         variables[v] = all_slots(false);
-    return value(model, table, count - 1, variables);
+    return value(asked, count - 1, variables);
+}
+
+static struct found list(const struct model *model, const struct node *table, int count)
+{
+    return evaluate(&(struct asked){model, table, false}, count);
+}
+
+/* The set alone, for a chain, which has no limit. */
+static struct slots list_goal(const struct model *model, const struct node *table, int count)
+{
+    return evaluate(&(struct asked){model, table, true}, count).set;
 }
 
 /* ---- listing once more, by the definition of a round alone */
@@ -365,6 +387,99 @@ static struct slots walk(struct walk *w, int number)
     if (used == 2)
         right = walk(w, node->right);
     return node_value(w->model, node, &left, &right, w->variables);
+}
+
+/* ---- the chain: forward from the start */
+
+enum { FAR = SLOTS }; /* steps to a slot that is not reached; fewer than these lead to any other */
+
+/* How many steps lead to each slot from the start: a queue of the slots that are reached, each once. */
+static void measure(const struct arcs *arcs, int way, int start, int *steps)
+{
+    int queue[SLOTS], count = 1;
+    for (int s = 0; s < SLOTS; s++)
+        steps[s] = FAR;
+    queue[0] = start;
+    steps[start] = 0;
+    for (int next = 0; next < count; next++)
+        for (size_t k = 0; k < arcs->count; k++) {
+            struct arc a = along(way, arcs->at[k]);
+            if (a.from == queue[next] && steps[a.to] == FAR) {
+                steps[a.to] = steps[a.from] + 1;
+                queue[count++] = a.to;
+            }
+        }
+}
+
+/* The slots of chains with so many steps whose end is in the goal: from such ends back, a step less each time. */
+static struct slots mark_chains(const struct arcs *arcs, int way, const int *steps, int most, const struct slots *goal)
+{
+    struct slots on;
+    for (int s = 0; s < SLOTS; s++)
+        on.has[s] = goal->has[s] && steps[s] == most;
+    for (int left = most - 1; left >= 0; left--)
+        for (size_t k = 0; k < arcs->count; k++) {
+            struct arc a = along(way, arcs->at[k]);
+            if (steps[a.from] == left && steps[a.to] == left + 1 && on.has[a.to])
+                on.has[a.from] = true;
+        }
+    return on;
+}
+
+/* From slot to slot on these chains, each time to the lowest. */
+static void follow(const struct arcs *arcs, int way, const int *steps, const struct slots *on, int start, int most, uint8_t *chain)
+{
+    int slot = start;
+    chain[0] = (uint8_t)start;
+    for (int n = 1; n <= most; n++) {
+        int lowest = SLOTS;
+        for (size_t k = 0; k < arcs->count; k++) {
+            struct arc a = along(way, arcs->at[k]);
+            if (a.from == slot && steps[a.to] == n && on->has[a.to] && a.to < lowest)
+                lowest = a.to;
+        }
+        chain[n] = (uint8_t)lowest;
+        slot = lowest;
+    }
+}
+
+/* Item 17. */
+static bool start_fault(const struct model *model, uint32_t way, uint32_t start)
+{
+    return way >= EVERYWHERE || start >= SLOTS || !model->present[start];
+}
+
+/* ---- the chain once more, by trying all of them */
+
+struct trying {
+    const struct arcs *arcs;
+    int way;
+    const struct slots *goal;
+    struct slots met;         /* every slot at which some chain was */
+    uint8_t at[SLOTS];        /* the chain at hand */
+    struct tried *best;
+    int arcs_left;            /* how many arcs may still be looked at */
+};
+
+/* Keeps the chain at hand, of so many steps, if it is the first one or has the lower slot where it first differs. */
+static void keep_lower(struct trying *t, int steps)
+{
+    if (t->best->ties++ == 0 || memcmp(t->at, t->best->chain, (size_t)steps + 1) < 0)
+        memcpy(t->best->chain, t->at, (size_t)steps + 1);
+}
+
+/* All chains that go on from the slot for this many steps more; from the last arc to the first, so that the lowest chain does not come first. */
+static void try_on(struct trying *t, int slot, int done, int more)
+{
+    t->at[done] = (uint8_t)slot;
+    t->met.has[slot] = true;
+    if (more == 0 && t->goal->has[slot])
+        keep_lower(t, done);
+    for (size_t k = t->arcs->count; more > 0 && k > 0 && t->arcs_left > 0; k--, t->arcs_left--) {
+        struct arc a = along(t->way, t->arcs->at[k - 1]);
+        if (a.from == slot)
+            try_on(t, a.to, done + 1, more - 1);
+    }
 }
 
 /* ---- the sheet */
@@ -971,6 +1086,64 @@ struct desk_classed oracle_classes(const uint8_t *site, size_t site_len, uint8_t
         return (struct desk_classed){1, 0, 0};
     judge(r, (struct piece){site, site_len}, none, none);
     return (struct desk_classed){r->reason, r->where, r->reason ? 0 : number_classes(&r->before, classes)};
+}
+
+/* The goal is listed to the end, whatever rounds that takes: neither 15 nor 16 is met. */
+struct desk_chained oracle_chain(const uint8_t *site, size_t site_len, const uint8_t *cond, size_t cond_len, uint32_t way, uint32_t start,
+                                 uint8_t *chain, size_t chain_len, uint8_t *set, size_t set_len, uint8_t *work, size_t work_len)
+{
+    struct read *r = &answer;
+    struct slots reached;
+    int steps[SLOTS], fewest = FAR;
+    memset(chain, 0, chain_len);
+    memset(set, 0, set_len);
+    memset(work, 0, work_len);
+    if (chain_len != DESK_CHAIN_BYTES || set_len != DESK_SET_BYTES || work_len != DESK_WORK_BYTES)
+        return (struct desk_chained){1, 0, 0, 0};
+    judge(r, (struct piece){site, site_len}, (struct piece){cond, cond_len}, none);
+    if (r->reason || start_fault(&r->before, way, start))
+        return (struct desk_chained){r->reason ? r->reason : 17, r->where, 0, 0};
+    const struct arcs *arcs = &r->before.link[way % LINKS];
+    const struct slots goal = list_goal(&r->before, r->table, r->count);
+    measure(arcs, (int)way, (int)start, steps);
+    for (int s = 0; s < SLOTS; s++) {
+        reached.has[s] = steps[s] != FAR;
+        if (goal.has[s] && steps[s] < fewest)
+            fewest = steps[s];
+    }
+    if (fewest == FAR) {
+        set_write(&reached, set);
+        return (struct desk_chained){0, 0, 0, 0};
+    }
+    const struct slots on = mark_chains(arcs, (int)way, steps, fewest, &goal);
+    follow(arcs, (int)way, steps, &on, (int)start, fewest, chain);
+    return (struct desk_chained){0, 0, 1, (uint32_t)fewest};
+}
+
+/* A chain of fewest steps has no slot twice, so that it has fewer steps than there are present slots. */
+bool oracle_try_chains(const uint8_t *site, const uint8_t *cond, size_t cond_len, uint32_t way, uint32_t start, struct tried *tried)
+{
+    enum { ARCS_MOST = 20000 };
+    struct read *r = &answer;
+    int present = 0;
+    memset(tried, 0, sizeof *tried);
+    judge(r, (struct piece){site, DESK_SITE_BYTES}, (struct piece){cond, cond_len}, none);
+    if (r->reason || start_fault(&r->before, way, start))
+        return false;
+    const struct slots goal = list_goal(&r->before, r->table, r->count);
+    struct trying t = {&r->before.link[way % LINKS], (int)way, &goal, all_slots(false), {0}, tried, ARCS_MOST};
+    for (int s = 0; s < SLOTS; s++)
+        present += r->before.present[s];
+    for (int steps = 0; steps < present && tried->ties == 0; steps++) {
+        try_on(&t, (int)start, 0, steps);
+        tried->steps = (uint32_t)steps;
+    }
+    tried->found = tried->ties > 0;
+    if (!tried->found) {
+        tried->steps = 0;
+        set_write(&t.met, tried->set);
+    }
+    return t.arcs_left > 0;
 }
 
 static uint64_t distance(const uint8_t *at)

@@ -1,4 +1,4 @@
-/* Another implementation of the desk's six functions, written from the specification alone, for the tests to compare with. */
+/* Another implementation of the desk's seven functions, written from the specification alone, for the tests to compare with. */
 #ifndef ORACLE_H
 #define ORACLE_H
 
@@ -17,7 +17,7 @@ enum {
     LINKS = GENERAL + FUNCTIONAL,
     EVERYWHERE = 2 * LINKS, /* the way behind the links and their reverses */
     WAYS = EVERYWHERE + 1,
-    REASONS = DESK_LIMIT + 1,
+    REASONS = DESK_START + 1,
     SHEET_BYTES = DESK_EDITS_MAX * DESK_EDIT_BYTES
 };
 
@@ -99,6 +99,8 @@ struct desk_rewritten oracle_rewrite(const uint8_t *cond, size_t cond_len, const
                                      uint8_t *result, size_t result_len);
 struct desk_rewritten oracle_through(const uint8_t *sheet, size_t sheet_len, uint8_t *result, size_t result_len);
 struct desk_classed oracle_classes(const uint8_t *site, size_t site_len, uint8_t *classes, size_t classes_len);
+struct desk_chained oracle_chain(const uint8_t *site, size_t site_len, const uint8_t *cond, size_t cond_len, uint32_t way, uint32_t start,
+                                 uint8_t *chain, size_t chain_len, uint8_t *set, size_t set_len, uint8_t *work, size_t work_len);
 struct desk_done oracle_job(const uint8_t *file, size_t file_len, uint32_t limit, uint8_t *site, size_t site_len,
                             uint8_t *table, size_t table_len, uint8_t *after, size_t after_len, uint8_t *today, size_t today_len,
                             uint8_t *classes, size_t classes_len, uint8_t *work, size_t work_len);
@@ -106,6 +108,15 @@ struct desk_done oracle_job(const uint8_t *file, size_t file_len, uint32_t limit
 /* The set and the rounds once more for an accepted site and condition: the tree is walked path by path, and nothing is shared or kept. False,
  * and nothing is said, where the tree has too many nodes for that. */
 bool oracle_walk(const uint8_t *site, const uint8_t *cond, size_t cond_len, uint8_t *set, uint32_t *rounds);
+
+/* The chain or the set once more for accepted inputs: every chain from the start is tried, length by length, up to the first length at which one ends
+ * in the goal. `ties` is how many of that length do. False, and nothing is said, where there are too many to try. */
+struct tried {
+    uint32_t found, steps, ties;
+    uint8_t chain[DESK_CHAIN_BYTES], set[DESK_SET_BYTES];
+};
+
+bool oracle_try_chains(const uint8_t *site, const uint8_t *cond, size_t cond_len, uint32_t way, uint32_t start, struct tried *tried);
 
 /* The rounds of the condition on the site after, and of the rewritten table on the site, of a job that items 2 to 14 accept; each at most one
  * more than the highest limit. False for any other job. */

@@ -535,3 +535,86 @@ void build_job(uint64_t seed, int job)
     if (damaged && in_file)
         damage_file();
 }
+
+/* ---- sites with long chains: slots in layers, and a link from each layer to the next for the most part */
+
+enum { WIDEST = 4, DEEPEST = 60 };
+
+struct layers {
+    int width, depth;
+    int link;
+    bool back;                      /* the link goes against the layers */
+    int slots[DEEPEST * WIDEST];    /* layer by layer, as wide as each other */
+};
+
+static struct layers random_layers(void)
+{
+    struct layers l = {.width = between(1, WIDEST), .depth = one_in(2) ? between(2, DEEPEST) : between(2, 10), .link = below(LINKS)};
+    int all[SLOTS];
+    const bool mixed = !one_in(3);
+    l.back = one_in(2);
+    for (int s = 1; s < SLOTS; s++)
+        all[s - 1] = s;
+    for (int k = 0; k < l.width * l.depth; k++) {
+        int other = mixed ? between(k, SLOTS - 2) : k;
+        l.slots[k] = all[other];
+        all[other] = all[k];
+    }
+    return l;
+}
+
+static void put_step(const struct layers *l, int from, int to)
+{
+    const int a = l->slots[l->back ? to : from], b = l->slots[l->back ? from : to];
+    if (l->link < GENERAL)
+        put_slot(site.at + row_at(l->link, a), b);
+    else
+        site.at[target_at(l->link, a)] = (uint8_t)b;
+}
+
+/* Strays first: of a functional link's targets the last one stays. */
+static void put_steps(const struct layers *l)
+{
+    const int count = l->width * l->depth, most = between(1, l->width), gaps = one_in(3) ? 8 : 400;
+    for (int k = below(4); k > 0; k--)
+        put_step(l, below(count), below(count));
+    for (int k = 0; k < count - l->width; k++)
+        for (int n = one_in(gaps) ? 0 : between(1, most); n > 0; n--)
+            put_step(l, k, (k / l->width + 1) * l->width + below(l->width));
+    if (l->link < GENERAL)
+        for (int k = below(4); k > 0; k--)
+            put_step(l, below(count), one_in(2) ? below(count) : below(l->width));
+}
+
+/* Label 0 is on some slots of the last layers. The goal is the label, its places by a loop, or one of them that a name has. */
+static void build_goal(const struct layers *l)
+{
+    const int count = l->width * l->depth, last = l->slots[count - 1 - below(l->width)];
+    put_slot(site.at + label_at(0), last);
+    for (int k = below(4); k > 0; k--)
+        put_slot(site.at + label_at(0), l->slots[between(count / 2, count - 1)]);
+    site.at[NAMES_AT + 1] = (uint8_t)last;
+    cond.length = 0;
+    add_node(one_in(3) ? NAME : LABEL, 0, 0, 0);
+    if (cond.at[0] == NAME)
+        cond.at[1] = 1;
+    if (one_in(4)) {
+        add_node(VARIABLE, 15, 0, 0);
+        add_node(one_in(2) ? DIAMOND : BOX, one_in(2) ? l->link : below(EVERYWHERE), 1, 0);
+        add_node(one_in(2) ? AND : OR, 0, 0, 2);
+        add_node(one_in(2) ? MU : NU, 15, 3, 0);
+    }
+}
+
+struct route build_route(void)
+{
+    const struct layers l = random_layers();
+    site.length = DESK_SITE_BYTES;
+    memset(site.at, 0, site.length);
+    put_slot(site.at, 0);
+    for (int k = 0; k < l.width * l.depth; k++)
+        put_slot(site.at, l.slots[k]);
+    put_steps(&l);
+    build_goal(&l);
+    return (struct route){l.back ? l.link + LINKS : l.link, l.slots[below(l.width)]};
+}

@@ -27,4 +27,11 @@ void build_file(void);
 /* Makes the pieces and the file of a job. Odd jobs are damaged. */
 void build_job(uint64_t seed, int job);
 
+/* Makes a site with long chains and many of them, and a goal at the end of some; gives the way that they go and a slot where they begin. */
+struct route {
+    int way, start;
+};
+
+struct route build_route(void);
+
 #endif

@@ -1,4 +1,4 @@
-// Sets of 256 slots in 32 bytes: one slot tested, inserted or removed; a set cleared or counted. `member`, `insert` and `remove` take longer
+// Sets of 256 slots in 32 bytes: one slot tested, inserted, removed or alone; a set cleared or counted; its lowest slot. `member`, `insert` and `remove` take longer
 // bytes too, and the slot by its bit's address.
 ghost use mathlib.Core.Path.{_≡_};
 ghost use mathlib.Core.Bool.{false};
@@ -38,6 +38,16 @@ pub fn remove(set: &mut [u8], s: usize)
     set[s / 8] = set[s / 8] & !(1 << (s % 8));
 }
 
+// The set of slot s alone.
+pub fn single(s: usize) -> [u8; SET_BYTES]
+    requires { ⌜ s < setSlots ⌝ }
+    ensures { λ r. ⌜ Is r (λ t. tests.same t s) ⌝ }
+{
+    let mut set = [0u8; SET_BYTES];
+    insert(&mut set, s);
+    set
+}
+
 // Takes every slot out.
 pub fn clear(set: &mut [u8])
     requires { ⌜ length (now set) ≡ setBytes ⌝ }
@@ -58,4 +68,18 @@ pub fn count(set: &[u8]) -> u32
         n += u64::count_ones(words::get(set, WORD_BYTES * j));
     }
     n
+}
+
+// The lowest slot of the set, and 256 where it has none.
+pub fn lowest(set: &[u8]) -> usize
+    requires { ⌜ length (now set) ≡ setBytes ⌝ }
+    ensures { λ r. ⌜ r ≡ tests.first setSlots (has (now (set .entry))) ⌝ }
+{
+    for j in 0..SET_WORDS {
+        let w = words::get(set, WORD_BYTES * j);
+        if w != 0 {
+            return 64 * j + u64::trailing_zeros(w) as usize;
+        }
+    }
+    SET_SLOTS
 }

@@ -4,3 +4,4 @@ pub mod Shows
 pub mod Pass
 pub mod Check
 pub mod Answer
+pub mod Judged

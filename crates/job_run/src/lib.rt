@@ -14,7 +14,7 @@ ghost use Rattle.condition.specs.Refusal.{conditionVerdict};
 ghost use Rattle.sheet.specs.Refusal.{sheetVerdict};
 ghost use Rattle.limits.specs.Limits.{tableBytes, highestLimit};
 ghost use Rattle.even_rule.specs.Free.{noMasks};
-ghost use Rattle.job_steps.specs.Steps.{PiecesJudged};
+ghost use Rattle.even_rule.specs.Judged.{Judged};
 ghost use Rattle.job_run.specs.Buffers.{buffersOf, Sized};
 ghost use Rattle.job_run.specs.Steps.{Sets, Zeros, Prepared, Listable, BothTried, Tried, Ran};
 
@@ -57,7 +57,7 @@ fn refuse(
 // The verdict `first`, then items 3 to 12. The free variables of an accepted condition's nodes are written to `free`.
 fn judge(first: Verdict, site: &[u8], cond: &[u8], sheet: &[u8], free: &mut [u16]) -> Verdict
     requires { ⌜ now free ≡ noMasks ⌝ }
-    ensures { λ r. ⌜ PiecesJudged (first then siteVerdict (now (site .entry)) then conditionVerdict (now (cond .entry)) then sheetVerdict (now (sheet .entry))) (now (cond .entry)) (now (free .exit)) r ⌝ }
+    ensures { λ r. ⌜ Judged (first then siteVerdict (now (site .entry)) then conditionVerdict (now (cond .entry)) then sheetVerdict (now (sheet .entry))) (now (cond .entry)) (now (free .exit)) r ⌝ }
 {
     match first {
         Verdict::Accepted => job_steps::judge(site, cond, sheet, free),

@@ -8,7 +8,6 @@ use Rattle.verdict.specs.declared.Verdict.the-variants.{Accepted}
 use Rattle.semantics.specs.Block.{rewriteTable}
 use Rattle.site.specs.Site.{siteOf}
 use Rattle.condition.specs.Bytes.{tableOf}
-use Rattle.even_rule.specs.Free.{FreeRows}
 use Rattle.sheet.specs.Bytes.{editsOf}
 use Rattle.applying.specs.Refusal.{goesVerdict}
 use Rattle.rewriting.specs.declared.Rewriting.{Rewriting}
@@ -17,11 +16,6 @@ use Rattle.rewriting.specs.Refusal.{lengthVerdict}
 use Rattle.rewriting.specs.Answer.{verdictOf}
 use Rattle.rewriting.specs.Rewriting.{TableAfter, rewritten}
 use Rattle.apply_entry.specs.Applying.{SiteAfter}
-
--- inputs that have the verdict `due` are judged with v; an accepted condition's free variables are handed on in these masks
-pub record PiecesJudged (due : Verdict) (cond masks : List ℕ) (v : Verdict) : Type 0 where
-  pub verdict : v ≡ due
-  pub rows : v ≡ Accepted → FreeRows cond masks
 
 -- items 13 and 14, in this order
 unfoldable pub changeVerdict : (site cond sheet : List ℕ) → Verdict

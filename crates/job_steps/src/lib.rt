@@ -16,16 +16,17 @@ ghost use Rattle.site.specs.Refusal.{siteVerdict};
 ghost use Rattle.condition.specs.Bytes.{tableOf};
 ghost use Rattle.condition.specs.Refusal.{conditionVerdict};
 ghost use Rattle.even_rule.specs.Free.{noMasks};
+ghost use Rattle.even_rule.specs.Judged.{Judged};
 ghost use Rattle.sheet.specs.Refusal.{sheetVerdict};
 ghost use Rattle.limits.specs.Limits.{tableBytes, highestLimit};
 ghost use Rattle.listing.specs.Listed.{workBytes};
 ghost use Rattle.listing.specs.Limited.{Limited};
-ghost use Rattle.job_steps.specs.Steps.{PiecesJudged, Changed};
+ghost use Rattle.job_steps.specs.Steps.{Changed};
 
 // Items 7 to 10 of the condition, then 11 and 12 of the sheet.
 fn judge_condition(cond: &[u8], sheet: &[u8], free: &mut [u16]) -> Verdict
     requires { ⌜ now free ≡ noMasks ⌝ }
-    ensures { λ r. ⌜ PiecesJudged (conditionVerdict (now (cond .entry)) then sheetVerdict (now (sheet .entry))) (now (cond .entry)) (now (free .exit)) r ⌝ }
+    ensures { λ r. ⌜ Judged (conditionVerdict (now (cond .entry)) then sheetVerdict (now (sheet .entry))) (now (cond .entry)) (now (free .exit)) r ⌝ }
 {
     let v = even_rule::check(cond, free);
     match v {
@@ -37,7 +38,7 @@ fn judge_condition(cond: &[u8], sheet: &[u8], free: &mut [u16]) -> Verdict
 // Items 3 to 12 of the three pieces. The free variables of an accepted condition's nodes are written to `free`.
 pub fn judge(site: &[u8], cond: &[u8], sheet: &[u8], free: &mut [u16]) -> Verdict
     requires { ⌜ now free ≡ noMasks ⌝ }
-    ensures { λ r. ⌜ PiecesJudged (siteVerdict (now (site .entry)) then conditionVerdict (now (cond .entry)) then sheetVerdict (now (sheet .entry))) (now (cond .entry)) (now (free .exit)) r ⌝ }
+    ensures { λ r. ⌜ Judged (siteVerdict (now (site .entry)) then conditionVerdict (now (cond .entry)) then sheetVerdict (now (sheet .entry))) (now (cond .entry)) (now (free .exit)) r ⌝ }
 {
     let v = site::check(site);
     match v {

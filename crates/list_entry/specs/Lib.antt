@@ -6,7 +6,7 @@ pub mod Answer
 pub mod Listing
 -- what its inner function promises
 pub mod Answered
--- what an inner function tests
+-- how its inputs are judged
 pub mod Inputs
 -- what is proved of them
 pub mod Laws

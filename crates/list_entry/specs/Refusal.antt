@@ -9,14 +9,17 @@ use Rattle.condition.specs.Refusal.{conditionVerdict}
 use Rattle.listing.specs.Listed.{workBytes}
 use Rattle.refusals.specs.Refusal.{bufferVerdict, limitVerdict, roundsVerdict}
 
--- listing, all items but 15: 1 of its two buffers, then 16, then 3 to 6, then 7 to 10
+-- a site and a condition: 3 to 6, then 7 to 10
+abbrev pub pairVerdict : (site table : List ℕ) → Verdict
+pairVerdict site table = siteVerdict site then conditionVerdict table
+
+-- listing, all items but 15: 1 of its two buffers, then 16, then 3 to 10
 unfoldable pub listInputs : (setLen workLen limit : ℕ) (site table : List ℕ) → Verdict
 listInputs setLen workLen limit site table =
     bufferVerdict setLen setBytes
     then bufferVerdict workLen workBytes
     then limitVerdict limit
-    then siteVerdict site
-    then conditionVerdict table
+    then pairVerdict site table
 
 -- listing, where it makes n rounds: 15 comes last
 unfoldable pub listVerdict : (setLen workLen limit : ℕ) (site table : List ℕ) (n : ℕ) → Verdict

@@ -13,10 +13,12 @@ ghost use Rattle.verdict.specs.declared.Verdict.the-variants.{Accepted};
 ghost use Rattle.site.specs.Layout.{siteBytes};
 ghost use Rattle.condition.specs.Refusal.{conditionVerdict};
 ghost use Rattle.even_rule.specs.Free.{FreeRows, noMasks};
+ghost use Rattle.even_rule.specs.Judged.{Judged};
 ghost use Rattle.listing.specs.Listed.{workBytes};
+ghost use Rattle.list_entry.specs.Refusal.{pairVerdict};
+ghost use Rattle.list_entry.specs.Inputs.{InputsJudged};
 ghost use Rattle.list_entry.specs.Answer.{verdictOf, foundIn};
 ghost use Rattle.list_entry.specs.Answered.{ListTried, ListAnswered};
-ghost use Rattle.list_entry.specs.Inputs.{InputsJudged};
 
 // The answer of listing: how many slots the condition lists and how many rounds were made, or the item that is met and its W.
 pub enum Listing {
@@ -24,8 +26,21 @@ pub enum Listing {
     Refused(u8, u16),
 }
 
+// The first of items 3 to 6 and 7 to 10 that a site and a condition meet. The free variables of an accepted condition's nodes are written to
+// `free`.
+pub fn judge_pair(site: &[u8], cond: &[u8], free: &mut [u16]) -> Verdict
+    requires { ⌜ now free ≡ noMasks ⌝ }
+    ensures { λ r. ⌜ Judged (pairVerdict (now (site .entry)) (now (cond .entry))) (now (cond .entry)) (now (free .exit)) r ⌝ }
+{
+    let v = site::check(site);
+    match v {
+        Verdict::Accepted => even_rule::check(cond, free),
+        Verdict::Refused(item, fault) => Verdict::Refused(item, fault),
+    }
+}
+
 // The first of items 1, 16, 3 to 6 and 7 to 10 that the inputs meet, from the lengths of the set and of the work buffer, the limit, the site
-// and the condition. The free variables of an accepted condition's nodes are written to `free`.
+// and the condition.
 fn judge(set: usize, work: usize, limit: u32, site: &[u8], cond: &[u8], free: &mut [u16]) -> Verdict
     requires { ⌜ now free ≡ noMasks ⌝ }
     ensures { λ r. ⌜ InputsJudged set work limit (now (site .entry)) (now (cond .entry)) (now (free .exit)) r ⌝ }
@@ -39,11 +54,7 @@ fn judge(set: usize, work: usize, limit: u32, site: &[u8], cond: &[u8], free: &m
     if limit > HIGHEST_LIMIT {
         return Verdict::Refused(16, 0);
     }
-    let v = site::check(site);
-    match v {
-        Verdict::Accepted => even_rule::check(cond, free),
-        Verdict::Refused(item, fault) => Verdict::Refused(item, fault),
-    }
+    judge_pair(site, cond, free)
 }
 
 // The answer where an item is met: every result and work buffer becomes zeros.

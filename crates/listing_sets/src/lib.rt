@@ -16,8 +16,7 @@ ghost use mathlib.Core.Logic.{_⊎_};
 ghost use mathlib.Core.Bool.{true, not, _&&_, _||_};
 ghost use Prim.Native.Nat.{_+_, _*_, _≤_, _<_};
 ghost use lib.ListN.{length};
-ghost use Rattle.finite.specs.Tests.{same};
-ghost use Rattle.bitset.specs.Set.{setBytes, setSlots, has, Is};
+ghost use Rattle.bitset.specs.Set.{setBytes, has, Is};
 ghost use Rattle.limits.specs.Limits.{notNo, orNo, andNo, diaNo, boxNo, nuNo};
 ghost use Rattle.semantics.specs.Holds.{Model};
 ghost use Rattle.semantics.specs.Table.{treeAt, nodesFit};
@@ -93,16 +92,6 @@ fn meet(buf: &mut [u8], j: usize, set: [u8; SET_BYTES])
     set_algebra::meet_with(&mut buf[a..e], &set);
 }
 
-// The set of slot s alone.
-fn single(s: usize) -> [u8; SET_BYTES]
-    requires { ⌜ s < setSlots ⌝ }
-    ensures { λ r. ⌜ Is r (λ t. same t s) ⌝ }
-{
-    let mut set = [0u8; SET_BYTES];
-    bitset::insert(&mut set, s);
-    set
-}
-
 // Set j of the buffer loses the slots of set k.
 pub fn subtract(buf: &mut [u8], j: usize, k: usize)
     requires { ⌜ (setBytes * j + setBytes ≤ length (now buf)) × (setBytes * k + setBytes ≤ length (now buf)) ⌝ }
@@ -148,9 +137,9 @@ fn leaf_set(site: &[u8], table: &[u8], sets: &[u8], i: usize) -> [u8; SET_BYTES]
         TRUE => all_slots(),
         HERE => load(site, 0),
         LABEL => load(site, 1 + condition::number(table, i)),
-        NAME => single(site::place(site, condition::number(table, i))),
+        NAME => bitset::single(site::place(site, condition::number(table, i))),
         VAR => load(sets, condition::number(table, i)),
-        _ => single(wide(condition::param(table, i))),
+        _ => bitset::single(wide(condition::param(table, i))),
     }
 }
 

@@ -15,6 +15,8 @@ pub mod Edits
 pub mod Steps
 pub mod Image
 pub mod Rewrite
+-- a block behind a table
+pub mod Append
 -- classes
 pub mod Refine
 pub mod Invariance

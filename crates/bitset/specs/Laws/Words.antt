@@ -1,6 +1,7 @@
 -- Sets a word at a time: eight bytes are written, compared or counted at once.
 use mathlib.Core.Path.{_≡_, refl, sym, _∙_, ap, ap₂, subst}
-use mathlib.Core.Bool.{Bool, not, _&&_, _||_}
+use mathlib.Core.Logic.{_≢_}
+use mathlib.Core.Bool.{Bool, true, false, not, _&&_, _||_}
 use mathlib.Core.List.{List, [], _∷_}
 use Prim.Native.Nat.{ℕ, zero, suc, _+_, _-_, _*_, _^_, _≤_, _<_}
 use native.Mathlib.Nat.{add-zero, add-suc, suc-add, le-of-suc-le-suc}
@@ -9,19 +10,22 @@ use native.Mathlib.Omega.{arith}
 use lib.ListN.{length, getD, set, take, drop, length-drop}
 use lib.Seq.{drop-cons, getD-take, getD-drop, getD-set-other, length-take-le}
 use lib.Bits.{bitAnd, bitOr}
-use lib.Count.{ones, ones-cat, ones-le}
-use Rattle.finite.specs.Tests.{bit, count}
+use lib.Count.{ones, ones-cat, ones-le, trailingZeros}
+use Rattle.finite.specs.Tests.{bit, any, first, count}
 use Rattle.finite.specs.Tests as tests
 use Rattle.finite.specs.Bytes.{Bytes}
 use Rattle.finite.specs.Laws.Bits.{bit-or, bit-and, bit-not}
+use Rattle.finite.specs.Laws.Weights.{bit-zero}
 use Rattle.finite.specs.Laws.Bools.{either, look}
-use Rattle.finite.specs.Laws.Below.{below-out, not-below}
+use Rattle.finite.specs.Laws.Below.{same-refl, below-out, not-below, any-none, none-any}
+use Rattle.finite.specs.Laws.First.{first-is}
 use Rattle.finite.specs.Laws.Count.{count-le}
 use Rattle.words.specs.Word.{word, bytes, putAt, pairwise}
 use Rattle.words.specs.Laws.Bytes.{drop-bytes, word-lt, bytes-of-word}
 use Rattle.words.specs.Laws.Eight.{eight}
 use Rattle.words.specs.Laws.Bits.{word-bits}
-use Rattle.bitset.specs.Set.{setBytes, has}
+use Rattle.words.specs.Laws.Lowest.{lowest, none-lower}
+use Rattle.bitset.specs.Set.{setBytes, setSlots, has}
 use Rattle.bitset.specs.Laws.Count.{count-byte}
 use Rattle.bitset.specs.Laws.Update.{Updated, update-more}
 
@@ -144,3 +148,39 @@ module _ (S : List ℕ) (i n : ℕ) {w : ℕ} (b : Bytes S) (fits : i + 8 ≤ le
   -- the sum of the code fits
   pub count-fits : i < setBytes → n + ones w < 2 ^ 32
   count-fits h = rw here (omega (arith, count-le (i * 8) (has S), ones-le 64 (word 8 (drop i S)) (word-lt 8 (drop i S) (drop-bytes i S b))))
+
+-- the search for the lowest slot, a word at a time: no slot is in the words before
+module _ (S : List ℕ) (i : ℕ) {w : ℕ} (b : Bytes S) (here : w ≡ word 8 (drop i S)) (so-far : any (i * 8) (has S) ≡ false) where
+  none-bits : (n : ℕ) → n ≤ 64 → ((k : ℕ) → k < n → bit w k ≡ false) → any (i * 8 + n) (has S) ≡ false
+  none-bits n h clear =
+      none-any (i * 8 + n) (has S) (λ s l. either
+      (look (tests.below s (i * 8)))
+      (λ q. any-none (i * 8) (has S) so-far s (below-out s (i * 8) q))
+      (λ q.
+      let m = not-below s (i * 8) q in
+      let at : i * 8 + (s - i * 8) ≡ s = omega arith in
+      let k : s - i * 8 < n = omega arith in
+      subst (λ (t : ℕ). has S t ≡ false) at
+      (has-word S i (s - i * 8) b (omega arith) ∙ ap (λ (v : ℕ). bit v (s - i * 8)) (sym here) ∙ clear (s - i * 8) k)))
+
+  -- nor is one in this word
+  pub none-word : w ≡ 0 → (j : ℕ) → j ≡ i + 8 → any (j * 8) (has S) ≡ false
+  none-word z j e =
+      subst (λ (n : ℕ). any n (has S) ≡ false) (omega arith) (none-bits 64 (omega arith) (λ k _. ap (λ (v : ℕ). bit v k) z ∙ bit-zero k))
+
+  -- one is in this word
+  module _ (some : w ≢ 0) where
+    low : (trailingZeros 64 w < 64) × (bit w (trailingZeros 64 w) ≡ true)
+    low =
+        let p = lowest 64 w (rw here (word-lt 8 (drop i S) (drop-bytes i S b))) some in
+        (p .0, p .1 (trailingZeros 64 w) ∙ rw (same-refl (trailingZeros 64 w)))
+
+    pub lowest-fits : trailingZeros 64 w < 64
+    lowest-fits = low .0
+
+    pub lowest-word : i + 8 ≤ setBytes → (r : ℕ) → r ≡ i * 8 + trailingZeros 64 w → r ≡ first setSlots (has S)
+    lowest-word f r e =
+        let t = trailingZeros 64 w in
+        e ∙ sym (first-is setSlots (has S) (i * 8 + t) (omega (arith, low .0))
+        (none-bits t (omega (arith, low .0)) (λ k l. none-lower 64 w k l))
+        (has-word S i t b (low .0) ∙ ap (λ (v : ℕ). bit v t) (sym here) ∙ low .1))

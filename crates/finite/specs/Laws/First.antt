@@ -6,7 +6,14 @@ use native.Mathlib.Numerals.{add-one}
 use native.Mathlib.Omega.{arith}
 use Rattle.finite.specs.Tests.{any, first}
 use Rattle.finite.specs.Laws.Bools.{either, look, clash, no-true, or-out}
-use Rattle.finite.specs.Laws.Below.{equal?, any-in, any-none, none-any}
+use Rattle.finite.specs.Laws.Below.{equal?, any-in, any-none, none-any, any-cong}
+
+-- a test is read below the bound alone
+pub first-cong : (n : ℕ) (f g : ℕ → Bool) → ((t : ℕ) → t < n → f t ≡ g t) → first n f ≡ first n g
+unfolding first
+first-cong zero f g h = refl
+first-cong (suc n) f g h =
+    rw (any-cong n f g (λ t l. h t (omega arith)), first-cong n f g (λ t l. h t (omega arith)), h n (omega arith))
 
 -- a number that passes, with none below it that does, is the lowest
 pub first-is : (n : ℕ) (f : ℕ → Bool) (i : ℕ) → i < n → any i f ≡ false → f i ≡ true → first n f ≡ i

@@ -33,7 +33,8 @@ use Rattle.list_entry.specs.Laws.Listing.{made-over, made-within, makes-found}
 use Rattle.classes.specs.Classes.{Classes, different}
 use Rattle.apply_entry.specs.Applying.{SiteAfter}
 use Rattle.classes_entry.specs.Classing.{ClassesAfter}
-use Rattle.job_steps.specs.Steps.{PiecesJudged, Changed}
+use Rattle.even_rule.specs.Judged.{Judged}
+use Rattle.job_steps.specs.Steps.{Changed}
 use Rattle.job_run.specs.declared.Job.{Job}
 use Rattle.job_run.specs.declared.Job.the-variants as answer
 use Rattle.job_run.specs.Buffers.{Buffers, buffersOf, Sized}
@@ -46,7 +47,7 @@ use Rattle.job_run.specs.Laws.Refusal.{pieces-then, pieces-out}
 -- ---- the pieces are judged, applied and rewritten
 
 pub judged-out : (first : Verdict) (site cond sheet : List ℕ) {free′ : List ℕ} {v : Verdict}
-    → PiecesJudged (first then siteVerdict site then conditionVerdict cond then sheetVerdict sheet) cond free′ v → v ≡ Accepted
+    → Judged (first then siteVerdict site then conditionVerdict cond then sheetVerdict sheet) cond free′ v → v ≡ Accepted
     → (first ≡ Accepted) × ((siteVerdict site ≡ Accepted) × ((conditionVerdict cond ≡ Accepted) × (sheetVerdict sheet ≡ Accepted)))
 judged-out first site cond sheet j e =
     let p = then-out first _ (sym (j .verdict) ∙ e) in
@@ -55,7 +56,7 @@ judged-out first site cond sheet j e =
 
 -- the verdict, and what is written, where neither `first` nor items 3 to 12 refuse
 module _ (first : Verdict) {site cond sheet free′ : List ℕ} {v : Verdict}
-    (j : PiecesJudged (first then siteVerdict site then conditionVerdict cond then sheetVerdict sheet) cond free′ v) (e : v ≡ Accepted)
+    (j : Judged (first then siteVerdict site then conditionVerdict cond then sheetVerdict sheet) cond free′ v) (e : v ≡ Accepted)
     {changed changed′ table table′ : List ℕ} {r : Rewriting} (c : Changed site cond sheet changed changed′ table table′ r) where
   verdict : rewriting.verdictOf r ≡ first then piecesVerdict site cond sheet
   verdict = rw (pieces-then first site cond sheet, sym (j .verdict) ∙ e) (c .verdict)
@@ -82,7 +83,7 @@ module _ (first : Verdict) {site cond sheet free′ : List ℕ} {v : Verdict}
       }
 
 module _ {first : Verdict} {site cond sheet free′ : List ℕ} {v : Verdict}
-    (j : PiecesJudged (first then siteVerdict site then conditionVerdict cond then sheetVerdict sheet) cond free′ v)
+    (j : Judged (first then siteVerdict site then conditionVerdict cond then sheetVerdict sheet) cond free′ v)
     {changed changed′ table table′ : List ℕ} where
   pub prepared : v ≡ Accepted → length free′ ≡ tableNodes → {r : Rewriting} → Changed site cond sheet changed changed′ table table′ r
       → Prepared first site cond sheet free′ changed changed′ table table′ r

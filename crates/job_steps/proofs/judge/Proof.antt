@@ -1,5 +1,5 @@
 -- The items in order: the site, then the condition and the sheet.
-use Rattle.job_steps.specs.Laws.Steps.{judged-next, judged-refused}
+use Rattle.even_rule.specs.Laws.Judged.{judged-next, judged-refused}
 use mathlib.Core.Path.{sym, _∙_}
 use borrow.Author.Needs.{needs}
 use Rattle.job_steps.proofs.judge.Statement.{statement}

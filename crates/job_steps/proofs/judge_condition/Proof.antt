@@ -1,5 +1,5 @@
 -- The items in order: the condition, the sheet.
-use Rattle.job_steps.specs.Laws.Steps.{judged-next, judged-sheet, judged-refused}
+use Rattle.even_rule.specs.Laws.Judged.{checked-rows, judged-other, judged-refused}
 use mathlib.Core.Path.{sym, _∙_}
 use borrow.Author.Needs.{needs}
 use Rattle.job_steps.proofs.judge_condition.Statement.{statement}
@@ -21,7 +21,10 @@ same-length : tie.Need-same-length
 same-length c = search needs
 
 returns : tie.Need-returns
-returns c = let k = c .before .before .before .before .before .check .ensures in let e = c .before .enum-told .given .1 in judged-next (sym (k .verdict) ∙ e) (judged-sheet k e (c .check2 .ensures))
+returns c =
+    let k = c .before .before .before .before .before .check .ensures in
+    let e = c .before .enum-told .given .1 in
+    judged-other (checked-rows k e) (sym (k .verdict) ∙ e) (c .check2 .ensures)
 
 same-length-2 : tie.Need-same-length-2
 same-length-2 c = search needs

@@ -1,7 +1,7 @@
 -- The masks of an accepted table are those of its free variables.
 use mathlib.Core.Path.{_∙_}
 use native.Mathlib.Omega.{arith}
-use Rattle.job_steps.specs.Laws.Steps.{checked-rows}
+use Rattle.even_rule.specs.Laws.Judged.{checked-rows}
 use borrow.Author.Needs.{needs}
 use Rattle.job_steps.proofs.list.Statement.{statement}
 use Rattle.job_steps.proofs.list.Tie as tie

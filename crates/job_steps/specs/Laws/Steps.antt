@@ -4,14 +4,11 @@ use mathlib.Core.List.{List}
 use Prim.Native.Nat.{ℕ}
 use native.Mathlib.Omega.{arith}
 use Rattle.finite.specs.Bytes.{Bytes}
-use Rattle.verdict.specs.Verdict.{_then_}
-use Rattle.verdict.specs.Laws.{refused}
 use Rattle.verdict.specs.declared.Verdict.{Verdict}
 use Rattle.verdict.specs.declared.Verdict.the-variants.{Accepted, Refused}
 use Rattle.semantics.specs.Block.{rewriteTable}
 use Rattle.condition.specs.Bytes.{tableOf}
 use Rattle.sheet.specs.Bytes.{editsOf}
-use Rattle.even_rule.specs.Free.{FreeRows, FreeAfter, Checked}
 use Rattle.applying.specs.Applies.{Applies}
 use Rattle.rewriting.specs.declared.Rewriting.{Rewriting}
 use Rattle.rewriting.specs.declared.Rewriting.the-variants as answer
@@ -19,26 +16,7 @@ use Rattle.rewriting.specs.Answer.{verdictOf, nodesOf}
 use Rattle.rewriting.specs.State.{Rewrote}
 use Rattle.apply_entry.specs.Applying.{SiteAfter}
 use Rattle.apply_entry.specs.Laws.Applying.{site-written}
-use Rattle.job_steps.specs.Steps.{PiecesJudged, changeVerdict, Changed}
-
--- ---- the pieces are judged
-
--- the masks of an accepted condition
-pub checked-rows : {cond masks : List ℕ} {v : Verdict} → Checked cond masks v → v ≡ Accepted → FreeRows cond masks
-unfolding FreeAfter
-checked-rows k e = rw e at (k .masks)
-
-module _ {cond masks : List ℕ} where
-  -- the first of two checks refuses
-  pub judged-refused : {u : Verdict} (w : Verdict) {item fault : ℕ} → u ≡ Refused item fault → PiecesJudged (u then w) cond masks (Refused item fault)
-  judged-refused w e = record { verdict = rw e; rows = λ f. refused f }
-
-  -- the first of two checks accepts, and the second judges
-  pub judged-next : {u w v : Verdict} → u ≡ Accepted → PiecesJudged w cond masks v → PiecesJudged (u then w) cond masks v
-  judged-next e j = record { verdict = rw e (j .verdict); rows = j .rows }
-
-  pub judged-sheet : {u w v : Verdict} → Checked cond masks u → u ≡ Accepted → v ≡ w → PiecesJudged w cond masks v
-  judged-sheet k e f = record { verdict = f; rows = λ _. checked-rows k e }
+use Rattle.job_steps.specs.Steps.{changeVerdict, Changed}
 
 -- ---- the sheet is applied, then the condition is rewritten
 

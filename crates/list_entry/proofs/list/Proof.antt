@@ -1,6 +1,6 @@
 -- `list_entry::list` meets its contract: it is judged, then it lists or refuses.
 use native.Mathlib.Omega.{arith}
-use Rattle.list_entry.specs.Laws.Listing.{accepts, free-rows, answered-tried, answered-refused}
+use Rattle.list_entry.specs.Laws.Listing.{accepts, answered-tried, answered-refused}
 use Rattle.site.specs.Laws.Valid.{accepted-out}
 use borrow.Author.Needs.{needs}
 use Rattle.list_entry.proofs.list.Statement.{statement}
@@ -27,7 +27,7 @@ list-limited-requires c κs =
     let e = c .before .before .before .enum-told .given .1 in
     let k = accepts (j .ensures) e in (
       accepted-out _ (k .site-accepted) .0,
-      (k .table-accepted, ((omega arith, free-rows (j .ensures) e), (k .limit-fits, (k .set-size, k .work-size)))),
+      (k .table-accepted, ((omega arith, j .ensures .judged .rows e), (k .limit-fits, (k .set-size, k .work-size)))),
     )
 
 enum-known-v : tie.Need-enum-known-v

@@ -14,9 +14,9 @@ use Rattle.semantics.specs.Holds.{Env, Model}
 use Rattle.semantics.specs.Table.{formOf}
 use Rattle.rounds.specs.Makes.{Makes}
 use Rattle.site.specs.Site.{siteOf}
-use Rattle.site.specs.Refusal.{siteVerdict}
 use Rattle.condition.specs.Bytes.{tableOf}
-use Rattle.even_rule.specs.Free.{FreeRows, noMasks, FreeAfter, Checked}
+use Rattle.even_rule.specs.Judged.{Judged}
+use Rattle.even_rule.specs.Laws.Judged.{judged-refused, judged-next}
 use Rattle.limits.specs.Limits.{highestLimit}
 use Rattle.listing.specs.declared.Found.{Found}
 use Rattle.listing.specs.Listed.{workBytes}
@@ -24,7 +24,7 @@ use Rattle.listing.specs.Limited.{Limited}
 use Rattle.list_entry.specs.declared.Listing.{Listing}
 use Rattle.list_entry.specs.declared.Listing.the-variants as answer
 use Rattle.refusals.specs.Laws.Items.{buffer-in, buffer-not, limit-in, limit-not, rounds-in, rounds-not}
-use Rattle.list_entry.specs.Refusal.{listInputs, listVerdict}
+use Rattle.list_entry.specs.Refusal.{pairVerdict, listInputs, listVerdict}
 use Rattle.list_entry.specs.Answer.{verdictOf, foundIn}
 use Rattle.list_entry.specs.Listing.{SetAfter}
 use Rattle.list_entry.specs.Answered.{ListTried, ListAnswered}
@@ -34,37 +34,26 @@ use Rattle.list_entry.specs.Laws.Refusal.{Accepts, list-accepts}
 -- ---- the inputs are judged
 
 module _ {set work limit : ℕ} {site table masks : List ℕ} where
-  module _ (zeros : masks ≡ noMasks) where
-    pub judged-set : set ≢ setBytes → InputsJudged set work limit site table masks (Refused 1 0)
-    unfolding listInputs FreeAfter
-    judged-set h = record { verdict = rw (buffer-not h); masks-after = zeros }
-
-    pub judged-work : set ≡ setBytes → work ≢ workBytes → InputsJudged set work limit site table masks (Refused 1 0)
-    unfolding listInputs FreeAfter
-    judged-work e h = record { verdict = rw (buffer-in e, buffer-not h); masks-after = zeros }
-
-    pub judged-limit : set ≡ setBytes → work ≡ workBytes → highestLimit < limit → InputsJudged set work limit site table masks (Refused 16 0)
-    unfolding listInputs FreeAfter
-    judged-limit e f h = record { verdict = rw (buffer-in e, buffer-in f, limit-not h); masks-after = zeros }
-
-    pub judged-site : set ≡ setBytes → work ≡ workBytes → limit ≤ highestLimit → {item w : ℕ} → siteVerdict site ≡ Refused item w
-        → InputsJudged set work limit site table masks (Refused item w)
-    unfolding listInputs FreeAfter
-    judged-site e f h v = record { verdict = rw (buffer-in e, buffer-in f, limit-in h, v); masks-after = zeros }
-
-  pub judged-table : set ≡ setBytes → work ≡ workBytes → limit ≤ highestLimit → siteVerdict site ≡ Accepted → {r : Verdict} → Checked table masks r
-      → InputsJudged set work limit site table masks r
+  pub judged-set : set ≢ setBytes → InputsJudged set work limit site table masks (Refused 1 0)
   unfolding listInputs
-  judged-table e f h v k = record { verdict = rw (buffer-in e, buffer-in f, limit-in h, v) (k .verdict); masks-after = k .masks }
+  judged-set h = record { judged = judged-refused _ (buffer-not h) }
+
+  pub judged-work : set ≡ setBytes → work ≢ workBytes → InputsJudged set work limit site table masks (Refused 1 0)
+  unfolding listInputs
+  judged-work e h = record { judged = judged-next (buffer-in e) (judged-refused _ (buffer-not h)) }
+
+  pub judged-limit : set ≡ setBytes → work ≡ workBytes → highestLimit < limit → InputsJudged set work limit site table masks (Refused 16 0)
+  unfolding listInputs
+  judged-limit e f h = record { judged = judged-next (buffer-in e) (judged-next (buffer-in f) (judged-refused _ (limit-not h))) }
+
+  pub judged-pair : set ≡ setBytes → work ≡ workBytes → limit ≤ highestLimit → {v : Verdict} → Judged (pairVerdict site table) table masks v
+      → InputsJudged set work limit site table masks v
+  unfolding listInputs
+  judged-pair e f h j = record { judged = judged-next (buffer-in e) (judged-next (buffer-in f) (judged-next (limit-in h) j)) }
 
   -- what is known of accepted ones
-  module _ {v : Verdict} (j : InputsJudged set work limit site table masks v) (e : v ≡ Accepted) where
-    pub accepts : Accepts set work limit site table
-    accepts = list-accepts set work limit site table (sym (j .verdict) ∙ e)
-
-    pub free-rows : FreeRows table masks
-    unfolding FreeAfter
-    free-rows = rw e at (j .masks-after)
+  pub accepts : {v : Verdict} → InputsJudged set work limit site table masks v → v ≡ Accepted → Accepts set work limit site table
+  accepts j e = list-accepts set work limit site table (sym (j .judged .verdict) ∙ e)
 
 -- ---- the number of rounds under a limit
 
@@ -117,13 +106,13 @@ module _ {limit : ℕ} {site table set set′ work work′ masks : List ℕ} {v 
   pub answered-tried : v ≡ Accepted → {u : Verdict} {f : Found} → ListTried limit site table set set′ work work′ u f
       → ListAnswered limit site table set set′ work work′ u f
   unfolding listVerdict
-  answered-tried e t = record { made = t .made; makes = λ _. t .makes; verdict = rw (sym (j .verdict) ∙ e) (t .verdict); left = t .left }
+  answered-tried e t = record { made = t .made; makes = λ _. t .makes; verdict = rw (sym (j .judged .verdict) ∙ e) (t .verdict); left = t .left }
 
   pub answered-refused : {item w : ℕ} → v ≡ Refused item w → {r : Listing} → r ≡ answer.Refused item w → set′ ≡ replicate (length set) 0
       → work′ ≡ replicate (length work) 0 → ListAnswered limit site table set set′ work work′ (verdictOf r) (foundIn r)
   unfolding listVerdict SetAfter
   answered-refused e f y z =
-      let d = sym (j .verdict) ∙ e in
+      let d = sym (j .judged .verdict) ∙ e in
       rw f
       (record {
         made = 0;

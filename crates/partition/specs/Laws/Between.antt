@@ -9,7 +9,7 @@ use lib.ListN.{getD}
 use Rattle.finite.specs.Tests.{same, any, all, first}
 use Rattle.finite.specs.Laws.Bools.{clash, no-true, and-in, and-r}
 use Rattle.finite.specs.Laws.Below.{any-in, any-out, any-none, all-in, all-out}
-use Rattle.finite.specs.Laws.First.{first-in}
+use Rattle.finite.specs.Laws.First.{first-cong, first-in}
 use Rattle.bitset.specs.Set.{setSlots}
 use Rattle.limits.specs.Limits.{slots, everyWay}
 use Rattle.semantics.specs.Holds.{Model}
@@ -17,7 +17,7 @@ use Rattle.semantics.specs.Bisimulation.{Total}
 use Rattle.semantics.specs.Table.{wayOf}
 use Rattle.semantics.specs.Laws.Refine.{Rel, match, bisimilarIn, bisimilar-sym, bisimilar-less}
 use Rattle.partition.specs.Partition.{across, Partitions, Follows}
-use Rattle.partition.specs.Laws.Partitions.{first-cong, partitions-first}
+use Rattle.partition.specs.Laws.Partitions.{partitions-first}
 use Rattle.partition.specs.Laws.Rounds.{upto}
 
 -- the lowest slot of the first site that E relates to t is the class of t, where E relates whole classes of p

@@ -8,18 +8,11 @@ use lib.ListN.{length, getD, set}
 use lib.Seq.{getD-set-same, getD-set-other}
 use Rattle.finite.specs.Tests.{any, first}
 use Rattle.finite.specs.Laws.Bools.{either, both}
-use Rattle.finite.specs.Laws.Below.{equal?, same-eq, same-refl, eq-same, any-in, any-none, none-any, any-cong}
-use Rattle.finite.specs.Laws.First.{first-in, first-low}
+use Rattle.finite.specs.Laws.Below.{equal?, same-eq, same-refl, eq-same, any-in, any-none, none-any}
+use Rattle.finite.specs.Laws.First.{first-cong, first-in, first-low}
 use Rattle.bitset.specs.Set.{setSlots}
 use Rattle.semantics.specs.Laws.Refine.{Rel}
 use Rattle.partition.specs.Partition.{together, Partition, Partitions, byRow}
-
--- a test is read below the bound alone
-pub first-cong : (n : ℕ) (f g : ℕ → Bool) → ((t : ℕ) → t < n → f t ≡ g t) → first n f ≡ first n g
-unfolding first
-first-cong zero f g h = refl
-first-cong (suc n) f g h =
-    rw (any-cong n f g (λ t l. h t (omega arith)), first-cong n f g (λ t l. h t (omega arith)), h n (omega arith))
 
 -- a loop that fills a list from the front
 pub put-more : (P : ℕ → ℕ → Type 0) (r : List ℕ) (s v : ℕ) → s < length r → ((k : ℕ) → k < s → P k (getD r k 0)) → P s v

@@ -1,4 +1,4 @@
--- The items one by one: items 1, 15 and 16, two checks one after the other, and the numbers of the items.
+-- The items one by one: items 1, 15, 16 and 17, two checks one after the other, and the numbers of the items.
 use mathlib.Core.Path.{_≡_, refl}
 use mathlib.Core.List.{List}
 use mathlib.Core.Bool.{Bool, true, false, not, cond}
@@ -7,9 +7,9 @@ use Prim.Native.Nat.{ℕ, _-_, _/_, _≤_, _<_}
 use native.Mathlib.Omega.{arith}
 use lib.ListN.{length}
 use Rattle.finite.specs.Tests.{same, below, first}
-use Rattle.finite.specs.Laws.Bools.{either, look}
-use Rattle.finite.specs.Laws.Below.{same-eq, eq-same, ne-same, below-in, below-not, not-below}
-use Rattle.limits.specs.Limits.{highestLimit}
+use Rattle.finite.specs.Laws.Bools.{either, look, and-l, and-r}
+use Rattle.finite.specs.Laws.Below.{same-eq, eq-same, ne-same, below-in, below-out, below-not, not-below}
+use Rattle.limits.specs.Limits.{slots, everyWay, highestLimit}
 use Rattle.verdict.specs.Laws.{refused}
 use Rattle.verdict.specs.Verdict.{reasonOf, _then_}
 use Rattle.verdict.specs.declared.Verdict.{Verdict}
@@ -28,7 +28,7 @@ use Rattle.sheet.specs.Refusal.{faulty, sized, sheetVerdict}
 use Rattle.applying.specs.Stuck.{stuckAt}
 use Rattle.applying.specs.Refusal.{goesVerdict}
 use Rattle.rewriting.specs.Refusal.{tooLong, lengthVerdict}
-use Rattle.refusals.specs.Refusal.{lastItem, bufferVerdict, limitVerdict, roundsVerdict}
+use Rattle.refusals.specs.Refusal.{lastItem, bufferVerdict, limitVerdict, roundsVerdict, startFits, startVerdict}
 
 -- ---- item 1
 
@@ -88,7 +88,33 @@ pub rounds-else : (limit n : ℕ) → reasonOf (roundsVerdict limit n) ≢ 15 �
 unfolding roundsVerdict
 rounds-else limit n h = either (look (below limit n)) (λ e. absurd (h (rw e))) (λ e. rw e)
 
--- ---- the chain
+-- ---- item 17
+
+pub record StartFits (M : Model) (way start : ℕ) : Type 0 where
+  pub way-fits : way < everyWay
+  pub start-fits : start < slots
+  pub start-present : M .present start ≡ true
+
+pub start-in : (M : Model) (way start : ℕ) → startFits M way start ≡ true → startVerdict M way start ≡ Accepted
+unfolding startVerdict
+start-in M way start e = rw e
+
+pub start-not : (M : Model) (way start : ℕ) → startFits M way start ≡ false → startVerdict M way start ≡ Refused 17 0
+unfolding startVerdict
+start-not M way start e = rw e
+
+pub start-out : (M : Model) (way start : ℕ) → startVerdict M way start ≡ Accepted → StartFits M way start
+unfolding startVerdict startFits
+start-out M way start e =
+    either (look (startFits M way start))
+    (λ g. let r = and-r (below way everyWay) _ g in record {
+      way-fits = below-out way everyWay (and-l _ _ g);
+      start-fits = below-out start slots (and-l _ _ r);
+      start-present = and-r (below start slots) _ r;
+    })
+    (λ g. refused (rw g at e))
+
+-- ---- one check after another
 
 pub then-out : (v w : Verdict) → v then w ≡ Accepted → (v ≡ Accepted) × (w ≡ Accepted)
 then-out Accepted w e = (refl, e)
@@ -122,6 +148,10 @@ numbered-limit limit = numbered-item (below highestLimit limit) 16 0 Accepted (o
 pub numbered-rounds : (limit n : ℕ) → Numbered (roundsVerdict limit n)
 unfolding roundsVerdict
 numbered-rounds limit n = numbered-item (below limit n) 15 0 Accepted (omega arith) (omega arith) numbered-accepted
+
+pub numbered-start : (M : Model) (way start : ℕ) → Numbered (startVerdict M way start)
+unfolding startVerdict
+numbered-start M way start = numbered-item (not (startFits M way start)) 17 0 Accepted (omega arith) (omega arith) numbered-accepted
 
 pub numbered-site : (S : List ℕ) → Numbered (siteVerdict S)
 unfolding siteVerdict

@@ -1,7 +1,7 @@
--- The lowest set bit of a number, and the number without it.
+-- The lowest set bit of a number, the bits below it, and the number without it.
 use mathlib.Core.Path.{_≡_, _∙_, ap}
 use mathlib.Core.Logic.{_≢_}
-use mathlib.Core.Bool.{_||_}
+use mathlib.Core.Bool.{false, _||_}
 use Prim.Native.Nat.{ℕ, zero, suc, _-_, _*_, _/_, _%_, _^_, _<_}
 use native.Mathlib.Nat.{add-zero, two-pow-succ}
 use native.Mathlib.Omega.{arith}
@@ -62,3 +62,18 @@ lowest (suc k) w h n =
     (equal? (w % 2) 0)
     (λ e. rw e (lowest-even k w e n (lowest k (w / 2) (omega (arith, two-pow-succ k)) (λ z. n (omega arith)))))
     (λ f. let e : w % 2 ≡ 1 = omega arith in rw e (lowest-odd k w e))
+
+-- below the lowest set bit no bit is set
+pub none-lower : (k w j : ℕ) → j < trailingZeros k w → bit w j ≡ false
+unfolding trailingZeros
+none-lower zero w j h = absurd (omega arith)
+none-lower (suc k) w zero h =
+    either
+    (equal? (w % 2) 0)
+    (λ e. bit-low w 0 e ∙ ne-same {m = 0} {n = 1} (λ z. omega arith))
+    (λ f. let e : w % 2 ≡ 1 = omega arith in absurd (omega (arith, rw e at h)))
+none-lower (suc k) w (suc j) h =
+    either
+    (equal? (w % 2) 0)
+    (λ e. bit-suc w j ∙ none-lower k (w / 2) j (omega (arith, rw e at h)))
+    (λ f. let e : w % 2 ≡ 1 = omega arith in absurd (omega (arith, rw e at h)))

@@ -1,0 +1,185 @@
+// Reads pairs of a site and a goal on standard input, each with ways and starts, and prints for each of these what is given: `chain`, its
+// steps and its slots; or `set` and the set, two hexadecimal digits a byte; or `refused N W`. The bytes behind a chain have to be zeros, and
+// so have the work buffer, the one of chain and set that is not given, and both of a refusal. Buffers of other lengths have to be refused
+// with 1 and come back as zeros too. Any buffer that does not is named after the answer.
+use bitset::SET_BYTES;
+use chain_entry::Chaining;
+use chaining::CHAIN_BYTES;
+use libc::STDOUT_FILENO;
+use listing::WORK_BYTES;
+use pieces::ROOM;
+ghost use Prim.Native.Nat.{_≤_};
+
+fn print_number(word: &[u8], n: u64) {
+    io::write_all(STDOUT_FILENO, word);
+    io::print_decimal(STDOUT_FILENO, n);
+}
+
+fn print_slot(slot: u8) {
+    print_number(b" ", slot as u64);
+}
+
+fn print_slots(slots: &[u8]) {
+    let mut k = 0;
+    while k < slots.len() {
+        print_slot(slots[k]);
+        k += 1;
+    }
+}
+
+// A chain has one slot more than steps.
+fn print_chain(steps: u32, chain: &[u8]) {
+    let n = steps as usize;
+    print_number(b"chain ", steps as u64);
+    if n >= chain.len() {
+        pieces::say(true, b" too many steps");
+        return;
+    }
+    print_slots(&chain[0..n + 1]);
+    pieces::say_left(&chain[n + 1..], b" chain left behind its end");
+}
+
+fn print_set(set: &[u8]) {
+    io::write_all(STDOUT_FILENO, b"set ");
+    pieces::print_bytes(set);
+}
+
+// Says which result buffer that is not given is not left as zeros.
+fn show(answer: Chaining, chain: &[u8], set: &[u8]) {
+    match answer {
+        Chaining::Given(steps) => {
+            print_chain(steps, chain);
+            pieces::say_left(set, b" set left");
+        }
+        Chaining::Reached => {
+            print_set(set);
+            pieces::say_left(chain, b" chain left");
+        }
+        Chaining::Refused(item, w) => {
+            pieces::print_refusal(item, w);
+            pieces::say_left(chain, b" chain left");
+            pieces::say_left(set, b" set left");
+        }
+    }
+}
+
+fn answer(site: &[u8], cond: &[u8], way: u32, start: u32) {
+    let mut chain = [170u8; CHAIN_BYTES];
+    let mut set = [170u8; SET_BYTES];
+    let mut work = [170u8; WORK_BYTES];
+    let r = chain_entry::chain(site, cond, way, start, &mut chain, &mut set, &mut work);
+    show(r, &chain, &set);
+    pieces::say_left(&work, b" work left");
+}
+
+fn is_item_1(answer: Chaining) -> bool {
+    match answer {
+        Chaining::Given(_) => false,
+        Chaining::Reached => false,
+        Chaining::Refused(item, w) => (item == 1) & (w == 0),
+    }
+}
+
+// In buffers of other lengths the question has to be refused with 1, and nothing is printed.
+fn expect_item_1(
+    site: &[u8],
+    cond: &[u8],
+    way: u32,
+    start: u32,
+    chain: &mut [u8],
+    set: &mut [u8],
+    work: &mut [u8],
+) {
+    let r = chain_entry::chain(site, cond, way, start, chain, set, work);
+    pieces::say(!is_item_1(r), b" other lengths taken");
+    pieces::say_left(chain, b" chain of another length left");
+    pieces::say_left(set, b" set of another length left");
+    pieces::say_left(work, b" work of another length left");
+}
+
+// Buffers of the first so many bytes of those that are a byte too long.
+fn try_lengths(site: &[u8], cond: &[u8], way: u32, start: u32, c: usize, s: usize, w: usize)
+    requires { ⌜ (c ≤ 257) × ((s ≤ 33) × (w ≤ 65537)) ⌝ }
+{
+    let mut chain = [170u8; CHAIN_BYTES + 1];
+    let mut set = [170u8; SET_BYTES + 1];
+    let mut work = [170u8; WORK_BYTES + 1];
+    expect_item_1(
+        site,
+        cond,
+        way,
+        start,
+        &mut chain[0..c],
+        &mut set[0..s],
+        &mut work[0..w],
+    );
+}
+
+// One buffer at a time is a byte short, a byte long or empty; or no buffer has its length.
+fn try_other(site: &[u8], cond: &[u8], way: u32, start: u32, turn: u8) {
+    let c = CHAIN_BYTES;
+    let s = SET_BYTES;
+    let w = WORK_BYTES;
+    match turn {
+        0 => try_lengths(site, cond, way, start, c - 1, s, w),
+        1 => try_lengths(site, cond, way, start, c + 1, s, w),
+        2 => try_lengths(site, cond, way, start, c, s - 1, w),
+        3 => try_lengths(site, cond, way, start, c, s + 1, w),
+        4 => try_lengths(site, cond, way, start, c, s, w - 1),
+        5 => try_lengths(site, cond, way, start, c, s, w + 1),
+        6 => try_lengths(site, cond, way, start, 0, s, w),
+        7 => try_lengths(site, cond, way, start, c, 0, w),
+        8 => try_lengths(site, cond, way, start, c, s, 0),
+        _ => try_lengths(site, cond, way, start, c - 1, s + 1, w - 1),
+    }
+}
+
+// Prints the line of a question. The buffers of other lengths take turns.
+fn print_line(site: &[u8], cond: &[u8], way: u32, start: u32, turn: u8) {
+    answer(site, cond, way, start);
+    try_other(site, cond, way, start, turn % 10);
+    io::write_all(STDOUT_FILENO, b"\n");
+}
+
+// Reads a way and a start, which are numbers of four bytes as a limit is, and prints their line.
+fn read_question(site: &[u8], cond: &[u8], turn: u8) {
+    let way = pieces::read_limit();
+    let start = pieces::read_limit();
+    print_line(site, cond, way, start, turn);
+}
+
+// Prints a line for each question that stands behind the pair.
+fn print_lines(site: &[u8], cond: &[u8], count: u8) {
+    for k in 0..count {
+        read_question(site, cond, k);
+    }
+}
+
+// Reads the goal that stands behind a site, and prints the lines of the pair.
+fn read_goal(site: &[u8]) {
+    let mut cond = [0u8; ROOM];
+    let piece = pieces::read(&mut cond);
+    let n = piece.len;
+    print_lines(site, &cond[0..n], pieces::read_count());
+}
+
+// Reads one pair and prints its lines; false at the end of the input.
+fn next() -> bool {
+    let mut site = [0u8; ROOM];
+    let piece = pieces::read(&mut site);
+    let kind = piece.kind;
+    if kind == 0 {
+        return false;
+    }
+    let n = piece.len;
+    read_goal(&site[0..n]);
+    true
+}
+
+// A proved loop has to end, so the turns are counted down from a number that no input uses up.
+fn main() {
+    let mut turns = u64::MAX;
+    while turns > 0 && next() {
+        turns -= 1;
+    }
+}
