@@ -160,36 +160,3 @@ pub fn chain(
         Verdict::Refused(item, fault) => refused(chain, set, work, item, fault),
     }
 }
-
-// The outcome in the answer: accepted, or the item and its W.
-pub fn verdict(r: Chaining) -> Verdict
-    ensures { λ v. ⌜ v ≡ verdictOf r ⌝ }
-{
-    match r {
-        Chaining::Given(_) => Verdict::Accepted,
-        Chaining::Reached => Verdict::Accepted,
-        Chaining::Refused(item, fault) => Verdict::Refused(item, fault),
-    }
-}
-
-// 1 where a chain is given, else 0.
-pub fn found(r: Chaining) -> u32
-    ensures { λ n. ⌜ n ≡ foundOf r ⌝ }
-{
-    match r {
-        Chaining::Given(_) => 1,
-        Chaining::Reached => 0,
-        Chaining::Refused(_, _) => 0,
-    }
-}
-
-// The steps of the chain that is given, 0 where none is.
-pub fn steps(r: Chaining) -> u32
-    ensures { λ n. ⌜ n ≡ stepsOf r ⌝ }
-{
-    match r {
-        Chaining::Given(n) => n,
-        Chaining::Reached => 0,
-        Chaining::Refused(_, _) => 0,
-    }
-}

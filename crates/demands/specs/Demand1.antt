@@ -11,6 +11,7 @@ use Rattle.verdict.specs.declared.Verdict.the-variants.{Accepted}
 use Rattle.refusals.specs.Refusal.{lastItem}
 use Rattle.listing.specs.declared.Found.{Found}
 use Rattle.list_entry.specs.Listing.{ListAfter}
+use Rattle.chain_entry.specs.Chaining.{ChainAfter}
 use Rattle.apply_entry.specs.Applying.{SiteAfter}
 use Rattle.through.specs.Through.{through}
 use Rattle.sheet.specs.Bytes.{editsOf}
@@ -19,7 +20,7 @@ use Rattle.classes_entry.specs.Classing.{ClassesAfter}
 use Rattle.trailer.specs.Pieces.{siteIn, conditionIn, sheetIn}
 use Rattle.job_run.specs.Buffers.{Buffers}
 use Rattle.job_run.specs.Job.{JobAfter}
-use Rattle.desk.specs.Returned.{ReturnedList, ReturnedApply, ReturnedRewrite, ReturnedThrough, ReturnedClasses, ReturnedJob}
+use Rattle.desk.specs.Returned.{ReturnedList, ReturnedApply, ReturnedRewrite, ReturnedThrough, ReturnedClasses, ReturnedChain, ReturnedJob}
 
 -- the full answer where the reason is 0, and W is then 0; else the number of an item, and zeros
 pub record Answers (reason fault : ℕ) (Full Zeros : Type 0) : Type 0 where
@@ -86,7 +87,14 @@ Demand1Classes =
     (site classes classes′ : List ℕ) (reason fault n : ℕ) → ReturnedClasses site classes classes′ reason fault n
     → Answers reason fault (ClassesAfter Accepted site classes classes′ n) (Zeroed classes classes′ × (n ≡ 0))
 
--- ---- all six
+unfoldable pub Demand1Chain : Type 0
+Demand1Chain =
+    (site table : List ℕ) (way start : ℕ) (chain chain′ set set′ work work′ : List ℕ) (reason fault found steps : ℕ)
+    → ReturnedChain site table way start chain chain′ set set′ work work′ reason fault found steps
+    → Answers reason fault (ChainAfter Accepted site table way start chain chain′ set set′ work work′ found steps)
+    (Zeroed chain chain′ × (Zeroed set set′ × (Zeroed work work′ × ((found ≡ 0) × (steps ≡ 0)))))
+
+-- ---- all seven
 
 pub record Demand1 : Type 0 where
   pub job : Demand1Job
@@ -95,3 +103,4 @@ pub record Demand1 : Type 0 where
   pub rewriting : Demand1Rewrite
   pub going-through : Demand1Through
   pub classes : Demand1Classes
+  pub chain : Demand1Chain

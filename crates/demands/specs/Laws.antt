@@ -7,3 +7,4 @@ pub mod Through
 pub mod Job
 pub mod Same
 pub mod Rounds
+pub mod Chain

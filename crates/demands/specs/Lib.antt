@@ -8,5 +8,7 @@ pub mod Through
 pub mod Job
 -- the demands on the limit
 pub mod Rounds
+-- the demand on the chain
+pub mod Chain
 -- what is proved of them
 pub mod Laws

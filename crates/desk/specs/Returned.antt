@@ -10,6 +10,8 @@ use Rattle.verdict.specs.declared.Verdict.the-variants.{Accepted}
 use Rattle.listing.specs.declared.Found.{Found}
 use Rattle.list_entry.specs.Refusal.{listInputs, listVerdict}
 use Rattle.list_entry.specs.Listing.{SiteMakes, ListAfter}
+use Rattle.chain_entry.specs.Refusal.{chainVerdict}
+use Rattle.chain_entry.specs.Chaining.{ChainAfter}
 use Rattle.apply_entry.specs.Refusal.{applyVerdict}
 use Rattle.apply_entry.specs.Applying.{SiteAfter}
 use Rattle.through.specs.Through.{through}
@@ -56,6 +58,12 @@ ReturnedThrough sheet result result′ reason fault n =
 abbrev pub ReturnedClasses : (site classes classes′ : List ℕ) (reason fault n : ℕ) → Type 0
 ReturnedClasses site classes classes′ reason fault n =
     Returned (classesVerdict (length classes) site) (λ v. ClassesAfter v site classes classes′ n) reason fault
+
+-- the chain behind a place: whether there is one, and its steps
+abbrev pub ReturnedChain : (site table : List ℕ) (way start : ℕ) (chain chain′ set set′ work work′ : List ℕ) (reason fault found steps : ℕ) → Type 0
+ReturnedChain site table way start chain chain′ set set′ work work′ reason fault found steps =
+    Returned (chainVerdict (length chain) (length set) (length work) site table way start)
+    (λ v. ChainAfter v site table way start chain chain′ set set′ work work′ found steps) reason fault
 
 -- a job, with the counts and the rounds of the lists after and today, the rewritten nodes and the different class numbers. `after-made` and
 -- `today-made` are how many rounds the lists make; where an item before 15 is met, they do not matter

@@ -1,10 +1,12 @@
 // The entry points of the desk for C: the answers in numbers. Every input has its answer: nothing is required of it.
+use chain_entry::Chaining;
 use job_run::Job;
 use rewriting::Rewriting;
-ghost use Rattle.desk.specs.Returned.{ReturnedList, ReturnedApply, ReturnedRewrite, ReturnedThrough, ReturnedClasses, ReturnedJob};
+ghost use Rattle.desk.specs.Returned.{ReturnedList, ReturnedApply, ReturnedRewrite, ReturnedThrough, ReturnedClasses, ReturnedChain, ReturnedJob};
 ghost use mathlib.Core.Path.{_≡_};
 ghost use Rattle.verdict.specs.Verdict.{reasonOf, faultOf};
 ghost use Rattle.rewriting.specs.Answer as made;
+ghost use Rattle.chain_entry.specs.Answer as chaining;
 ghost use Rattle.listing.specs.Listed.{foundOf};
 ghost use Rattle.job_run.specs.Buffers.{buffersOf};
 ghost use Rattle.job_run.specs.Answer.{verdictOf, afterOf, todayOf, nodesOf, classesOf};
@@ -36,6 +38,15 @@ pub struct ClassesAnswer {
     pub reason: u32,
     pub fault: u32,
     pub count: u32,
+}
+
+// Whether a chain is given, 1 or 0, and how many steps it has.
+#[repr(C)]
+pub struct ChainAnswer {
+    pub reason: u32,
+    pub fault: u32,
+    pub found: u32,
+    pub steps: u32,
 }
 
 // The slots listed on the site after and today, the rewritten nodes, the different class numbers, and the rounds of the two lists.
@@ -130,6 +141,47 @@ pub extern "C" fn desk_classes(site: &[u8], classes: &mut [u8]) -> ClassesAnswer
         fault: fault,
         count: count,
     }
+}
+
+// The answer of the chain in numbers: no item, whether a chain is given, and its steps; or the item and W, and zeros.
+fn chain_in_numbers(r: Chaining) -> ChainAnswer
+    ensures { λ a. ⌜ (a .reason ≡ reasonOf (chaining.verdictOf r)) × ((a .fault ≡ faultOf (chaining.verdictOf r)) × ((a .found ≡ chaining.foundOf r) × (a .steps ≡ chaining.stepsOf r))) ⌝ }
+{
+    match r {
+        Chaining::Given(n) => ChainAnswer {
+            reason: 0,
+            fault: 0,
+            found: 1,
+            steps: n,
+        },
+        Chaining::Reached => ChainAnswer {
+            reason: 0,
+            fault: 0,
+            found: 0,
+            steps: 0,
+        },
+        Chaining::Refused(item, fault) => ChainAnswer {
+            reason: item as u32,
+            fault: fault as u32,
+            found: 0,
+            steps: 0,
+        },
+    }
+}
+
+#[no_mangle]
+pub extern "C" fn desk_chain(
+    site: &[u8],
+    goal: &[u8],
+    way: u32,
+    start: u32,
+    chain: &mut [u8],
+    set: &mut [u8],
+    work: &mut [u8],
+) -> ChainAnswer
+    ensures { λ r. ⌜ ReturnedChain (now (site .entry)) (now (goal .entry)) way start (now (chain .entry)) (now (chain .exit)) (now (set .entry)) (now (set .exit)) (now (work .entry)) (now (work .exit)) (r .reason) (r .fault) (r .found) (r .steps) ⌝ }
+{
+    chain_in_numbers(chain_entry::chain(site, goal, way, start, chain, set, work))
 }
 
 // The answer of a job in numbers: no item, its counts and its rounds; or the item and W, and zeros.

@@ -20,7 +20,7 @@ use Rattle.even_rule.specs.Judged.{Judged}
 use Rattle.even_rule.specs.Laws.Judged.{judged-refused, judged-next}
 use Rattle.listing.specs.Listed.{workBytes, Listed}
 use Rattle.refusals.specs.Refusal.{startFits, startVerdict}
-use Rattle.refusals.specs.Laws.Items.{buffer-in, buffer-not}
+use Rattle.refusals.specs.Laws.Items.{buffer-in, buffer-not, StartFits}
 use Rattle.list_entry.specs.Refusal.{pairVerdict}
 use Rattle.chains.specs.Given.{chainBytes}
 use Rattle.chaining.specs.Answer.{Answer}
@@ -47,6 +47,11 @@ module _ (M : Model) (way start : ℕ) (h : way < everyWay) where
   pub start-fit : start < setSlots → {r : Bool} → r ≡ M .present start → r ≡ startFits M way start
   unfolding startFits slots
   start-fit l e = rw (below-in way everyWay h, below-in start setSlots l) e
+
+-- the start as the code counts slots
+pub start-slot : {M : Model} {way start : ℕ} → StartFits M way start → start < setSlots
+unfolding slots
+start-slot k = k .start-fits
 
 -- ---- the inputs are judged
 

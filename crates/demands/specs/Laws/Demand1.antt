@@ -10,6 +10,8 @@ use Rattle.verdict.specs.declared.Verdict.the-variants.{Accepted, Refused}
 use Rattle.semantics.specs.Table.{Node}
 use Rattle.refusals.specs.Laws.Items.{Numbered}
 use Rattle.list_entry.specs.Listing.{SetAfter, ListAfter}
+use Rattle.chain_entry.specs.Chaining.{Gives, ChainAfter}
+use Rattle.chain_entry.specs.Laws.Refusal.{numbered-chain}
 use Rattle.apply_entry.specs.Applying.{SiteAfter}
 use Rattle.through.specs.Through.{through}
 use Rattle.sheet.specs.Bytes.{editsOf}
@@ -20,7 +22,7 @@ use Rattle.trailer.specs.Pieces.{siteIn, conditionIn, sheetIn}
 use Rattle.job_run.specs.Job.{JobAfter}
 use Rattle.desk.specs.Returned.{Returned}
 use Rattle.demands.specs.Laws.Accepted.{list-numbered, apply-numbered, classes-numbered, job-numbered}
-use Rattle.demands.specs.Demand1.{Answers, Zeroed, Demand1Job, Demand1List, Demand1Apply, Demand1Rewrite, Demand1Through, Demand1Classes, Demand1}
+use Rattle.demands.specs.Demand1.{Answers, Zeroed, Demand1Job, Demand1List, Demand1Apply, Demand1Rewrite, Demand1Through, Demand1Classes, Demand1Chain, Demand1}
 
 -- what is left after a verdict is the full answer after Accepted, and zeros after each refusal
 answers : (After : Verdict → Type 0) {Full Zeros : Type 0} → (After Accepted → Full) → ((n k : ℕ) → After (Refused n k) → Zeros)
@@ -91,6 +93,13 @@ demand-1-classes site classes classes′ reason fault n r =
     answers (λ v. ClassesAfter v site classes classes′ n) (λ p. p) (λ item k p. p)
     _ (classes-numbered (length classes) site) r
 
+demand-1-chain : Demand1Chain
+unfolding Demand1Chain Gives
+demand-1-chain site table way start chain chain′ set set′ work work′ reason fault found steps r =
+    answers (λ v. ChainAfter v site table way start chain chain′ set set′ work work′ found steps) (λ p. p)
+    (λ item k p. (p .gives .0, (p .gives .1, (p .work-zero, (p .gives .2, p .gives .3)))))
+    _ (numbered-chain (length chain) (length set) (length work) site table way start) r
+
 pub demand-1 : Demand1
 demand-1 =
     record {
@@ -100,4 +109,5 @@ demand-1 =
       rewriting = demand-1-rewrite;
       going-through = demand-1-through;
       classes = demand-1-classes;
+      chain = demand-1-chain;
     }

@@ -3,7 +3,7 @@
 use mathlib.Core.Path.{_≡_, refl}
 use mathlib.Core.Bool.{Bool, true, false, not, cond}
 use mathlib.Core.List.{List}
-use Prim.Native.Nat.{ℕ, _-_, _/_, _≤_}
+use Prim.Native.Nat.{ℕ, _-_, _/_, _≤_, _<_}
 use native.Mathlib.Omega.{arith}
 use lib.ListN.{length}
 use Rattle.finite.specs.Tests.{same, below, first}
@@ -28,6 +28,7 @@ use Rattle.rewriting.specs.Refusal.{tooLong, lengthVerdict}
 use Rattle.trailer.specs.Refusal.{item2, trailerVerdict}
 use Rattle.trailer.specs.Pieces.{siteIn, conditionIn, sheetIn}
 use Rattle.refusals.specs.Refusal.{roundsVerdict}
+use Rattle.list_entry.specs.Refusal.{pairVerdict}
 use Rattle.job_run.specs.Refusal.{piecesVerdict}
 
 -- a refusal is with one of the items up to m
@@ -41,17 +42,17 @@ item : {m : ℕ} (b : Bool) (n w : ℕ) (v : Verdict) → n ≤ m → UpTo m v �
 item true n w v h k = record { at-most = h }
 item false n w v h k = k
 
-pub chain : {m : ℕ} (v w : Verdict) → UpTo m v → UpTo m w → UpTo m (v then w)
-chain Accepted w h k = k
-chain (Refused n p) w h k = h
+pub after : {m : ℕ} (v w : Verdict) → UpTo m v → UpTo m w → UpTo m (v then w)
+after Accepted w h k = k
+after (Refused n p) w h k = h
 
 pub wider : {v : Verdict} → UpTo 14 v → UpTo 15 v
 wider h = record { at-most = omega (arith, h .at-most) }
 
--- item 15 comes after v: it is met only where v accepts
-pub not-early : (v w : Verdict) → UpTo 14 v → reasonOf (v then w) ≡ 15 → v ≡ Accepted
-not-early Accepted w h e = refl
-not-early (Refused n p) w h e = absurd (omega (arith, h .at-most, e))
+-- an item that comes after v is met only where v accepts
+pub not-early : {m k : ℕ} (v w : Verdict) → UpTo m v → m < k → reasonOf (v then w) ≡ k → v ≡ Accepted
+not-early Accepted w h l e = refl
+not-early (Refused n p) w h l e = absurd (omega (arith, h .at-most, e))
 
 -- ---- the checks one by one
 
@@ -85,11 +86,8 @@ rounds-item limit n = item (below limit n) 15 0 Accepted (omega arith) accepts
 
 -- ---- listing, and the job: all their items but 1, 15 and 16
 
-abbrev pub listItems : (site table : List ℕ) → Verdict
-listItems site table = siteVerdict site then conditionVerdict table
-
-pub list-early : (site table : List ℕ) → UpTo 14 (listItems site table)
-list-early site table = chain (siteVerdict site) (conditionVerdict table) (site-items site) (condition-items table)
+pub list-early : (site table : List ℕ) → UpTo 14 (pairVerdict site table)
+list-early site table = after (siteVerdict site) (conditionVerdict table) (site-items site) (condition-items table)
 
 abbrev pub jobItems : (file : List ℕ) → Verdict
 jobItems file = trailerVerdict file then piecesVerdict (siteIn file) (conditionIn file) (sheetIn file)
@@ -98,15 +96,15 @@ pieces-items : (site table sheet : List ℕ) → UpTo 14 (piecesVerdict site tab
 unfolding piecesVerdict goesVerdict lengthVerdict
 pieces-items site table sheet =
     let es = editsOf sheet in
-    chain (siteVerdict site) _ (site-items site)
-    (chain (conditionVerdict table) _ (condition-items table)
-    (chain (sheetVerdict sheet) _ (sheet-items sheet)
-    (chain (goesVerdict es (siteOf site)) (lengthVerdict rewriteTable es (tableOf table))
+    after (siteVerdict site) _ (site-items site)
+    (after (conditionVerdict table) _ (condition-items table)
+    (after (sheetVerdict sheet) _ (sheet-items sheet)
+    (after (goesVerdict es (siteOf site)) (lengthVerdict rewriteTable es (tableOf table))
     (item (not (sheetGoes es (siteOf site))) 13 (stuckAt es (siteOf site)) Accepted (omega arith) accepts)
     (item (tooLong rewriteTable es (tableOf table)) 14 0 Accepted (omega arith) accepts))))
 
 pub job-early : (file : List ℕ) → UpTo 14 (jobItems file)
 unfolding trailerVerdict
 job-early file =
-    chain (trailerVerdict file) _ (item (item2 file) 2 0 Accepted (omega arith) accepts)
+    after (trailerVerdict file) _ (item (item2 file) 2 0 Accepted (omega arith) accepts)
     (pieces-items (siteIn file) (conditionIn file) (sheetIn file))

@@ -30,7 +30,7 @@ use Rattle.refusals.specs.Refusal.{limitVerdict, roundsVerdict}
 use Rattle.refusals.specs.Laws.Items.{buffer-in, limit-in, limit-not, rounds-in, rounds-not, rounds-out, rounds-else, then-out}
 use Rattle.listing.specs.Listed.{workBytes, foundOf}
 use Rattle.listing.specs.Laws.Answer.{accepted-makes}
-use Rattle.list_entry.specs.Refusal.{listInputs, listVerdict}
+use Rattle.list_entry.specs.Refusal.{pairVerdict, listInputs, listVerdict}
 use Rattle.list_entry.specs.Listing.{SiteMakes, SetAfter, ListAfter}
 use Rattle.job_run.specs.Refusal.{listsVerdict}
 use Rattle.job_run.specs.Buffers.{Buffers, Sized, buffersOf}
@@ -42,21 +42,21 @@ use Rattle.demands.specs.Job.{JobCall, jobTable, RunnableFile}
 use Rattle.demands.specs.Rounds.{ListOver, FileMakes, JobOver, Highest, SameList, SameJob, DemandLimitList, DemandLimitJob, DemandHighestList, DemandHighestJob, DemandLargerList, DemandLargerJob, DemandRounds}
 use Rattle.demands.specs.Laws.Accepted.{fits-short, same-makes}
 use Rattle.demands.specs.Laws.Demands.{list-due, list-reason, list-set}
-use Rattle.demands.specs.Laws.Early.{UpTo, chain, wider, not-early, rounds-item, listItems, list-early, jobItems, job-early}
+use Rattle.demands.specs.Laws.Early.{UpTo, after, wider, not-early, rounds-item, list-early, jobItems, job-early}
 use Rattle.demands.specs.Laws.Job.{dueOf, runnable-inputs, job-due, job-makes}
 use Rattle.demands.specs.Laws.Same.{same-zeros, site-same, table-same, set-same, classes-same}
 
--- ---- the chains: buffers of the stated lengths meet no item 1, and a limit up to the highest no item 16
+-- ---- the items in order: buffers of the stated lengths meet no item 1, and a limit up to the highest no item 16
 
 module _ {site table : List ℕ} (c : ListCall site table) where
-  list-first : listInputs (length (c .set)) (length (c .work)) (c .limit) site table ≡ listItems site table
+  list-first : listInputs (length (c .set)) (length (c .work)) (c .limit) site table ≡ pairVerdict site table
   unfolding listInputs
   list-first = rw (buffer-in (c .set-size), buffer-in (c .work-size), limit-in (c .limit-fits))
 
   abbrev listDue : Verdict
   listDue = listVerdict (length (c .set)) (length (c .work)) (c .limit) site table (c .returned .made)
 
-  list-then : listDue ≡ listItems site table then roundsVerdict (c .limit) (c .returned .made)
+  list-then : listDue ≡ pairVerdict site table then roundsVerdict (c .limit) (c .returned .made)
   unfolding listVerdict
   list-then = rw list-first
 
@@ -105,7 +105,7 @@ module _ {site table : List ℕ} (c : ListCall site table) where
   list-over-out : c .reason ≡ 15 → ListOver (c .limit) site table
   list-over-out e =
       let n = c .returned .made in
-      let v = not-early (listItems site table) (roundsVerdict (c .limit) n) (list-early site table)
+      let v = not-early (pairVerdict site table) (roundsVerdict (c .limit) n) (list-early site table) (omega arith)
       (sym (ap reasonOf (list-then c)) ∙ sym (c .returned .returned .reason-is) ∙ e) in
       let p = then-out (siteVerdict site) (conditionVerdict table) v in
       let m = c .returned .makes (list-first c ∙ v) in
@@ -166,7 +166,7 @@ module _ {file : List ℕ} (c : JobCall file) where
 
   job-over-out : c .reason ≡ 15 → JobOver (c .limit) file
   job-over-out e =
-      let v = not-early (jobItems file) (bothRounds c) (job-early file) (sym (ap reasonOf (job-then c)) ∙ sym (c .returned .returned .reason-is) ∙ e) in
+      let v = not-early (jobItems file) (bothRounds c) (job-early file) (omega arith) (sym (ap reasonOf (job-then c)) ∙ sym (c .returned .returned .reason-is) ∙ e) in
       let r = runnable-inputs c (job-first c ∙ v) in
       let m = c .returned .makes (job-first c ∙ v) in
       record { runnable = r; after = _; today = _; makes = m; over = over-two (job-reason r _ _ m) .0 e }
@@ -202,17 +202,17 @@ highest limit {v} u {reason} {fault} e f =
     record { over = (λ k. omega (arith, h), λ k. d); no-fault = λ k. w })
 
 list-limit-first : (setLen workLen limit : ℕ) (site table : List ℕ) (n : ℕ) → setLen ≡ setBytes → workLen ≡ workBytes
-    → listVerdict setLen workLen limit site table n ≡ limitVerdict limit then (listItems site table then roundsVerdict limit n)
+    → listVerdict setLen workLen limit site table n ≡ limitVerdict limit then (pairVerdict site table then roundsVerdict limit n)
 unfolding listVerdict listInputs
 list-limit-first setLen workLen limit site table n p q =
-    rw (buffer-in p, buffer-in q) (then-assoc (limitVerdict limit) (listItems site table) (roundsVerdict limit n))
+    rw (buffer-in p, buffer-in q) (then-assoc (limitVerdict limit) (pairVerdict site table) (roundsVerdict limit n))
 
 highest-list : DemandHighestList
 unfolding DemandHighestList
 highest-list limit site table set set′ work work′ reason fault f p q r =
     let n = r .made in
     let d = list-limit-first (length set) (length work) limit site table n p q in
-    let u = chain (listItems site table) (roundsVerdict limit n) (wider (list-early site table)) (rounds-item limit n) in
+    let u = after (pairVerdict site table) (roundsVerdict limit n) (wider (list-early site table)) (rounds-item limit n) in
     highest limit u (r .returned .reason-is ∙ ap reasonOf d) (r .returned .fault-is ∙ ap faultOf d)
 
 job-limit-first : (b : Buffers) (limit : ℕ) (file : List ℕ) (a t : ℕ) → Sized b
@@ -226,8 +226,8 @@ highest-job limit file b b′ reason fault after today nodes classes s r =
     let a = r .after-made in
     let t = r .today-made in
     let d = job-limit-first b limit file a t s in
-    let both = chain (roundsVerdict limit a) (roundsVerdict limit t) (rounds-item limit a) (rounds-item limit t) in
-    let u = chain (jobItems file) (listsVerdict limit a t) (wider (job-early file)) both in
+    let both = after (roundsVerdict limit a) (roundsVerdict limit t) (rounds-item limit a) (rounds-item limit t) in
+    let u = after (jobItems file) (listsVerdict limit a t) (wider (job-early file)) both in
     highest limit u (r .returned .reason-is ∙ ap reasonOf d) (r .returned .fault-is ∙ ap faultOf d)
 
 -- ---- a larger limit
@@ -238,7 +238,7 @@ then-same Accepted u v f = f refl
 then-same (Refused n k) u v f = refl
 
 module _ {site table : List ℕ} (c d : ListCall site table) (larger : c .limit ≤ d .limit) (h : c .reason ≢ 15) where
-  list-rest : listItems site table ≡ Accepted → roundsVerdict (c .limit) (c .returned .made) ≡ roundsVerdict (d .limit) (d .returned .made)
+  list-rest : pairVerdict site table ≡ Accepted → roundsVerdict (c .limit) (c .returned .made) ≡ roundsVerdict (d .limit) (d .returned .made)
   list-rest v =
       let m = same-makes _ _ _ _ (c .returned .makes (list-first c ∙ v)) (d .returned .makes (list-first d ∙ v)) in
       let due = list-then c ∙ ap (λ (u : Verdict). u then roundsVerdict (c .limit) (c .returned .made)) v in
@@ -248,7 +248,7 @@ module _ {site table : List ℕ} (c d : ListCall site table) (larger : c .limit 
 
   same-list : SameList c d
   same-list =
-      let e = list-then c ∙ then-same (listItems site table) _ _ list-rest ∙ sym (list-then d) in
+      let e = list-then c ∙ then-same (pairVerdict site table) _ _ list-rest ∙ sym (list-then d) in
       let p = c .returned .returned in
       let q = d .returned .returned in
       let l = subst (λ (v : Verdict). ListAfter v site table (c .set) (c .set′) (c .work) (c .work′) (foundOf (c .count) (c .rounds))) e (p .left) in

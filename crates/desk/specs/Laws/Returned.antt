@@ -10,6 +10,10 @@ use Rattle.listing.specs.declared.Found.{Found}
 use Rattle.list_entry.specs.Answer.{verdictOf, foundIn}
 use Rattle.list_entry.specs.Listing.{ListAfter}
 use Rattle.list_entry.specs.Answered.{ListAnswered}
+use Rattle.chain_entry.specs.declared.Chaining.{Chaining}
+use Rattle.chain_entry.specs.Answer as chaining
+use Rattle.chain_entry.specs.Chaining.{ChainAfter}
+use Rattle.chain_entry.specs.Answered.{ChainAnswered}
 use Rattle.apply_entry.specs.Applying.{SiteAfter}
 use Rattle.apply_entry.specs.Answered.{ApplyAnswered}
 use Rattle.rewriting.specs.declared.Rewriting.{Rewriting}
@@ -26,7 +30,7 @@ use Rattle.job_run.specs.Buffers.{Buffers}
 use Rattle.job_run.specs.Answer as job
 use Rattle.job_run.specs.Job.{JobAfter}
 use Rattle.job_entry.specs.Answered.{JobAnswered}
-use Rattle.desk.specs.Returned.{Returned, ReturnedList, ReturnedApply, ReturnedClasses, ReturnedJob}
+use Rattle.desk.specs.Returned.{Returned, ReturnedList, ReturnedApply, ReturnedClasses, ReturnedChain, ReturnedJob}
 
 -- the answer has the verdict u, which is due, and the numbers are those of v, which is u
 returned : (After : Verdict → Type 0) {due u : Verdict} → u ≡ due → After u → {v : Verdict} → v ≡ u → {reason fault : ℕ} → reason ≡ reasonOf v
@@ -45,6 +49,18 @@ module _ {limit : ℕ} {site table set set′ work work′ : List ℕ} where
         makes = a .makes;
         returned = returned (λ v. ListAfter v site table set set′ work work′ found) (a .verdict) (rw g (a .left)) h e f;
       }
+
+-- ---- the chain
+
+module _ {site table : List ℕ} {way start : ℕ} {chain chain′ set set′ work work′ : List ℕ} where
+  pub returned-chain : (r : Chaining)
+      → ChainAnswered site table way start chain chain′ set set′ work work′ (chaining.verdictOf r) (chaining.foundOf r) (chaining.stepsOf r)
+      → {reason fault found steps : ℕ} → (reason ≡ reasonOf (chaining.verdictOf r))
+      × ((fault ≡ faultOf (chaining.verdictOf r)) × ((found ≡ chaining.foundOf r) × (steps ≡ chaining.stepsOf r)))
+      → ReturnedChain site table way start chain chain′ set set′ work work′ reason fault found steps
+  returned-chain r a {found = found} {steps = steps} n =
+      returned (λ v. ChainAfter v site table way start chain chain′ set set′ work work′ found steps)
+      (a .verdict) (rw (n .1 .1 .0, n .1 .1 .1) (a .left)) refl (n .0) (n .1 .0)
 
 -- ---- applying
 

@@ -1,7 +1,7 @@
 -- What was tested first, then the pieces.
 use native.Mathlib.Omega.{arith}
 use borrow.Author.Needs.{needs}
-use Rattle.job_steps.specs.Laws.Steps.{judged-next, judged-refused}
+use Rattle.even_rule.specs.Laws.Judged.{judged-next, judged-refused}
 use Rattle.job_run.proofs.judge.Statement.{statement}
 use Rattle.job_run.proofs.judge.Tie as tie
 
