@@ -174,16 +174,15 @@ module _ {site table : List ℕ} {way start : ℕ} (c : ChainCall site table way
 -- ---- one verdict on one input leaves the same
 
 module _ {site table : List ℕ} {way start : ℕ} {chain′ set′ chain″ set″ : List ℕ} {found steps found′ steps′ : ℕ} where
-  abbrev Same : Type 0
-  Same = (found ≡ found′) × (steps ≡ steps′) × (chain′ ≡ chain″) × (set′ ≡ set″)
-
-  same-given : GivesChain site table way start chain′ set′ found steps → GivesChain site table way start chain″ set″ found′ steps′ → Same
+  same-given : GivesChain site table way start chain′ set′ found steps → GivesChain site table way start chain″ set″ found′ steps′
+      → (found ≡ found′) × (steps ≡ steps′) × (chain′ ≡ chain″) × (set′ ≡ set″)
   same-given g h =
       let none : Env = λ v x. false in
       let o = given-one _ _ _ _ _ _ _ _ (g .chain none) (h .chain none) in
       (g .is-found ∙ sym (h .is-found), o .0, o .1, g .no-set ∙ sym (h .no-set))
 
-  same-reached : GivesSet site table way start chain′ set′ found steps → GivesSet site table way start chain″ set″ found′ steps′ → Same
+  same-reached : GivesSet site table way start chain′ set′ found steps → GivesSet site table way start chain″ set″ found′ steps′
+      → (found ≡ found′) × (steps ≡ steps′) × (chain′ ≡ chain″) × (set′ ≡ set″)
   unfolding slots
   same-reached g h = (
     g .not-found .0 ∙ sym (h .not-found .0),

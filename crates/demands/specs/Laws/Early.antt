@@ -42,9 +42,9 @@ item : {m : ℕ} (b : Bool) (n w : ℕ) (v : Verdict) → n ≤ m → UpTo m v �
 item true n w v h k = record { at-most = h }
 item false n w v h k = k
 
-pub after : {m : ℕ} (v w : Verdict) → UpTo m v → UpTo m w → UpTo m (v then w)
-after Accepted w h k = k
-after (Refused n p) w h k = h
+pub up-to-then : {m : ℕ} (v w : Verdict) → UpTo m v → UpTo m w → UpTo m (v then w)
+up-to-then Accepted w h k = k
+up-to-then (Refused n p) w h k = h
 
 pub wider : {v : Verdict} → UpTo 14 v → UpTo 15 v
 wider h = record { at-most = omega (arith, h .at-most) }
@@ -87,7 +87,7 @@ rounds-item limit n = item (below limit n) 15 0 Accepted (omega arith) accepts
 -- ---- listing, and the job: all their items but 1, 15 and 16
 
 pub list-early : (site table : List ℕ) → UpTo 14 (pairVerdict site table)
-list-early site table = after (siteVerdict site) (conditionVerdict table) (site-items site) (condition-items table)
+list-early site table = up-to-then (siteVerdict site) (conditionVerdict table) (site-items site) (condition-items table)
 
 abbrev pub jobItems : (file : List ℕ) → Verdict
 jobItems file = trailerVerdict file then piecesVerdict (siteIn file) (conditionIn file) (sheetIn file)
@@ -96,15 +96,15 @@ pieces-items : (site table sheet : List ℕ) → UpTo 14 (piecesVerdict site tab
 unfolding piecesVerdict goesVerdict lengthVerdict
 pieces-items site table sheet =
     let es = editsOf sheet in
-    after (siteVerdict site) _ (site-items site)
-    (after (conditionVerdict table) _ (condition-items table)
-    (after (sheetVerdict sheet) _ (sheet-items sheet)
-    (after (goesVerdict es (siteOf site)) (lengthVerdict rewriteTable es (tableOf table))
+    up-to-then (siteVerdict site) _ (site-items site)
+    (up-to-then (conditionVerdict table) _ (condition-items table)
+    (up-to-then (sheetVerdict sheet) _ (sheet-items sheet)
+    (up-to-then (goesVerdict es (siteOf site)) (lengthVerdict rewriteTable es (tableOf table))
     (item (not (sheetGoes es (siteOf site))) 13 (stuckAt es (siteOf site)) Accepted (omega arith) accepts)
     (item (tooLong rewriteTable es (tableOf table)) 14 0 Accepted (omega arith) accepts))))
 
 pub job-early : (file : List ℕ) → UpTo 14 (jobItems file)
 unfolding trailerVerdict
 job-early file =
-    after (trailerVerdict file) _ (item (item2 file) 2 0 Accepted (omega arith) accepts)
+    up-to-then (trailerVerdict file) _ (item (item2 file) 2 0 Accepted (omega arith) accepts)
     (pieces-items (siteIn file) (conditionIn file) (sheetIn file))

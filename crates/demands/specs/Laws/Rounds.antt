@@ -42,7 +42,7 @@ use Rattle.demands.specs.Job.{JobCall, jobTable, RunnableFile}
 use Rattle.demands.specs.Rounds.{ListOver, FileMakes, JobOver, Highest, SameList, SameJob, DemandLimitList, DemandLimitJob, DemandHighestList, DemandHighestJob, DemandLargerList, DemandLargerJob, DemandRounds}
 use Rattle.demands.specs.Laws.Accepted.{fits-short, same-makes}
 use Rattle.demands.specs.Laws.Demands.{list-due, list-reason, list-set}
-use Rattle.demands.specs.Laws.Early.{UpTo, after, wider, not-early, rounds-item, list-early, jobItems, job-early}
+use Rattle.demands.specs.Laws.Early.{UpTo, up-to-then, wider, not-early, rounds-item, list-early, jobItems, job-early}
 use Rattle.demands.specs.Laws.Job.{dueOf, runnable-inputs, job-due, job-makes}
 use Rattle.demands.specs.Laws.Same.{same-zeros, site-same, table-same, set-same, classes-same}
 
@@ -212,7 +212,7 @@ unfolding DemandHighestList
 highest-list limit site table set set′ work work′ reason fault f p q r =
     let n = r .made in
     let d = list-limit-first (length set) (length work) limit site table n p q in
-    let u = after (pairVerdict site table) (roundsVerdict limit n) (wider (list-early site table)) (rounds-item limit n) in
+    let u = up-to-then (pairVerdict site table) (roundsVerdict limit n) (wider (list-early site table)) (rounds-item limit n) in
     highest limit u (r .returned .reason-is ∙ ap reasonOf d) (r .returned .fault-is ∙ ap faultOf d)
 
 job-limit-first : (b : Buffers) (limit : ℕ) (file : List ℕ) (a t : ℕ) → Sized b
@@ -226,8 +226,8 @@ highest-job limit file b b′ reason fault after today nodes classes s r =
     let a = r .after-made in
     let t = r .today-made in
     let d = job-limit-first b limit file a t s in
-    let both = after (roundsVerdict limit a) (roundsVerdict limit t) (rounds-item limit a) (rounds-item limit t) in
-    let u = after (jobItems file) (listsVerdict limit a t) (wider (job-early file)) both in
+    let both = up-to-then (roundsVerdict limit a) (roundsVerdict limit t) (rounds-item limit a) (rounds-item limit t) in
+    let u = up-to-then (jobItems file) (listsVerdict limit a t) (wider (job-early file)) both in
     highest limit u (r .returned .reason-is ∙ ap reasonOf d) (r .returned .fault-is ∙ ap faultOf d)
 
 -- ---- a larger limit

@@ -1,0 +1,2 @@
+-- The rows are as said.
+pub mod Said
