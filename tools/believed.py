@@ -21,6 +21,7 @@ ROOTS = [
     "crates/demands/specs/Through.antt",
     "crates/demands/specs/Job.antt",
     "crates/demands/specs/Rounds.antt",
+    "crates/demands/specs/Chain.antt",
     "crates/job_text/specs/Text.antt",
 ]
 

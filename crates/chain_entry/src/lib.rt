@@ -23,10 +23,10 @@ ghost use Rattle.chains.specs.Given.{chainBytes};
 ghost use Rattle.chain_entry.specs.Answer.{verdictOf, foundOf, stepsOf};
 ghost use Rattle.chain_entry.specs.Answered.{ChainJudged, Searched, ChainAnswered};
 
-// The first way that a chain does not take, the one that leads everywhere; and how many slots there are.
-const EVERY: u32 = 16;
+// The ways of a chain are those before the one that leads everywhere.
+const EVERY: u32 = limits::EVERY as u32;
 
-const SLOTS: u32 = 256;
+const SLOTS: u32 = SET_SLOTS as u32;
 
 // The answer: the steps of the chain that is given; that the set is given; or the item that is met and its W.
 pub enum Chaining {
