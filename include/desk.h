@@ -41,7 +41,7 @@
  *
  * Time. The rounds of nested loops multiply, since each loop makes up to DESK_SLOT_COUNT + 1 of them. The limit bounds them, and so the time: a
  * round evaluates each node of its body at most once, and what does not depend on a variable that has changed is not evaluated again, though it
- * counts. On a chain of 256 slots one loop took 0.1 ms, two nested loops, 66,000 rounds, took 21 ms, and sixteen were refused under the highest
+ * counts. On a line of 256 slots one loop took 0.1 ms, two nested loops, 66,000 rounds, took 21 ms, and sixteen were refused under the highest
  * limit after 0.34 s. A round can take far longer: with 1,990 diamonds in the body, on a site with every arc, 0.8 ms, so that the highest limit
  * allows a quarter of an hour. If conditions come from strangers, give a limit that suits your time. desk_chain takes none, and a goal of
  * sixteen nested loops can keep it for ever: list a stranger's goal with desk_list first, under a limit. desk_chain lists it again in about the

@@ -6,6 +6,9 @@ before the end: all walks are taken, step by step, until some of them end at a g
 are too many walks, the least to each slot is kept; where both can be done, both have to agree. The goal is listed by the evaluators of
 lists.py, and so is mu 15 (goal or diamond of variable 15), which has to list the start exactly if there is a chain.
 
+An accepted site has no link at slot 0, and so no chain of more than 254 steps. The crates' search by itself takes any site, and the program
+runs it behind each refusal with 6, with slot 255 as the goal. A chain of all 256 slots stands there.
+
 Behind the pieces of a pair (pieces.py) stand its questions: how many there are, in one byte, and for each a way and a start, in four bytes
 each, low byte first.
 """
@@ -24,6 +27,7 @@ from pieces import nodes_of, with_bytes
 SEED = 254
 WALKS = 3000  # that are kept at once
 QUESTIONS = 255  # behind one pair
+LAST_SLOT = bytes(pieces.table((12, SLOTS - 1, 0, 0)))  # the goal behind a refusal with 6
 
 
 # ---- the answers
@@ -43,8 +47,14 @@ def value(site, nodes):
 
 
 @functools.lru_cache(maxsize=4)
+def opened_site(site):
+    """The site as its bytes have it, whatever item its links meet."""
+    return lists.judged(site)[1] or lists.Site(site)
+
+
+@functools.lru_cache(maxsize=4)
 def goal_of(site, condition):
-    return value(lists.judged(site)[1], nodes_of(condition))
+    return value(opened_site(site), nodes_of(condition))
 
 
 def mu_15(nodes, way):
@@ -58,7 +68,7 @@ def leading(site, condition, way):
     """The slots that mu 15 lists."""
     nodes = mu_15(nodes_of(condition), way)
     assert len(nodes) > NODES or pieces.judge_condition(pieces.table(*nodes)) is None
-    return value(lists.judged(site)[1], nodes)
+    return value(opened_site(site), nodes)
 
 
 def all_chains(site, way, start, goal):
@@ -92,8 +102,8 @@ def least_chains(site, way, start):
 
 
 def searched(site, condition, way, start):
-    """The chain or None, the slots that can be reached, and all chains of fewest steps or None; the inputs meet no item."""
-    opened, goal = lists.judged(site)[1], goal_of(site, condition)
+    """The chain or None, the slots that can be reached, and all chains of fewest steps or None; no item is met, or 6 alone."""
+    opened, goal = opened_site(site), goal_of(site, condition)
     least = least_chains(opened, way, start)
     reached = frozenset(least)
     chain = min((least[s] for s in goal & reached), key=lambda c: (len(c), c), default=None)
@@ -115,17 +125,30 @@ def verdict(site, condition, way, start):
     return refusal
 
 
-def line(site, condition, way, start):
-    refusal = verdict(site, condition, way, start)
-    if refusal:
-        note_refusal(site, condition, way, start, refusal)
-        return "refused %d %d" % refusal
-    chain, reached, every = searched(site, condition, way, start)
-    note_answer(site, condition, way, start, chain, reached, every)
+def shown(chain, reached):
     if chain is None:
         return "set " + lists.hexadecimal(reached)
     assert len(chain) <= CHAIN_BYTES
     return "chain %d %s" % (len(chain) - 1, " ".join(map(str, chain)))
+
+
+def behind(refusal, site, way, start):
+    """What the search by itself gives, behind a refusal with 6."""
+    if refusal[0] != 6 or way >= LINK_WAYS or start >= SLOTS:
+        return ""
+    chain, reached, _ = searched(site, LAST_SLOT, way, start)
+    note_search(site, way, start, chain, reached)
+    return "; " + shown(chain, reached)
+
+
+def line(site, condition, way, start):
+    refusal = verdict(site, condition, way, start)
+    if refusal:
+        note_refusal(site, condition, way, start, refusal)
+        return "refused %d %d" % refusal + behind(refusal, site, way, start)
+    chain, reached, every = searched(site, condition, way, start)
+    note_answer(site, condition, way, start, chain, reached, every)
+    return shown(chain, reached)
 
 
 # ---- what the answers have met: a kind of question or answer that is looked for and never comes is an error
@@ -149,6 +172,18 @@ def note_refusal(site, condition, way, start, refusal):
     met["item 17, start absent"] += not high and start < SLOTS
     met["item 17, start absent and in the goal"] += not high and start in goal_of(site, condition)
     met["item 17, way and start"] += high and not there
+
+
+def note_search(site, way, start, chain, reached):
+    """Apart from the answers, so that none of these stands for a chain or a set that was given."""
+    kinds = [
+        ("search, steps 255, way %d" % way, chain and len(chain) == SLOTS),
+        ("search, on through slot 0", chain and 0 in chain[1:]),
+        ("search, set, start 0" if start == 0 else "search, set with slot 0", not chain and 0 in reached),
+        ("search, set of 255", not chain and len(reached) == SLOTS - 1),
+        ("search, start absent", start not in opened_site(site).present),
+    ]
+    met.update(kind for kind, holds in kinds if holds)
 
 
 def note_answer(site, condition, way, start, chain, reached, every):
@@ -208,6 +243,9 @@ def must_be_met():
     yield from ("several chains", "many chains", "walks not counted", "both ways of searching")
     yield from ("lowest neighbour not taken", "lowest neighbour not taken at each step", "on through goal slots")
     yield from ("lower goal slot not taken", "lowest of the nearest goal slots not taken")
+    # against a functional link no step leads on from slot 0
+    yield from ("search, steps 255, way %d" % way for way in range(LINKS + GENERAL))
+    yield from ("search, on through slot 0", "search, set, start 0", "search, set with slot 0", "search, set of 255", "search, start absent")
 
 
 # ---- sites of one link
@@ -356,6 +394,35 @@ def on_all_slots(rng):
             if way > link and len(pairs) > 1000:
                 continue
             yield linked_site(link, ends, *goals), LABEL, [(way, s) for s in [0, *starts]]
+
+
+def lines_of_all(rng):
+    """Pairs over all slots, with starts. The search has slot 255 as its goal."""
+    line, some = list(range(SLOTS)), (0, 1, 127, 128, 254, 255)
+    for _ in range(GENERAL):
+        yield path(line), (0, 128)
+    yield path(line), some
+    # an arc is missing in the middle, or at the end
+    yield path(line[:128]) + path(line[128:]), some
+    yield path(line[:-1]), some
+    # slot 0 is anywhere; or first, since no functional link can lead to it
+    mixed, others = shuffled(rng, line[:-1]), shuffled(rng, line[1:-1])
+    yield path([*mixed, 255]), (mixed[0], mixed[128], 0, 255)
+    yield path([0, *others, 255]), (0, others[128], 255)
+    # the longest chain comes from slot 0; the other way it comes from 254, and slot 0 is the last before 255
+    yield ring(line), some
+
+
+def through_slot_0(rng):
+    """Item 6 refuses these sites, and the search takes them; along the way and the other way. In the last one only slot 0 is present."""
+    for turn, (pairs, starts) in enumerate(lines_of_all(rng)):
+        for link, way, ends in placed(pairs, turn):
+            # a target of 0 is none
+            if link < GENERAL or all(t for _, t in ends):
+                yield linked_site(link, ends), LABEL, each((way, (way + LINKS) % LINK_WAYS), starts)
+    absent = linked_site(0, path(list(range(SLOTS))))
+    absent[:SET_BYTES] = bytes([1]) + bytes(SET_BYTES - 1)
+    yield absent, LABEL, each((0, LINKS), (0, 128, 255))
 
 
 # ---- all ways and many goals
@@ -579,6 +646,7 @@ def cases(rng):
     yield from random_small(rng)
     yield from random_wide(rng)
     yield from random_functional(rng)
+    yield from through_slot_0(rng)
 
 
 def encode_questions(questions):

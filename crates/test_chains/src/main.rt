@@ -1,14 +1,26 @@
 // Reads pairs of a site and a goal on standard input, each with ways and starts, and prints for each of these what is given: `chain`, its
 // steps and its slots; or `set` and the set, two hexadecimal digits a byte; or `refused N W`. The bytes behind a chain have to be zeros, and
-// so have the work buffer, the one of chain and set that is not given, and both of a refusal. Buffers of other lengths have to be refused
-// with 1 and come back as zeros too. Any buffer that does not is named after the answer.
+// so have the work buffer, the one of chain and set that is not given, and both of a refusal. Behind a refusal with 6 stands what the search by
+// itself gives, since it takes links at slot 0 too. Buffers of other lengths have to be refused with 1 and come back as zeros too. Any buffer
+// that does not is named after the answer.
 use bitset::SET_BYTES;
+use bitset::SET_SLOTS;
 use chain_entry::Chaining;
 use chaining::CHAIN_BYTES;
 use libc::STDOUT_FILENO;
 use listing::WORK_BYTES;
 use pieces::ROOM;
-ghost use Prim.Native.Nat.{_≤_};
+use site::SITE_BYTES;
+ghost use mathlib.Core.Path.{_≡_};
+ghost use Prim.Native.Nat.{_≤_, _<_};
+ghost use lib.ListN.{length};
+ghost use Rattle.bitset.specs.Set.{setSlots};
+ghost use Rattle.limits.specs.Limits.{everyWay};
+ghost use Rattle.site.specs.Layout.{siteBytes};
+
+const EVERY: u32 = limits::EVERY as u32;
+
+const SLOTS: u32 = SET_SLOTS as u32;
 
 fn print_number(word: &[u8], n: u64) {
     io::write_all(STDOUT_FILENO, word);
@@ -63,6 +75,51 @@ fn show(answer: Chaining, chain: &[u8], set: &[u8]) {
     }
 }
 
+fn is_item(answer: Chaining, n: u8) -> bool {
+    match answer {
+        Chaining::Given(_) => false,
+        Chaining::Reached => false,
+        Chaining::Refused(item, w) => (item == n) & (w == 0),
+    }
+}
+
+// What the search answers, as the entry has it: it has 256 for no chain.
+fn found(n: usize) -> Chaining {
+    if n < SET_SLOTS {
+        return Chaining::Given(n as u32);
+    }
+    Chaining::Reached
+}
+
+// Prints what the search gives, behind the refusal. The last slot is the goal.
+fn search(site: &[u8], way: u8, start: usize)
+    requires { ⌜ (length (now site) ≡ siteBytes) × ((way < everyWay) × (start < setSlots)) ⌝ }
+{
+    let mut chain = [170u8; CHAIN_BYTES];
+    let mut set = bitset::single(SET_SLOTS - 1);
+    let mut work = [170u8; WORK_BYTES];
+    let n = chaining::search(site, way, start, &mut chain, &mut set, &mut work);
+    io::write_all(STDOUT_FILENO, b"; ");
+    show(found(n), &chain, &set);
+    pieces::say_left(&work, b" work left");
+}
+
+// An accepted site has no link at slot 0, and so no chain of 255 steps. The search asks only for the length, the way and the start.
+fn search_refused(answer: Chaining, site: &[u8], way: u32, start: u32) {
+    if site.len() != SITE_BYTES {
+        return;
+    }
+    if way >= EVERY {
+        return;
+    }
+    if start >= SLOTS {
+        return;
+    }
+    if is_item(answer, 6) {
+        search(site, way as u8, start as usize);
+    }
+}
+
 fn answer(site: &[u8], cond: &[u8], way: u32, start: u32) {
     let mut chain = [170u8; CHAIN_BYTES];
     let mut set = [170u8; SET_BYTES];
@@ -70,14 +127,7 @@ fn answer(site: &[u8], cond: &[u8], way: u32, start: u32) {
     let r = chain_entry::chain(site, cond, way, start, &mut chain, &mut set, &mut work);
     show(r, &chain, &set);
     pieces::say_left(&work, b" work left");
-}
-
-fn is_item_1(answer: Chaining) -> bool {
-    match answer {
-        Chaining::Given(_) => false,
-        Chaining::Reached => false,
-        Chaining::Refused(item, w) => (item == 1) & (w == 0),
-    }
+    search_refused(r, site, way, start);
 }
 
 // In buffers of other lengths the question has to be refused with 1, and nothing is printed.
@@ -91,7 +141,7 @@ fn expect_item_1(
     work: &mut [u8],
 ) {
     let r = chain_entry::chain(site, cond, way, start, chain, set, work);
-    pieces::say(!is_item_1(r), b" other lengths taken");
+    pieces::say(!is_item(r, 1), b" other lengths taken");
     pieces::say_left(chain, b" chain of another length left");
     pieces::say_left(set, b" set of another length left");
     pieces::say_left(work, b" work of another length left");
