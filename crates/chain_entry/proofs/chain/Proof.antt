@@ -26,8 +26,7 @@ search-requires c κs =
     let told = c .before .before .before .before in
     let j = told .before .before .before .judge in
     let e = told .enum-told .given .1 in
-    let k = accepts (j .ensures) e in
-    (
+    let k = accepts (j .ensures) e in (
       accepted-out _ (k .site-accepted) .0,
       (
         k .table-accepted,

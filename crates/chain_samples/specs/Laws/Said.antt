@@ -61,8 +61,7 @@ module _ (M : Model) (w : Way) (S R : Set) (s : ℕ) where
       let h = below-out s slots (and-l _ _ p) in
       let q = and-r (below s slots) _ p in
       let r = and-r (rests M w S 2) _ q in
-      let u = and-r (not (within M w S 2 s)) _ r in
-      (
+      let u = and-r (not (within M w S 2 s)) _ r in (
         λ C. not-out _ (and-l _ _ r) (some-within M w S _ (λ t l. (λ e. e, λ e. e)) 2 (rests-rest M w S 2 (and-l _ _ q)) s h .0 C),
         reached-same M w s (onward M w s 2) R
             (λ t l. beq-true _ _ (all-out slots (λ t. Bool·beq (onward M w s 2 t) (R t)) (and-r (rests M (reverse w) (λ t. same t s) 2) _ u) t l))

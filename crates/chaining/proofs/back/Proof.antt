@@ -87,8 +87,7 @@ loop-again c =
     let next = stored .before .before .before .before .before .before in
     let member = next .before .before in
     let l = member .before .before .before in
-    let p = l .before .before .before .before .before .pre in
-    (
+    let p = l .before .before .before .before .before .pre in (
       omega arith,
       omega arith,
       omega arith,

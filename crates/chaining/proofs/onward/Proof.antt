@@ -59,8 +59,7 @@ loop-less c = omega arith
 loop-again : tie.Need-loop-again Inv-loop μ-loop
 loop-again c =
     let next = c .before .before .before .before .before in
-    let l = next .before .before in
-    (
+    let l = next .before .before in (
       omega arith,
       omega arith,
       reaching-more (l .loop .inv .2) (l .before .before .reverse .ensures) (omega arith) (omega arith) (next .widened .ensures) (c .added .ensures),

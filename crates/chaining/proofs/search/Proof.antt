@@ -27,8 +27,7 @@ descend-requires c κs =
     let b = zeroed-chain .before .before .before .before in
     let stored = b .before .before .before .before in
     let start = stored .before .before .before .before .before .before .before .before in
-    let p = start .pre in
-    (
+    let p = start .pre in (
       (omega arith, omega (arith, b .back .kept, stored .store .kept, p .1 .1)),
       (
         (omega arith, (omega arith, omega arith)),
@@ -62,8 +61,7 @@ returns c =
     let stored = b .before .before .before .before in
     let start = stored .before .before .before .before .before .before .before .before in
     let p = start .pre in
-    let goal = goal-placed (start .args .set .now) _ _ _ (stored .before .before .load .ensures) (stored .store .ensures) in
-    (
+    let goal = goal-placed (start .args .set .now) _ _ _ (stored .before .before .load .ensures) (stored .store .ensures) in (
       answer-found (start .args .set .now) (λ x h. goal-kept (b .back .ensures) (omega arith) (omega arith) x h ∙ goal x h) (omega arith) (omega arith)
           (away-kept (b .back .ensures) (omega arith) (omega arith)) (d .descend .ensures)
           (zeroed setBytes (start .args .set .now) (zero-set .zero2 .ensures) (p .1 .1 .1 .0)),
@@ -97,8 +95,7 @@ returns-2 c =
     let stored = b .before .before .before .before in
     let start = stored .before .before .before .before .before .before .before .before in
     let p = start .pre in
-    let goal = goal-placed (start .args .set .now) _ _ _ (stored .before .before .load .ensures) (stored .store .ensures) in
-    (
+    let goal = goal-placed (start .args .set .now) _ _ _ (stored .before .before .load .ensures) (stored .store .ensures) in (
       answer-none (start .args .set .now) goal (omega arith) (omega arith) (reached .onward .result) (b .back .ensures)
           (zeroed chainBytes (start .args .chain .now) (zero-chain .zero .ensures) (p .1 .1 .0)) (reached .onward .ensures)
           (omega (arith, wrote .store2 .kept, p .1 .1)) (λ k. c .before .before .before .before .slice-known10 .given k .fits) (wrote .store2 .ensures),

@@ -141,8 +141,7 @@ module _ {site table : List ℕ} {way start : ℕ} (c : ChainCall site table way
         let a = leads-accepted short in
         let x = exactly none in
         let s = listed (inputs .0 .site-accepted) a l h .listed none start (inputs .1 .start-fits) in
-        let same-form = ap formOf (table-back (leadsTable way (tableOf table))) in
-        (
+        let same-form = ap formOf (table-back (leadsTable way (tableOf table))) in (
           list-reason (inputs .0 .site-accepted) a l h,
           (λ f. s .1 (rw same-form (x .0 f)), λ p. x .1 (rw same-form at (s .0 p))),
         )
