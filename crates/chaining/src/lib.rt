@@ -1,11 +1,12 @@
-// The chain behind a place: rounds back from the goal until the start is in, and a walk from the start; or, where there is none, rounds on from
-// the start. A round looks at steps into the slots that the round before has added.
+// The chain behind a place: rounds from the start or from the goal until they meet, and a walk from the start; or, where they do not, the slots
+// that can be reached. The rows of a link are stored by the slot that it leads from, so that a round is cheap from the slots that the link
+// leads from to those that it leads to: along a link from the start, against it from the goal.
 use bitset::SET_BYTES;
 use bitset::SET_SLOTS;
 use buffer::wide;
 ghost use mathlib.Core.Path.{_≡_};
 ghost use mathlib.Core.Bool.{true, _&&_};
-ghost use Prim.Native.Nat.{_<_};
+ghost use Prim.Native.Nat.{_≤_, _<_};
 ghost use lib.ListN.{length, replicate};
 ghost use Rattle.finite.specs.Tests.{same, any, first};
 ghost use Rattle.bitset.specs.Set.{setBytes, setSlots, has};
@@ -16,11 +17,11 @@ ghost use Rattle.site.specs.Layout.{siteBytes};
 ghost use Rattle.site.specs.Site.{siteOf};
 ghost use Rattle.listing_sets.specs.Offsets.{setAt};
 ghost use Rattle.listing.specs.Listed.{workBytes};
-ghost use Rattle.chains.specs.Chain.{ReachedSet};
 ghost use Rattle.chains.specs.Given.{chainBytes};
 ghost use Rattle.chains.specs.Laws.Loops.{reverseNo};
 ghost use Rattle.chains.specs.Laws.Shortest.{Away};
-ghost use Rattle.chaining.specs.Rounds.{Widened, Added, Sets, Backed};
+ghost use Rattle.chains.specs.Laws.Directed.{Layered};
+ghost use Rattle.chaining.specs.Rounds.{Fresh, Spread, Pruned, Searched};
 ghost use Rattle.chaining.specs.Walk.{Walked};
 ghost use Rattle.chaining.specs.Answer.{Answer};
 
@@ -38,83 +39,139 @@ fn reverse(way: u8) -> u8
     way - limits::LINKS
 }
 
-// The set, and the slots from which the way leads into `front`, some of its slots.
-fn widened(site: &[u8], way: u8, set: [u8; SET_BYTES], front: [u8; SET_BYTES]) -> [u8; SET_BYTES]
-    requires { ⌜ length (now site) ≡ siteBytes ⌝ }
-    ensures { λ r. ⌜ Widened (siteOf (now (site .entry))) (wayOf way) set front r ⌝ }
-{
-    let mut found = modal::diamond(site, way, front);
-    set_algebra::union_with(&mut found, &set);
-    found
+// Where rounds end: after n of them, with `set` as the slots that were found. 256 for n says that a round added nothing.
+struct Rounds {
+    n: usize,
+    set: [u8; SET_BYTES],
 }
 
-// The slots of `next` that are not in the set.
-fn added(next: [u8; SET_BYTES], set: [u8; SET_BYTES]) -> [u8; SET_BYTES]
-    ensures { λ r. ⌜ Added next set r ⌝ }
+// The lowest slot of both sets, and 256 where there is none. `set_algebra::meets` would tell whether there is one: see `modal::everywhere`.
+fn lowest_of_both(a: [u8; SET_BYTES], b: [u8; SET_BYTES]) -> usize
+    ensures { λ r. ⌜ r ≡ first slots (λ t. has a t && has b t) ⌝ }
 {
-    let mut others = set;
-    set_algebra::complement(&mut others);
-    let mut new = next;
-    set_algebra::meet_with(&mut new, &others);
-    new
+    let mut both = a;
+    set_algebra::meet_with(&mut both, &b);
+    bitset::lowest(&both)
 }
 
-// Writes the set of the slots within 1, 2, .. steps of the goal, which stands as set 0, each as the set of its number, until the start is in one
-// or a round adds nothing. Answers the steps, or 256.
-fn back(site: &[u8], way: u8, start: usize, work: &mut [u8]) -> usize
+// The slots outside the set from which the way leads into `front`.
+fn fresh(site: &[u8], way: u8, front: [u8; SET_BYTES], set: [u8; SET_BYTES]) -> [u8; SET_BYTES]
     requires { ⌜ length (now site) ≡ siteBytes ⌝ }
-    requires { ⌜ (start < setSlots) × (length (now work) ≡ workBytes) ⌝ }
-    ensures { λ r. ⌜ Backed (siteOf (now (site .entry))) (wayOf way) (setAt (now (work .entry)) 0) start r (now (work .exit)) ⌝ }
+    ensures { λ r. ⌜ Fresh (siteOf (now (site .entry))) (wayOf way) front set r ⌝ }
 {
-    let mut set = listing_sets::load(work, 0);
-    let mut front = set;
+    let mut unseen = set;
+    set_algebra::complement(&mut unseen);
+    modal_among::among(site, way, front, unseen)
+}
+
+// Rounds from `source`: writes the slots from which the way leads to it in 0, 1, .. steps, and no fewer, as the sets from `at` on, until some of
+// these are in `stop` or a round adds nothing.
+fn spread(
+    site: &[u8],
+    way: u8,
+    source: [u8; SET_BYTES],
+    stop: [u8; SET_BYTES],
+    at: usize,
+    work: &mut [u8],
+) -> Rounds
+    requires { ⌜ length (now site) ≡ siteBytes ⌝ }
+    requires { ⌜ (at ≤ setSlots) × (length (now work) ≡ workBytes) ⌝ }
+    ensures { λ r. ⌜ Spread (siteOf (now (site .entry))) (wayOf way) (has source) (has stop) at (r .n) (r .set) (now (work .exit)) ⌝ }
+{
+    let mut set = source;
+    let mut front = source;
     let mut k: usize = 0;
     while k < SET_SLOTS {
-        if bitset::member(&set, start) {
-            return k;
+        listing_sets::store(work, at + k, front);
+        if lowest_of_both(front, stop) < SET_SLOTS {
+            return Rounds { n: k, set: set };
         }
-        let next = widened(site, way, set, front);
-        if set_algebra::equal(&set, &next) {
-            return SET_SLOTS;
+        let next = fresh(site, way, front, set);
+        if bitset::lowest(&next) == SET_SLOTS {
+            return Rounds {
+                n: SET_SLOTS,
+                set: set,
+            };
         }
+        set_algebra::union_with(&mut set, &next);
+        front = next;
         k += 1;
-        listing_sets::store(work, k, next);
-        front = added(next, set);
-        set = next;
     }
-    SET_SLOTS
+    Rounds {
+        n: SET_SLOTS,
+        set: set,
+    }
 }
 
-// The slots that can be reached from the start.
-fn onward(site: &[u8], way: u8, start: usize) -> [u8; SET_BYTES]
+// From the last front back to the first, the slots that lead on to the goal: writes the goal as set 0, and as set j + 1 those slots of front n - 1 - j
+// from which the way leads into set j. The fronts, of the slots that are 0 to n steps from the start, stand as the sets from 256 on.
+fn prune(site: &[u8], way: u8, goal: [u8; SET_BYTES], n: usize, work: &mut [u8])
     requires { ⌜ length (now site) ≡ siteBytes ⌝ }
-    requires { ⌜ (way < everyWay) × (start < setSlots) ⌝ }
-    ensures { λ r. ⌜ ReachedSet (siteOf (now (site .entry))) (wayOf way) start (has r) ⌝ }
+    requires { ⌜ (n < setSlots) × (length (now work) ≡ workBytes) ⌝ }
+    ensures { λ _. ⌜ Pruned (siteOf (now (site .entry))) (wayOf way) (has goal) n (now (work .entry)) (now (work .exit)) n ⌝ }
+{
+    listing_sets::store(work, 0, goal);
+    let mut layer = goal;
+    for j in 0..n {
+        let front = listing_sets::load(work, SET_SLOTS + n - 1 - j);
+        let next = modal_among::among(site, way, layer, front);
+        listing_sets::store(work, j + 1, next);
+        layer = next;
+    }
+}
+
+// The search for a way along a link. The rows are those of the slots that a link leads from, so that it goes on from the start, to the goal.
+fn from_start(site: &[u8], way: u8, start: usize, goal: [u8; SET_BYTES], work: &mut [u8]) -> Rounds
+    requires { ⌜ length (now site) ≡ siteBytes ⌝ }
+    requires { ⌜ (way < everyWay) × ((start < setSlots) × (length (now work) ≡ workBytes)) ⌝ }
+    ensures { λ r. ⌜ Searched (siteOf (now (site .entry))) (wayOf way) (has goal) start (r .n) (r .set) (now (work .exit)) ⌝ }
 {
     let other = reverse(way);
-    let mut set = bitset::single(start);
-    let mut front = set;
-    let mut k: usize = 0;
-    while k < SET_SLOTS - 1 {
-        let next = widened(site, other, set, front);
-        if set_algebra::equal(&set, &next) {
-            return set;
-        }
-        front = added(next, set);
-        set = next;
-        k += 1;
+    let one = bitset::single(start);
+    let on = spread(site, other, one, goal, SET_SLOTS, work);
+    let n = on.n;
+    if SET_SLOTS <= n {
+        return on;
     }
-    set
+    prune(site, way, goal, n, work);
+    on
+}
+
+// The search for a way against a link: back from the goal, to the start. Where that is not found, the slots that can be reached.
+fn from_goal(site: &[u8], way: u8, start: usize, goal: [u8; SET_BYTES], work: &mut [u8]) -> Rounds
+    requires { ⌜ length (now site) ≡ siteBytes ⌝ }
+    requires { ⌜ (way < everyWay) × ((start < setSlots) × (length (now work) ≡ workBytes)) ⌝ }
+    ensures { λ r. ⌜ Searched (siteOf (now (site .entry))) (wayOf way) (has goal) start (r .n) (r .set) (now (work .exit)) ⌝ }
+{
+    let one = bitset::single(start);
+    let back = spread(site, way, goal, one, 0, work);
+    if back.n < SET_SLOTS {
+        return back;
+    }
+    let other = reverse(way);
+    let nowhere = [0u8; SET_BYTES];
+    spread(site, other, one, nowhere, 0, work)
+}
+
+// The steps to the goal, with a set for each number of steps that are left; or the slots that can be reached.
+fn layers(site: &[u8], way: u8, start: usize, goal: [u8; SET_BYTES], work: &mut [u8]) -> Rounds
+    requires { ⌜ length (now site) ≡ siteBytes ⌝ }
+    requires { ⌜ (way < everyWay) × ((start < setSlots) × (length (now work) ≡ workBytes)) ⌝ }
+    ensures { λ r. ⌜ Searched (siteOf (now (site .entry))) (wayOf way) (has goal) start (r .n) (r .set) (now (work .exit)) ⌝ }
+{
+    if way < limits::LINKS {
+        return from_start(site, way, start, goal, work);
+    }
+    from_goal(site, way, start, goal, work)
 }
 
 // The lowest slot of the set to which a step leads from slot x, and 256 where there is none; `other` is the way back.
 fn nearest(site: &[u8], other: u8, x: usize, set: [u8; SET_BYTES]) -> usize
     requires { ⌜ (length (now site) ≡ siteBytes) × (x < setSlots) ⌝ }
-    ensures { λ r. ⌜ r ≡ first slots (λ t. any slots (λ u. step (siteOf (now (site .entry))) (wayOf other) t u && same u x) && has set t) ⌝ }
+    ensures { λ r. ⌜ r ≡ first slots (λ t. has set t && any slots (λ u. step (siteOf (now (site .entry))) (wayOf other) t u && same u x)) ⌝ }
 {
     let one = bitset::single(x);
-    let mut row = modal::diamond(site, other, one);
-    set_algebra::meet_with(&mut row, &set);
+    let row = modal_among::among(site, other, one, set);
     bitset::lowest(&row)
 }
 
@@ -124,7 +181,7 @@ fn descend(site: &[u8], way: u8, start: usize, n: usize, chain: &mut [u8], work:
     requires { ⌜ (way < everyWay) × ((start < setSlots) × (n < setSlots)) ⌝ }
     requires { ⌜ now chain ≡ replicate chainBytes 0 ⌝ }
     requires { ⌜ Away (siteOf (now site)) (wayOf way) (setAt (now work) 0) n start ⌝ }
-    requires { ⌜ Sets (siteOf (now site)) (wayOf way) (setAt (now work) 0) (now work) n ⌝ }
+    requires { ⌜ Layered (siteOf (now site)) (wayOf way) (setAt (now work) 0) start n (setAt (now work)) ⌝ }
     ensures { λ _. ⌜ Walked (siteOf (now (site .entry))) (wayOf way) (setAt (now (work .entry)) 0) start n (now (chain .exit)) ⌝ }
 {
     let other = reverse(way);
@@ -153,8 +210,8 @@ pub fn search(
     ensures { λ _. ⌜ now (work .exit) ≡ replicate workBytes 0 ⌝ }
 {
     let goal = listing_sets::load(set, 0);
-    listing_sets::store(work, 0, goal);
-    let n = back(site, way, start, work);
+    let found = layers(site, way, start, goal, work);
+    let n = found.n;
     buffer::zero(chain);
     if n < SET_SLOTS {
         descend(site, way, start, n, chain, work);
@@ -162,7 +219,7 @@ pub fn search(
         buffer::zero(work);
         return n;
     }
-    let reached = onward(site, way, start);
+    let reached = found.set;
     listing_sets::store(set, 0, reached);
     buffer::zero(work);
     n

@@ -1,7 +1,6 @@
 -- The first i steps are made.
 use Prim.Native.Nat.{_-_, _≤_}
 use native.Mathlib.Omega.{arith}
-use Rattle.bitset.specs.Set.{setSlots}
 use Rattle.semantics.specs.Table.{wayOf}
 use Rattle.site.specs.Site.{siteOf}
 use Rattle.listing_sets.specs.Offsets.{setAt}
@@ -56,8 +55,8 @@ cast-chain-2 c =
     let l = loaded .before .before in
     let start = l .before .before .before .before .before in
     let next =
-    walk-next (start .args .way) _ (l .loop .i) _ _ (l .loop .chain) (omega arith) (l .before .reverse .ensures) (start .pre .1 .1 .1 .1) (omega arith)
-    (loaded .load .ensures) (c .before .wide .ensures .0) (omega arith) (c .nearest .ensures) in
+    walk-next (start .args .way) _ (l .loop .i) _ _ (l .loop .chain) (omega arith) (l .before .reverse .ensures) (start .pre .1 .1 .1 .1)
+    (l .loop .inv .1) (omega arith) (loaded .load .ensures) (c .before .wide .ensures .0) (omega arith) (c .nearest .ensures) in
     omega (arith, walk-small (l .loop .inv .1) (omega arith) next)
 
 add-chain : tie.Need-add-chain Inv-loop μ-loop
@@ -78,9 +77,9 @@ loop-again c =
     let l = loaded .before .before in
     let start = l .before .before .before .before .before in
     let next =
-    walk-next (start .args .way) _ (l .loop .i) _ _ (l .loop .chain) (omega arith) (l .before .reverse .ensures) (start .pre .1 .1 .1 .1) (omega arith)
-    (loaded .load .ensures) (c .before .wide .ensures .0) (omega arith) (c .nearest .ensures) in
-    (omega arith, walk-more (l .loop .inv .1) (omega arith) next (omega arith))
+    walk-next (start .args .way) _ (l .loop .i) _ _ (l .loop .chain) (omega arith) (l .before .reverse .ensures) (start .pre .1 .1 .1 .1)
+    (l .loop .inv .1) (omega arith) (loaded .load .ensures) (c .before .wide .ensures .0) (omega arith) (c .nearest .ensures) in
+    (omega arith, walk-more (l .loop .inv .1) (omega arith) next (omega (arith, c .before .wide .ensures .0)) (omega arith))
 
 same-length : tie.Need-same-length Inv-loop μ-loop
 same-length c =

@@ -1,22 +1,18 @@
--- The rounds back, and then the walk or the set that can be reached.
-use mathlib.Core.Path.{_∙_}
+-- The layers, and then the walk; or the set that can be reached.
 use native.Mathlib.Omega.{arith}
 use borrow.Author.Needs.{needs}
 use Rattle.bitset.specs.Set.{setBytes}
 use Rattle.listing.specs.Listed.{workBytes}
 use Rattle.chains.specs.Given.{chainBytes}
-use Rattle.chaining.specs.Laws.Answer.{zeroed, goal-placed, goal-kept, away-kept, sets-kept, answer-found, answer-none}
+use Rattle.chaining.specs.Laws.Answer.{zeroed, goal-loaded, away-kept, layers-kept, answer-found, answer-none}
 use Rattle.chaining.proofs.search.Statement.{statement}
 use Rattle.chaining.proofs.search.Tie as tie
 
 load-requires : tie.Need-load-requires
 load-requires c κs = search needs
 
-store-requires : tie.Need-store-requires
-store-requires c κs = search needs
-
-back-requires : tie.Need-back-requires
-back-requires c κs = search needs
+layers-requires : tie.Need-layers-requires
+layers-requires c κs = search needs
 
 zero-requires : tie.Need-zero-requires
 zero-requires c κs = search needs
@@ -25,15 +21,14 @@ descend-requires : tie.Need-descend-requires
 descend-requires c κs =
     let zeroed-chain = c .before .before .before .before .before in
     let b = zeroed-chain .before .before .before .before in
-    let stored = b .before .before .before .before in
-    let start = stored .before .before .before .before .before .before .before .before in
+    let start = b .before .before .before .before .before .before .before .before in
     let p = start .pre in (
-      (omega arith, omega (arith, b .back .kept, stored .store .kept, p .1 .1)),
+      (omega arith, omega (arith, b .layers .kept, p .1 .1)),
       (
         (omega arith, (omega arith, omega arith)),
         (
           zeroed chainBytes (start .args .chain .now) (zeroed-chain .zero .ensures) (p .1 .1 .0),
-          (away-kept (b .back .ensures) (omega arith) (omega arith), sets-kept (b .back .ensures) (omega arith) (omega arith)),
+          (away-kept (b .layers .ensures) (omega arith) (omega arith), layers-kept (b .layers .ensures) (omega arith) (omega arith)),
         ),
       ),
     )
@@ -58,21 +53,15 @@ returns c =
     let zero-set = c .before .before .before .before .before .before in
     let d = zero-set .before .before .before .before in
     let b = d .before .before .before .before .before .before .before .before .before .before in
-    let stored = b .before .before .before .before in
-    let start = stored .before .before .before .before .before .before .before .before in
-    let p = start .pre in
-    let goal = goal-placed (start .args .set .now) _ _ _ (stored .before .before .load .ensures) (stored .store .ensures) in (
-      answer-found (start .args .set .now) (λ x h. goal-kept (b .back .ensures) (omega arith) (omega arith) x h ∙ goal x h) (omega arith) (omega arith)
-          (away-kept (b .back .ensures) (omega arith) (omega arith)) (d .descend .ensures)
+    let start = b .before .before .before .before .before .before .before .before in
+    let p = start .pre in (
+      answer-found (b .layers .ensures) (omega arith) (omega arith) (start .args .set .now) (goal-loaded _ _ (b .before .before .load .ensures)) (d .descend .ensures)
           (zeroed setBytes (start .args .set .now) (zero-set .zero2 .ensures) (p .1 .1 .1 .0)),
-      zeroed workBytes (b .back .last .1 .1 .1 .0) (c .before .before .zero3 .ensures) (omega (arith, b .back .kept, stored .store .kept, p .1 .1)),
+      zeroed workBytes (b .layers .last .1 .1 .1 .1 .0) (c .before .before .zero3 .ensures) (omega (arith, b .layers .kept, p .1 .1)),
     )
 
-onward-requires : tie.Need-onward-requires
-onward-requires c κs = search needs
-
-store-requires-2 : tie.Need-store-requires-2
-store-requires-2 c κs = search needs
+store-requires : tie.Need-store-requires
+store-requires c κs = search needs
 
 zero-requires-4 : tie.Need-zero-requires-4
 zero-requires-4 c κs = search needs
@@ -89,17 +78,14 @@ same-length-6 c = search needs
 returns-2 : tie.Need-returns-2
 returns-2 c =
     let wrote = c .before .before .before .before .before .before in
-    let reached = wrote .before .before in
-    let zero-chain = reached .before .before .before .before in
+    let zero-chain = wrote .before .before .before .before .before .before in
     let b = zero-chain .before .before .before .before in
-    let stored = b .before .before .before .before in
-    let start = stored .before .before .before .before .before .before .before .before in
-    let p = start .pre in
-    let goal = goal-placed (start .args .set .now) _ _ _ (stored .before .before .load .ensures) (stored .store .ensures) in (
-      answer-none (start .args .set .now) goal (omega arith) (omega arith) (reached .onward .result) (b .back .ensures)
-          (zeroed chainBytes (start .args .chain .now) (zero-chain .zero .ensures) (p .1 .1 .0)) (reached .onward .ensures)
-          (omega (arith, wrote .store2 .kept, p .1 .1)) (λ k. c .before .before .before .before .slice-known10 .given k .fits) (wrote .store2 .ensures),
-      zeroed workBytes (b .back .last .1 .1 .1 .0) (c .before .before .zero4 .ensures) (omega (arith, b .back .kept, stored .store .kept, p .1 .1)),
+    let start = b .before .before .before .before .before .before .before .before in
+    let p = start .pre in (
+      answer-none (b .layers .ensures) (omega arith) (start .args .set .now) (goal-loaded _ _ (b .before .before .load .ensures))
+          (zeroed chainBytes (start .args .chain .now) (zero-chain .zero .ensures) (p .1 .1 .0))
+          (omega (arith, wrote .store .kept, p .1 .1)) (λ k. c .before .before .before .before .slice-known9 .given k .fits) (wrote .store .ensures),
+      zeroed workBytes (b .layers .last .1 .1 .1 .1 .0) (c .before .before .zero4 .ensures) (omega (arith, b .layers .kept, p .1 .1)),
     )
 
 pub search-spec : {M : Type 1} → statement M
@@ -107,8 +93,7 @@ search-spec =
     tie.close
     (tie.spec
     load-requires
-    store-requires
-    back-requires
+    layers-requires
     zero-requires
     descend-requires
     zero-requires-2
@@ -117,8 +102,7 @@ search-spec =
     same-length-2
     same-length-3
     returns
-    onward-requires
-    store-requires-2
+    store-requires
     zero-requires-4
     same-length-4
     same-length-5

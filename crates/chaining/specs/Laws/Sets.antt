@@ -1,25 +1,37 @@
 -- Sets of slots, and the way back, in the code's terms.
 use mathlib.Core.Path.{_≡_, _∙_, ap}
 use mathlib.Core.List.{List}
-use mathlib.Core.Bool.{not, _&&_, _||_, or-comm}
+use mathlib.Core.Bool.{Bool, not, _&&_}
 use Prim.Native.Nat.{ℕ, _+_, _-_, _≤_, _<_}
-use Rattle.finite.specs.Laws.Below.{below-in, below-not}
-use Rattle.bitset.specs.Set.{has, Is}
-use Rattle.limits.specs.Limits.{links}
+use Rattle.finite.specs.Tests.{same, any, first}
+use Rattle.finite.specs.Laws.Below.{below-in, below-not, any-cong}
+use Rattle.finite.specs.Laws.First.{first-cong}
+use Rattle.bitset.specs.Set.{setSlots, has, Is}
+use Rattle.limits.specs.Limits.{slots, links}
 use Rattle.semantics.specs.Form.{Way}
-use Rattle.semantics.specs.Holds.{Model}
-use Rattle.chains.specs.Laws.Frontier.{into}
+use Rattle.semantics.specs.Holds.{Model, step}
+use Rattle.modal_among.specs.Among.{Among}
+use Rattle.chains.specs.Laws.Directed.{into}
 use Rattle.chains.specs.Laws.Loops.{reverseNo}
-use Rattle.chaining.specs.Rounds.{Widened, Added}
+use Rattle.chaining.specs.Rounds.{Fresh}
 
--- the slots found united with the set
-pub united : (M : Model) (w : Way) (set front found next : List ℕ) → Is found (into M w (has front)) → Is next (λ s. has found s || has set s)
-    → Widened M w set front next
-united M w set front found next e u = record { holds = λ s h. u s h ∙ or-comm (has found s) (has set s) ∙ ap (_||_ (has set s)) (e s h) }
+-- among the slots that are not in the set
+pub fresh-is : {M : Model} {w : Way} {front unseen r : List ℕ} (set : List ℕ) → Is unseen (λ s. not (has set s)) → Among M w front unseen r → Fresh M w front set r
+unfolding into
+fresh-is {M} {w} {front} set u a = record { holds = λ x h. a .holds x h ∙ ap (λ (b : Bool). b && into M w (has front) x) (u x h) }
 
--- a set met with the complement of another
-pub without : (next set others new : List ℕ) → Is others (λ s. not (has set s)) → Is new (λ s. has next s && has others s) → Added next set new
-without next set others new e m = record { holds = λ s h. m s h ∙ ap (_&&_ (has next s)) (e s h) }
+-- the lowest slot of two sets that were met
+pub lowest-met : (a b both : List ℕ) {r : ℕ} → Is both (λ s. has a s && has b s) → r ≡ first setSlots (has both)
+    → r ≡ first slots (λ t. has a t && has b t)
+unfolding slots
+lowest-met a b both m e = e ∙ first-cong setSlots _ _ m
+
+-- the lowest slot of D from which a step leads to x
+pub nearest-is : {M : Model} {w : Way} {one D row : List ℕ} (x : ℕ) → Is one (λ t. same t x) → Among M w one D row
+    → {r : ℕ} → r ≡ first setSlots (has row) → r ≡ first slots (λ t. has D t && any slots (λ u. step M w t u && same u x))
+unfolding slots
+nearest-is {M} {w} {one} {D} x e a q =
+    q ∙ first-cong setSlots _ _ (λ t l. a .holds t l ∙ ap (_&&_ (has D t)) (any-cong setSlots _ _ (λ u k. ap (_&&_ (step M w t u)) (e u k))))
 
 pub reverse-low : (p : ℕ) → p < links → p + links ≡ reverseNo p
 unfolding reverseNo

@@ -2,7 +2,7 @@
 use mathlib.Core.Path.{_≡_, refl, sym, _∙_, ap, subst}
 use mathlib.Core.Logic.{_↔_}
 use mathlib.Core.List.{List}
-use mathlib.Core.Bool.{Bool, true, _&&_}
+use mathlib.Core.Bool.{true, _&&_}
 use Prim.Native.Nat.{ℕ, zero, suc, _+_, _-_, _≤_, _<_}
 use native.Mathlib.Numerals.{add-one}
 use native.Mathlib.Omega.{arith}
@@ -10,28 +10,20 @@ use lib.ListN.{length, getD, set, replicate, length-set, length-replicate}
 use lib.Seq.{getD-set-same, getD-set-other}
 use Rattle.finite.specs.Tests.{same, any, first}
 use Rattle.finite.specs.Laws.Bools.{either}
-use Rattle.finite.specs.Laws.Below.{equal?, any-cong}
-use Rattle.finite.specs.Laws.First.{first-cong}
-use Rattle.bitset.specs.Set.{setSlots, has, Is}
+use Rattle.finite.specs.Laws.Below.{equal?, same-refl}
+use Rattle.bitset.specs.Set.{setSlots, has}
 use Rattle.limits.specs.Limits.{slots, everyWay}
 use Rattle.semantics.specs.Form.{Way}
 use Rattle.semantics.specs.Holds.{Set, Model, step}
 use Rattle.semantics.specs.Table.{wayOf}
 use Rattle.semantics.specs.Laws.Agree.{_≐_}
-use Rattle.listing_sets.specs.Offsets.{setAt}
 use Rattle.chains.specs.Given.{chainBytes, ChainGiven}
 use Rattle.chains.specs.Laws.Shortest.{Away, next, next-is, Descends, descends-shortest}
+use Rattle.chains.specs.Laws.Layers.{within-here}
+use Rattle.chains.specs.Laws.Reached.{onward}
+use Rattle.chains.specs.Laws.Directed.{Layered, onward-step}
 use Rattle.chains.specs.Laws.Loops.{reverseNo, way-reverse, next-lowest}
-use Rattle.chaining.specs.Rounds.{Sets}
 use Rattle.chaining.specs.Walk.{Walking, Walked}
-
--- the lowest slot of a row that is met with a set
-pub nearest-is : (M : Model) (w : Way) (x : ℕ) (one row meet D : List ℕ) → Is one (λ t. same t x)
-    → Is row (λ t. any slots (λ u. step M w t u && has one u)) → Is meet (λ t. has row t && has D t)
-    → {r : ℕ} → r ≡ first setSlots (has meet) → r ≡ first slots (λ t. any slots (λ u. step M w t u && same u x) && has D t)
-unfolding slots
-nearest-is M w x one row meet D e f g q =
-    q ∙ first-cong setSlots _ _ (λ t l. g t l ∙ ap (λ (b : Bool). b && has D t) (f t l ∙ any-cong setSlots _ _ (λ u k. ap (_&&_ (step M w t u)) (e u k))))
 
 zero-at : (n j : ℕ) → _≡_ {A = ℕ} (getD (replicate n 0) j 0) 0
 zero-at zero j = refl
@@ -43,6 +35,7 @@ zeros-length e = ap length e ∙ length-replicate {A = ℕ} chainBytes 0
 
 pub walk-start : {M : Model} {w : Way} {S : Set} {s n : ℕ} {chain : List ℕ} → chain ≡ replicate chainBytes 0 → Away M w S n s
     → Walking M w S s n (set chain 0 s) 0
+unfolding onward
 walk-start {s = s} {n = n} {chain = chain} e a =
     let len = zeros-length e in
     let whole : n - 0 ≡ n = omega arith in
@@ -51,6 +44,7 @@ walk-start {s = s} {n = n} {chain = chain} e a =
       first-slot = getD-set-same chain 0 s 0 (omega arith);
       goes = λ j l. absurd (omega arith);
       left = rw (whole, getD-set-same chain 0 s 0 (omega arith)) a;
+      on-track = within-here _ _ _ 0 _ (rw (getD-set-same chain 0 s 0 (omega arith)) (same-refl s));
       zeros = λ j l. getD-set-other chain 0 j s 0 (λ q. omega arith) ∙ ap (λ (b : List ℕ). getD b j 0) e ∙ zero-at chainBytes j;
     }
 
@@ -71,9 +65,9 @@ module _ {M : Model} {w : Way} {S : Set} {s n : ℕ} {chain : List ℕ} {i : ℕ
     unfolding slots nextSlot
     walk-small = rw e (nextSlot-is .0)
 
-    pub walk-more : n < setSlots → Walking M w S s n (set chain (i + 1) t) (i + 1)
-    unfolding nextSlot
-    walk-more small =
+    pub walk-more : getD chain i 0 < setSlots → n < setSlots → Walking M w S s n (set chain (i + 1) t) (i + 1)
+    unfolding nextSlot slots
+    walk-more here small =
         let room : i + 1 < length chain = omega (arith, k .size) in
         let kept : (j : ℕ) → j < i + 1 → getD (set chain (i + 1) t) j 0 ≡ getD chain j 0 = λ j q. getD-set-other chain (i + 1) j t 0 (λ z. omega arith) in
         let new : getD (set chain (i + 1) t) (i + 1) 0 ≡ t = getD-set-same chain (i + 1) t 0 room in
@@ -90,21 +84,26 @@ module _ {M : Model} {w : Way} {S : Set} {s n : ℕ} {chain : List ℕ} {i : ℕ
               getD-set-other chain (i + 1) (suc j) t 0 (λ y. omega arith)
               ∙ k .goes j (omega arith) ∙ sym (ap (next M w S (n - suc j)) (kept j q)));
           left = rw (new, index, e) (nextSlot-is .2);
+          on-track = rw (new, e, add-one i) (onward-step M w s i (getD chain i 0) nextSlot here (nextSlot-is .1) (k .on-track));
           zeros = λ j q. getD-set-other chain (i + 1) j t 0 (λ z. omega arith) ∙ k .zeros j (omega arith);
         }
 
 -- the slot that the code finds is the next one: `other` is the way back, and D the set of the steps that are left
-pub walk-next : {M : Model} {S : Set} {n : ℕ} {work : List ℕ} (way other i x : ℕ) (D chain : List ℕ) → way < everyWay → other ≡ reverseNo way
-    → Sets M (wayOf way) S work n → i < n → has D ≐ setAt work (n - 1 - i) → x ≡ getD chain i 0 → x < setSlots
-    → {t : ℕ} → t ≡ first slots (λ y. any slots (λ u. step M (wayOf other) y u && same u x) && has D y)
+pub walk-next : {M : Model} {S : Set} {s n : ℕ} {T : ℕ → Set} (way other i x : ℕ) (D chain : List ℕ) → way < everyWay → other ≡ reverseNo way
+    → Layered M (wayOf way) S s n T → Walking M (wayOf way) S s n chain i → i < n → has D ≐ T (n - 1 - i) → x ≡ getD chain i 0 → x < setSlots
+    → {t : ℕ} → t ≡ first slots (λ y. has D y && any slots (λ u. step M (wayOf other) y u && same u x))
     → t ≡ next M (wayOf way) S (n - suc i) (getD chain i 0)
 unfolding slots
-walk-next {M} {S} {n} {work} way other i x D chain h o sets l d g b f =
+walk-next {M} {S} {s} {n} {T = T} way other i x D chain h o layers k l d g b f =
     let w = ap wayOf o ∙ way-reverse way h in
     let index : n - 1 - i ≡ n - suc i = omega arith in
+    let back : n - suc (n - suc i) ≡ i = omega arith in
     (rw w at f)
-    ∙ next-lowest M (wayOf way) S (n - suc i) x _ (has D) b
-    (λ y q. d y q ∙ ap (λ (j : ℕ). setAt work j y) index ∙ sets .at (n - suc i) (omega arith) y q) (λ y q. refl)
+    ∙ next-lowest M (wayOf way) S (n - suc i) x (has D) b
+    (λ y q p.
+    d y q
+    ∙ ap (λ (j : ℕ). T j y) index
+    ∙ layers .agrees (n - suc i) x y (omega arith) b q (rw (back, g) (k .on-track)) p)
     ∙ ap (next M (wayOf way) S (n - suc i)) g
 
 pub walk-done : {M : Model} {w : Way} {S : Set} {s n : ℕ} {chain : List ℕ} {i : ℕ} → Walking M w S s n chain i → i ≤ n → n ≤ i
