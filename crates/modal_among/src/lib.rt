@@ -41,18 +41,44 @@ fn targets(site: &[u8], m: usize, s: usize) -> [u8; SET_BYTES]
     row
 }
 
+// Does link m lead from slot s into the set, by the slots that it leads to?
+fn row_leads(site: &[u8], m: usize, s: usize, set: &[u8]) -> bool
+    requires { ⌜ (length (now site) ≡ siteBytes) × ((m < links) × ((s < setSlots) × (length (now set) ≡ setBytes))) ⌝ }
+    ensures { λ r. ⌜ r ≡ any slots (λ t. siteOf (now (site .entry)) .link m s t && has (now (set .entry)) t) ⌝ }
+{
+    let mut both = targets(site, m, s);
+    set_algebra::meet_with(&mut both, set);
+    if bitset::lowest(&both) == SET_SLOTS {
+        return false;
+    }
+    true
+}
+
+// Does link m lead from slot s into the set? A functional link has one target at most, so that no set of targets is made.
+fn leads(site: &[u8], m: usize, s: usize, set: &[u8]) -> bool
+    requires { ⌜ (length (now site) ≡ siteBytes) × ((m < links) × ((s < setSlots) × (length (now set) ≡ setBytes))) ⌝ }
+    ensures { λ r. ⌜ r ≡ any slots (λ t. siteOf (now (site .entry)) .link m s t && has (now (set .entry)) t) ⌝ }
+{
+    if m < GENERAL_LINKS {
+        return row_leads(site, m, s, set);
+    }
+    let t = site::target(site, m, s);
+    if t == 0 {
+        return false;
+    }
+    bitset::member(set, t)
+}
+
 // Puts slot s into `found` if link m leads from it into the set.
 fn add_if_leading(site: &[u8], m: usize, s: usize, set: &[u8], found: &mut [u8])
     requires { ⌜ (length (now site) ≡ siteBytes) × ((m < links) × (s < setSlots)) ⌝ }
     requires { ⌜ (length (now set) ≡ setBytes) × (length (now found) ≡ setBytes) ⌝ }
     ensures { λ _. ⌜ Is (now (found .exit)) (λ k. has (now (found .entry)) k || (same k s && any slots (λ t. siteOf (now (site .entry)) .link m s t && has (now (set .entry)) t))) ⌝ }
 {
-    let mut both = targets(site, m, s);
-    set_algebra::meet_with(&mut both, set);
-    if bitset::lowest(&both) == SET_SLOTS {
+    if leads(site, m, s, set) {
+        bitset::insert(found, s);
         return;
     }
-    bitset::insert(found, s);
 }
 
 // What slot s adds to `found`: along a link itself, if the link leads from it into the set; against it the slots that it leads to.

@@ -1,36 +1,15 @@
--- By whether the slots that the link leads to meet the set.
+-- By whether the link leads from the slot into the set.
+use mathlib.Core.Path.{sym, _∙_}
 use native.Mathlib.Omega.{arith}
-use borrow.Author.Needs.{needs}
 use Rattle.finite.specs.Tests.{same}
 use Rattle.bitset.specs.Laws.Slot.{has-inserted}
 use Rattle.modal.specs.Laws.Gather.{puts-if-in, puts-none-if-out}
-use Rattle.site.specs.Site.{siteOf}
-use Rattle.modal_among.specs.Laws.Gather.{leads, leads-not}
+use borrow.Author.Needs.{needs}
 use Rattle.modal_among.proofs.add_if_leading.Statement.{statement}
 use Rattle.modal_among.proofs.add_if_leading.Tie as tie
 
-targets-requires : tie.Need-targets-requires
-targets-requires c κs = search needs
-
-slice-aggregate-meet-with : tie.Need-slice-aggregate-meet-with
-slice-aggregate-meet-with c = search needs
-
-meet-with-requires : tie.Need-meet-with-requires
-meet-with-requires c κs = search needs
-
-slice-aggregate-lowest : tie.Need-slice-aggregate-lowest
-slice-aggregate-lowest c = search needs
-
-lowest-requires : tie.Need-lowest-requires
-lowest-requires c κs = search needs
-
-returns : tie.Need-returns
-returns c =
-    let found = c .before .before .before .before .before .before in
-    let a = found .before .before .before .before .args in
-    puts-none-if-out (a .found .now) (λ k. same k (a .s)) _
-    (leads-not _ (a .set .now) _ (siteOf (a .site .now) .link (a .m) (a .s)) (found .targets .ensures) (c .before .before .before .before .meet-with .ensures)
-    (c .before .lowest .ensures) (c .if1 .taken))
+leads-requires : tie.Need-leads-requires
+leads-requires c κs = search needs
 
 insert-requires : tie.Need-insert-requires
 insert-requires c κs = search needs
@@ -38,27 +17,20 @@ insert-requires c κs = search needs
 same-length : tie.Need-same-length
 same-length c = search needs
 
+returns : tie.Need-returns
+returns c =
+    let test = c .before .before .before .before in
+    let l = test .before in
+    let a = l .before .before .before .before .args in
+    rw (c .before .before .insert .ensures)
+    (puts-if-in (a .found .now) _ (λ k. same k (a .s)) _ (sym (l .leads .ensures) ∙ test .if1 .taken) (λ k h. has-inserted _ (a .s) k (omega arith)))
+
 returns-2 : tie.Need-returns-2
 returns-2 c =
-    let test = c .before .before .before .before .before in
-    let found = test .before .before .before .before .before in
-    let a = found .before .before .before .before .args in
-    rw (c .before .before .insert .ensures)
-    (puts-if-in (a .found .now) _ (λ k. same k (a .s)) _
-    (leads _ (a .set .now) _ (siteOf (a .site .now) .link (a .m) (a .s)) (found .targets .ensures) (test .before .before .before .meet-with .ensures) (test .lowest .ensures)
-    (c .before .before .before .before .if1 .left))
-    (λ k h. has-inserted _ (a .s) k (omega arith)))
+    let l = c .before in
+    let a = l .before .before .before .before .args in
+    puts-none-if-out (a .found .now) (λ k. same k (a .s)) _ (sym (l .leads .ensures) ∙ c .if1 .left)
 
 pub add-if-leading-spec : {M : Type 1} → statement M
 add-if-leading-spec =
-    tie.close
-    (tie.spec
-    targets-requires
-    slice-aggregate-meet-with
-    meet-with-requires
-    slice-aggregate-lowest
-    lowest-requires
-    returns
-    insert-requires
-    same-length
-    returns-2)
+    tie.close (tie.spec leads-requires insert-requires same-length returns returns-2)

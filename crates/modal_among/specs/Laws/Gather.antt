@@ -32,13 +32,13 @@ module _ (row set both : List ℕ) (f : ℕ → Bool) (e : Is row f) (m : Is bot
   unfolding slots
   met = any-cong slots _ _ (λ t h. m t h ∙ ap (λ (x : Bool). x && has set t) (e t h))
 
-  pub leads-not : b ≡ setSlots → any slots (λ t. f t && has set t) ≡ false
+  pub meets-not : b ≡ setSlots → any slots (λ t. f t && has set t) ≡ false
   unfolding slots
-  leads-not z = sym met ∙ first-past slots (has both) (omega (arith, l))
+  meets-not z = sym met ∙ first-past slots (has both) (omega (arith, l))
 
-  pub leads : b ≢ setSlots → any slots (λ t. f t && has set t) ≡ true
+  pub meets : b ≢ setSlots → any slots (λ t. f t && has set t) ≡ true
   unfolding slots
-  leads n = sym met ∙ either (look (any slots (has both))) (λ q. q) (λ q. absurd (n (l ∙ first-none slots (has both) q)))
+  meets n = sym met ∙ either (look (any slots (has both))) (λ q. q) (λ q. absurd (n (l ∙ first-none slots (has both) q)))
 
 -- what slot s adds, by the way
 module _ (M : Model) (way : ℕ) (set : List ℕ) (s : ℕ) (R R′ : List ℕ) where
