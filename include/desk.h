@@ -24,7 +24,7 @@
  *   desk_job       the largest of the above, plus 5 KB. It lists two tables, the condition and the REWRITTEN one, and the
  *                  second has longer paths: DS, for instance, puts three nodes on the path for each diamond
  *   desk_through   31 KB, plus 110 bytes for each node on the longest path of the table; at most 42 KB was measured, for a path of 249 nodes
- *   desk_chain     that of desk_list for the goal, plus TBD
+ *   desk_chain     that of desk_list for the goal, plus 1 KB
  *
  * Rounds. A round is one evaluation of the body of a mu or nu. A mu starts from the empty set, a nu from the set of all slots, and both go on
  * until the body gives back the set that it was given; this last evaluation counts too. The rounds of a list are those of the whole tree of its

@@ -118,8 +118,8 @@ fn quad(b0: u8, b1: u8, b2: u8, b3: u8) -> u32 {
     b0 as u32 + 256 * (b1 as u32) + 65536 * (b2 as u32) + 16777216 * (b3 as u32)
 }
 
-// A limit on rounds.
-pub fn read_limit() -> u32 {
+// A number of four bytes: a limit on rounds, a way or a start.
+pub fn read_number() -> u32 {
     let mut bytes = [0u8; 4];
     io::read_full(STDIN_FILENO, &mut bytes);
     quad(bytes[0], bytes[1], bytes[2], bytes[3])

@@ -191,10 +191,10 @@ fn print_line(site: &[u8], cond: &[u8], way: u32, start: u32, turn: u8) {
     io::write_all(STDOUT_FILENO, b"\n");
 }
 
-// Reads a way and a start, which are numbers of four bytes as a limit is, and prints their line.
+// Reads a way and a start, and prints their line.
 fn read_question(site: &[u8], cond: &[u8], turn: u8) {
-    let way = pieces::read_limit();
-    let start = pieces::read_limit();
+    let way = pieces::read_number();
+    let start = pieces::read_number();
     print_line(site, cond, way, start, turn);
 }
 

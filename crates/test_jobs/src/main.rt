@@ -162,7 +162,7 @@ fn try_both(file: &[u8], limit: u32) {
 // Does the job under each limit that stands behind it.
 fn try_limits(file: &[u8], count: u8) {
     for k in 0..count {
-        try_both(file, pieces::read_limit());
+        try_both(file, pieces::read_number());
     }
 }
 

@@ -117,7 +117,7 @@ fn print_line(site: &[u8], cond: &[u8], limit: u32) {
 // Prints a line for each limit that stands behind the pair.
 fn print_lines(site: &[u8], cond: &[u8], count: u8) {
     for k in 0..count {
-        print_line(site, cond, pieces::read_limit());
+        print_line(site, cond, pieces::read_number());
     }
 }
 

@@ -14,8 +14,8 @@ abbrev μ-loop : tie.MeasureT-loop
 loop-holds : tie.Need-loop-holds Inv-loop μ-loop
 loop-holds c = omega arith
 
-read-limit-requires : tie.Need-read-limit-requires Inv-loop μ-loop
-read-limit-requires c κs = search needs
+read-number-requires : tie.Need-read-number-requires Inv-loop μ-loop
+read-number-requires c κs = search needs
 
 try-both-requires : tie.Need-try-both-requires Inv-loop μ-loop
 try-both-requires c κs = search needs
@@ -39,7 +39,7 @@ try-limits-spec =
     Inv-loop
     μ-loop
     loop-holds
-    read-limit-requires
+    read-number-requires
     try-both-requires
     add-k
     loop-less

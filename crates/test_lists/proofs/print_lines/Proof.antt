@@ -14,8 +14,8 @@ abbrev μ-loop : tie.MeasureT-loop
 loop-holds : tie.Need-loop-holds Inv-loop μ-loop
 loop-holds c = omega arith
 
-read-limit-requires : tie.Need-read-limit-requires Inv-loop μ-loop
-read-limit-requires c κs = search needs
+read-number-requires : tie.Need-read-number-requires Inv-loop μ-loop
+read-number-requires c κs = search needs
 
 print-line-requires : tie.Need-print-line-requires Inv-loop μ-loop
 print-line-requires c κs = search needs
@@ -39,7 +39,7 @@ print-lines-spec =
     Inv-loop
     μ-loop
     loop-holds
-    read-limit-requires
+    read-number-requires
     print-line-requires
     add-k
     loop-less
