@@ -1,10 +1,7 @@
 //! The part `chain`. All inputs go through all sides first, and so do many more that are not timed.
 
 use crate::desk::{E, GENERAL, LINKS, SITE, SLOTS};
-use crate::{compared, inputs, measure_of, title_of, Buffers, Call};
-
-/// What is called, and the name of its row.
-type Row = (String, Call);
+use crate::{compared, inputs, measure_tables, Buffers, Call, Row};
 
 /// A general and a functional link and their reverses, 0- and 4-. Where links branch they are general.
 const WAYS: [(&str, usize); 4] = [("link 0", 0), ("link 0-", LINKS), ("link 4", GENERAL), ("link 4-", LINKS + GENERAL)];
@@ -124,11 +121,5 @@ pub fn show() {
         ("Chain: none", no_chain()),
         ("Chain: others", others()),
     ];
-    for (what, call) in tables.iter().flat_map(|(_, rows)| rows) {
-        compared(what, call, two_builds);
-    }
-    for (name, rows) in tables {
-        title_of(name, two_builds);
-        rows.into_iter().for_each(|(what, call)| measure_of(&what, call, two_builds));
-    }
+    measure_tables(tables, two_builds);
 }

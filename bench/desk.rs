@@ -34,6 +34,15 @@ pub const WORK: usize = SET * NODES;
 // The highest limit on the rounds of a list.
 pub const HIGHEST: u32 = 1_000_000;
 
+// The editions of sheets.
+pub const FIRST: u32 = 1;
+pub const SECOND: u32 = 2;
+
+// The bytes of a number in a job file's trailer, of the trailer, which has four, and of a file at most.
+pub const NUMBER: usize = 4;
+pub const TRAILER: usize = 4 * NUMBER;
+pub const FILE: usize = 65_536;
+
 #[derive(Debug, PartialEq)]
 #[repr(C)]
 pub struct Listed {
@@ -182,6 +191,16 @@ impl Not for Set {
 
 // ---- the site
 
+/// Where the target of a slot stands, for a functional link.
+fn target_at(f: usize, s: usize) -> usize {
+    TARGETS_AT + SLOTS * (f - GENERAL) + s
+}
+
+/// Where the targets of a slot stand, for a general link.
+fn row_at(m: usize, s: usize) -> usize {
+    ROWS_AT + ROWS * m + SET * s
+}
+
 #[derive(Clone, Copy)]
 struct Site<'a>(&'a [u8; SITE]);
 
@@ -200,12 +219,12 @@ impl<'a> Site<'a> {
 
     /// The targets of the functional link f.
     fn targets(self, f: usize) -> &'a [u8; SLOTS] {
-        let at = TARGETS_AT + SLOTS * (f - GENERAL);
+        let at = target_at(f, 0);
         self.0[at..at + SLOTS].try_into().unwrap()
     }
 
     fn row(self, m: usize, s: usize) -> Set {
-        Set::read(&self.0[ROWS_AT + ROWS * m + SET * s..])
+        Set::read(&self.0[row_at(m, s)..])
     }
 
     /// Items 3 to 6.
@@ -453,10 +472,12 @@ enum Edit {
     Dt2(u8, u8),
     As(u8, u8),
     Ds(u8),
+    /// AT of a functional link in edition 2, which replaces the target.
+    Rt(u8, u8, u8),
 }
 
 impl Edit {
-    fn read(b: &[u8]) -> Option<Edit> {
+    fn read(b: &[u8], edition: u32) -> Option<Edit> {
         let (x, y, z) = (b[1], b[2], b[3]);
         let below = |x: u8, limit: usize| (x as usize) < limit;
         let (name, label, link) = (|n| below(n, NAMES), |p| below(p, LABELS), |m| below(m, LINKS));
@@ -466,6 +487,7 @@ impl Edit {
             1 if moved(x) && name(y) && functional(z) => Edit::Cn2(x, y, z),
             2 if name(x) && label(y) && z == 0 => Edit::Ap(x, y),
             3 if name(x) && label(y) && z == 0 => Edit::Dp(x, y),
+            4 if functional(x) && name(y) && name(z) && edition == SECOND => Edit::Rt(x, y, z),
             4 if link(x) && name(y) && name(z) => Edit::At(x, y, z),
             5 if link(x) && name(y) && name(z) => Edit::Dt1(x, y, z),
             6 if functional(x) && name(y) && z == 0 => Edit::Dt2(x, y),
@@ -477,11 +499,15 @@ impl Edit {
 }
 
 /// Items 11 and 12.
-fn read_sheet(bytes: &[u8]) -> Result<Vec<Edit>, Refusal> {
+fn read_sheet(bytes: &[u8], edition: u32) -> Result<Vec<Edit>, Refusal> {
     if bytes.len() % 4 != 0 || bytes.len() > 256 {
         return Err((11, 0));
     }
-    bytes.chunks_exact(4).enumerate().map(|(k, b)| Edit::read(b).ok_or((12, k as u32))).collect()
+    bytes.chunks_exact(4).enumerate().map(|(k, b)| Edit::read(b, edition).ok_or((12, k as u32))).collect()
+}
+
+fn bit(s: usize) -> u8 {
+    1 << (s % 8)
 }
 
 /// Does the edit to the site's bytes, or says that it does not go through.
@@ -489,12 +515,9 @@ fn apply_edit(site: &mut [u8], edit: Edit) -> bool {
     let name = |n: u8| NAMES_AT + n as usize;
     let at = |site: &[u8], n: u8| site[name(n)] as usize;
     let label = |p: u8, s: usize| LABELS_AT + SET * p as usize + s / 8;
-    let row = |m: u8, s: usize| ROWS_AT + ROWS * m as usize + SET * s;
-    let target = |f: u8, s: usize| TARGETS_AT + SLOTS * (f as usize - GENERAL) + s;
-    let bit = |s: usize| 1u8 << (s % 8);
     match edit {
         Edit::Cn1(n1, n2) => site[name(n1)] = site[name(n2)],
-        Edit::Cn2(n1, n2, f) => site[name(n1)] = site[target(f, at(site, n2))],
+        Edit::Cn2(n1, n2, f) => site[name(n1)] = site[target_at(f as usize, at(site, n2))],
         Edit::Ap(n, p) => {
             let s = at(site, n);
             if s != 0 {
@@ -505,30 +528,10 @@ fn apply_edit(site: &mut [u8], edit: Edit) -> bool {
             let s = at(site, n);
             site[label(p, s)] &= !bit(s);
         }
-        Edit::At(m, n1, n2) => {
-            let (s, t) = (at(site, n1), at(site, n2));
-            if s == 0 || t == 0 {
-                return false;
-            }
-            if (m as usize) < GENERAL {
-                site[row(m, s) + t / 8] |= bit(t);
-            } else {
-                let old = &mut site[target(m, s)];
-                if *old != 0 && *old as usize != t {
-                    return false;
-                }
-                *old = t as u8;
-            }
-        }
-        Edit::Dt1(m, n1, n2) => {
-            let (s, t) = (at(site, n1), at(site, n2));
-            if (m as usize) < GENERAL {
-                site[row(m, s) + t / 8] &= !bit(t);
-            } else if site[target(m, s)] as usize == t {
-                site[target(m, s)] = 0;
-            }
-        }
-        Edit::Dt2(f, n) => site[target(f, at(site, n))] = 0,
+        Edit::At(m, n1, n2) => return add_link(site, m as usize, at(site, n1), at(site, n2)),
+        Edit::Rt(f, n1, n2) => return replace_target(site, f as usize, at(site, n1), at(site, n2)),
+        Edit::Dt1(m, n1, n2) => remove_link(site, m as usize, at(site, n1), at(site, n2)),
+        Edit::Dt2(f, n) => site[target_at(f as usize, at(site, n))] = 0,
         Edit::As(n, k) => {
             let k = k as usize;
             if site[k / 8] & bit(k) != 0 {
@@ -548,8 +551,41 @@ fn apply_edit(site: &mut [u8], edit: Edit) -> bool {
     true
 }
 
+/// A slot has one target by a functional link, and no other takes its place.
+fn add_link(site: &mut [u8], m: usize, s: usize, t: usize) -> bool {
+    if s == 0 || t == 0 {
+        return false;
+    }
+    if m < GENERAL {
+        site[row_at(m, s) + t / 8] |= bit(t);
+        return true;
+    }
+    let old = &mut site[target_at(m, s)];
+    if *old != 0 && *old as usize != t {
+        return false;
+    }
+    *old = t as u8;
+    true
+}
+
+fn replace_target(site: &mut [u8], f: usize, s: usize, t: usize) -> bool {
+    if s == 0 || t == 0 {
+        return false;
+    }
+    site[target_at(f, s)] = t as u8;
+    true
+}
+
+fn remove_link(site: &mut [u8], m: usize, s: usize, t: usize) {
+    if m < GENERAL {
+        site[row_at(m, s) + t / 8] &= !bit(t);
+    } else if site[target_at(m, s)] as usize == t {
+        site[target_at(m, s)] = 0;
+    }
+}
+
 fn delete_slot(site: &mut [u8], s: usize) {
-    let keep = !(1u8 << (s % 8));
+    let keep = !bit(s);
     site[s / 8] &= keep;
     for p in 0..LABELS {
         site[LABELS_AT + SET * p + s / 8] &= keep;
@@ -560,7 +596,7 @@ fn delete_slot(site: &mut [u8], s: usize) {
         }
     }
     for f in GENERAL..LINKS {
-        site[TARGETS_AT + SLOTS * (f - GENERAL) + s] = 0;
+        site[target_at(f, s)] = 0;
     }
     for rows in site[ROWS_AT..].chunks_exact_mut(ROWS) {
         rows[SET * s..SET * (s + 1)].fill(0);
@@ -588,6 +624,10 @@ enum Change {
     NoneFrom(u8),
     NoneTo(u8),
     NoneAt(u8),
+    /// The first has no neighbour but the second.
+    OneFrom(u8, u8),
+    /// The first is a neighbour of the second alone.
+    OneTo(u8, u8),
 }
 
 fn change(edit: Edit, way: u8) -> Change {
@@ -597,6 +637,8 @@ fn change(edit: Edit, way: u8) -> Change {
         Edit::Ds(n) => Change::NoneAt(n),
         Edit::At(m, a, b) if link == m && reverse => Change::Added(b, a),
         Edit::At(m, a, b) if link == m => Change::Added(a, b),
+        Edit::Rt(f, a, b) if link == f && reverse => Change::OneTo(a, b),
+        Edit::Rt(f, a, b) if link == f => Change::OneFrom(a, b),
         Edit::Dt1(m, a, b) if link == m && reverse => Change::Removed(b, a),
         Edit::Dt1(m, a, b) if link == m => Change::Removed(a, b),
         Edit::Dt2(f, n) if link == f && reverse => Change::NoneTo(n),
@@ -707,51 +749,87 @@ impl Table {
         }
     }
 
+    /// `n ! T <w> &`
+    fn diamond_off(&mut self, w: u8, t: u16, n: u8) -> u16 {
+        let n = self.name(n);
+        let other = self.not(n);
+        let old = self.diamond(w, t);
+        self.and(other, old)
+    }
+
+    /// `n ! T & <w>`
+    fn diamond_past(&mut self, w: u8, t: u16, n: u8) -> u16 {
+        let n = self.name(n);
+        let other = self.not(n);
+        let rest = self.and(other, t);
+        self.diamond(w, rest)
+    }
+
+    /// `old a b T & <E> & |`
+    fn or_leads(&mut self, old: u16, a: u8, b: u8, t: u16) -> u16 {
+        let a = self.name(a);
+        let b = self.name(b);
+        let hit = self.and(b, t);
+        let some = self.diamond(E as u8, hit);
+        let new = self.and(a, some);
+        self.or(old, new)
+    }
+
     fn diamond_after(&mut self, edit: Edit, w: u8, t: u16) -> u16 {
         match change(edit, w) {
             Change::Keep => self.diamond(w, t),
             Change::Added(a, b) => {
                 let old = self.diamond(w, t);
-                let a = self.name(a);
-                let b = self.name(b);
-                let hit = self.and(b, t);
-                let some = self.diamond(E as u8, hit);
-                let new = self.and(a, some);
-                self.or(old, new)
+                self.or_leads(old, a, b, t)
             }
             Change::Removed(a, b) => {
-                let a = self.name(a);
-                let other = self.not(a);
-                let old = self.diamond(w, t);
-                let elsewhere = self.and(other, old);
-                let b = self.name(b);
-                let not_b = self.not(b);
-                let rest = self.and(not_b, t);
-                let past = self.diamond(w, rest);
+                let elsewhere = self.diamond_off(w, t, a);
+                let past = self.diamond_past(w, t, b);
                 self.or(elsewhere, past)
             }
-            Change::NoneFrom(n) => {
-                let n = self.name(n);
-                let other = self.not(n);
-                let old = self.diamond(w, t);
-                self.and(other, old)
-            }
-            Change::NoneTo(n) => {
-                let n = self.name(n);
-                let other = self.not(n);
-                let rest = self.and(other, t);
-                self.diamond(w, rest)
-            }
+            Change::NoneFrom(n) => self.diamond_off(w, t, n),
+            Change::NoneTo(n) => self.diamond_past(w, t, n),
             Change::NoneAt(n) => {
                 let a = self.name(n);
                 let other = self.not(a);
-                let b = self.name(n);
-                let not_b = self.not(b);
-                let rest = self.and(not_b, t);
-                let past = self.diamond(w, rest);
+                let past = self.diamond_past(w, t, n);
                 self.and(other, past)
             }
+            Change::OneFrom(a, b) => {
+                let old = self.diamond_off(w, t, a);
+                self.or_leads(old, a, b, t)
+            }
+            Change::OneTo(a, b) => {
+                let old = self.diamond_past(w, t, a);
+                self.or_leads(old, b, a, t)
+            }
         }
+    }
+
+    /// `n T [w] |`
+    fn box_off(&mut self, w: u8, t: u16, n: u8) -> u16 {
+        let n = self.name(n);
+        let old = self.boxed(w, t);
+        self.or(n, old)
+    }
+
+    /// `n T | [w]`
+    fn box_past(&mut self, w: u8, t: u16, n: u8) -> u16 {
+        let n = self.name(n);
+        let rest = self.or(n, t);
+        self.boxed(w, rest)
+    }
+
+    /// `old a ! b ! T | [E] | &`
+    fn and_leads(&mut self, old: u16, a: u8, b: u8, t: u16) -> u16 {
+        let a = self.name(a);
+        let other = self.not(a);
+        let b = self.name(b);
+        let not_b = self.not(b);
+        let hit = self.or(not_b, t);
+        let all = self.boxed(E as u8, hit);
+        let new = self.or(other, all);
+        self.and(old, new)
     }
 
     fn box_after(&mut self, edit: Edit, w: u8, t: u16) -> u16 {
@@ -759,40 +837,27 @@ impl Table {
             Change::Keep => self.boxed(w, t),
             Change::Added(a, b) => {
                 let old = self.boxed(w, t);
-                let a = self.name(a);
-                let other = self.not(a);
-                let b = self.name(b);
-                let not_b = self.not(b);
-                let hit = self.or(not_b, t);
-                let all = self.boxed(E as u8, hit);
-                let new = self.or(other, all);
-                self.and(old, new)
+                self.and_leads(old, a, b, t)
             }
             Change::Removed(a, b) => {
-                let a = self.name(a);
-                let old = self.boxed(w, t);
-                let at_a = self.or(a, old);
-                let b = self.name(b);
-                let rest = self.or(b, t);
-                let past = self.boxed(w, rest);
+                let at_a = self.box_off(w, t, a);
+                let past = self.box_past(w, t, b);
                 self.and(at_a, past)
             }
-            Change::NoneFrom(n) => {
-                let n = self.name(n);
-                let old = self.boxed(w, t);
-                self.or(n, old)
-            }
-            Change::NoneTo(n) => {
-                let n = self.name(n);
-                let rest = self.or(n, t);
-                self.boxed(w, rest)
-            }
+            Change::NoneFrom(n) => self.box_off(w, t, n),
+            Change::NoneTo(n) => self.box_past(w, t, n),
             Change::NoneAt(n) => {
                 let a = self.name(n);
-                let b = self.name(n);
-                let rest = self.or(b, t);
-                let past = self.boxed(w, rest);
+                let past = self.box_past(w, t, n);
                 self.or(a, past)
+            }
+            Change::OneFrom(a, b) => {
+                let old = self.box_off(w, t, a);
+                self.and_leads(old, a, b, t)
+            }
+            Change::OneTo(a, b) => {
+                let old = self.box_past(w, t, a);
+                self.and_leads(old, b, a, t)
             }
         }
     }
@@ -808,6 +873,13 @@ impl Table {
         let n = self.name(n);
         let nil = self.name(0);
         self.apart(n, nil)
+    }
+
+    /// Neither is nil.
+    fn on_site(&mut self, n1: u8, n2: u8) -> u16 {
+        let from = self.not_nil(n1);
+        let to = self.not_nil(n2);
+        self.and(from, to)
     }
 
     /// @n1 has no f-target, or has @n2.
@@ -827,16 +899,12 @@ impl Table {
     /// The edit's own condition; none for an edit that always goes through.
     fn goes(&mut self, edit: Edit) -> Option<u16> {
         match edit {
-            Edit::At(m, n1, n2) => {
-                let from = self.not_nil(n1);
-                let to = self.not_nil(n2);
-                let ends = self.and(from, to);
-                if (m as usize) < GENERAL {
-                    return Some(ends);
-                }
+            Edit::At(m, n1, n2) if m as usize >= GENERAL => {
+                let ends = self.on_site(n1, n2);
                 let fits = self.target_fits(m, n1, n2);
                 Some(self.and(ends, fits))
             }
+            Edit::At(_, n1, n2) | Edit::Rt(_, n1, n2) => Some(self.on_site(n1, n2)),
             Edit::As(_, k) => {
                 let here = self.push(1, 0, 0, 0);
                 let slot = self.push(12, k, 0, 0);
@@ -1153,6 +1221,11 @@ fn highest(limit: u32) -> Result<(), Refusal> {
     if limit > HIGHEST { item(16) } else { Ok(()) }
 }
 
+/// Item 18.
+fn known(edition: u32) -> Result<(), Refusal> {
+    if edition == FIRST || edition == SECOND { Ok(()) } else { item(18) }
+}
+
 pub fn list(site: &[u8], cond: &[u8], limit: u32, set: &mut [u8], work: &mut [u8]) -> Listed {
     let found = (|| {
         lengths(&[(set, SET), (work, WORK)])?;
@@ -1174,11 +1247,12 @@ pub fn list(site: &[u8], cond: &[u8], limit: u32, set: &mut [u8], work: &mut [u8
     }
 }
 
-pub fn apply(site: &[u8], sheet: &[u8], result: &mut [u8]) -> Applied {
+pub fn apply(site: &[u8], sheet: &[u8], edition: u32, result: &mut [u8]) -> Applied {
     let done = (|| {
         lengths(&[(result, SITE)])?;
+        known(edition)?;
         Site::check(site)?;
-        let edits = read_sheet(sheet)?;
+        let edits = read_sheet(sheet, edition)?;
         result.copy_from_slice(site);
         apply_sheet(result, &edits)
     })();
@@ -1203,20 +1277,22 @@ fn write_answer(table: Result<Vec<Node>, Refusal>, result: &mut [u8]) -> Rewritt
     }
 }
 
-pub fn rewrite(cond: &[u8], sheet: &[u8], result: &mut [u8]) -> Rewritten {
+pub fn rewrite(cond: &[u8], sheet: &[u8], edition: u32, result: &mut [u8]) -> Rewritten {
     let table = (|| {
         lengths(&[(result, TABLE)])?;
+        known(edition)?;
         let condition = Condition::check(cond)?;
-        let edits = read_sheet(sheet)?;
+        let edits = read_sheet(sheet, edition)?;
         rewrite_sheet(&condition.nodes, &edits)
     })();
     write_answer(table, result)
 }
 
-pub fn through(sheet: &[u8], result: &mut [u8]) -> Rewritten {
+pub fn through(sheet: &[u8], edition: u32, result: &mut [u8]) -> Rewritten {
     let table = (|| {
         lengths(&[(result, TABLE)])?;
-        through_sheet(&read_sheet(sheet)?)
+        known(edition)?;
+        through_sheet(&read_sheet(sheet, edition)?)
     })();
     write_answer(table, result)
 }
@@ -1274,19 +1350,21 @@ pub fn chain(site: &[u8], cond: &[u8], way: u32, start: u32, chain: &mut [u8], s
     }
 }
 
-/// The site, the condition and the sheet of a job file. Item 2.
-fn pieces(file: &[u8]) -> Result<[&[u8]; 3], Refusal> {
-    if file.len() < 12 || file.len() > 65_536 {
+/// The site, the condition and the sheet of a job file, and the edition. Items 2 and 18.
+fn pieces(file: &[u8]) -> Result<([&[u8]; 3], u32), Refusal> {
+    if file.len() < TRAILER || file.len() > FILE {
         return Err((2, 0));
     }
-    let (body, trailer) = file.split_at(file.len() - 12);
-    let distance = |i: usize| u32::from_le_bytes(trailer[4 * i..4 * i + 4].try_into().unwrap()) as usize;
-    let (sheet, condition, site) = (distance(0), distance(1), distance(2));
+    let (body, trailer) = file.split_at(file.len() - TRAILER);
+    let number = |i: usize| u32::from_le_bytes(trailer[NUMBER * i..NUMBER * (i + 1)].try_into().unwrap());
+    let [sheet, condition, site] = [0, 1, 2].map(|i| number(i) as usize);
     if condition < sheet || site < condition || site != body.len() {
         return Err((2, 0));
     }
+    let edition = number(3);
+    known(edition)?;
     let (at, end) = (body.len() - condition, body.len() - sheet);
-    Ok([&body[..at], &body[at..end], &body[end..]])
+    Ok(([&body[..at], &body[at..end], &body[end..]], edition))
 }
 
 /// The buffers of a job.
@@ -1302,10 +1380,10 @@ pub struct Results<'a> {
 fn run_job(file: &[u8], limit: u32, out: &mut Results) -> Result<Done, Refusal> {
     lengths(&[(out.site, SITE), (out.table, TABLE), (out.after, SET), (out.today, SET), (out.classes, SLOTS), (out.work, WORK)])?;
     highest(limit)?;
-    let [site, cond, sheet] = pieces(file)?;
+    let ([site, cond, sheet], edition) = pieces(file)?;
     let today = Site::check(site)?;
     let condition = Condition::check(cond)?;
-    let edits = read_sheet(sheet)?;
+    let edits = read_sheet(sheet, edition)?;
     out.site.copy_from_slice(site);
     apply_sheet(out.site, &edits)?;
     let nodes = rewrite_sheet(&condition.nodes, &edits)?;

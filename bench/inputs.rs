@@ -86,6 +86,15 @@ pub fn rounds(general: bool) -> Vec<u8> {
     site
 }
 
+/// Every arc by every general link, and by every functional link a target of each slot: the slot below it, and of slot 1 the last.
+pub fn homed() -> Vec<u8> {
+    let mut site = full(SLOTS);
+    for targets in site[TARGETS_AT..ROWS_AT].chunks_exact_mut(SLOTS) {
+        (1..SLOTS).for_each(|s| targets[s] = if s > 1 { s - 1 } else { SLOTS - 1 } as u8);
+    }
+    site
+}
+
 /// Site A of docs/SPEC.md.
 pub fn site_a() -> Vec<u8> {
     let mut site = bare(4);
@@ -335,6 +344,27 @@ pub fn shared_loop(k: usize) -> Vec<u8> {
     t.0
 }
 
+/// Every kind of node, and each way in a diamond and in a box.
+pub fn kinds() -> Vec<u8> {
+    const LEAVES: [(u8, usize); 9] = [(0, 0), (1, 0), (2, 0), (2, 1), (3, 0), (3, 1), (3, 4), (12, 1), (4, 0)];
+    let mut t = Table::default();
+    let none = t.label(15);
+    let some = LEAVES.iter().fold(none, |last, &(kind, param)| {
+        let leaf = t.push(kind, param, 0, 0);
+        let both = t.and(none, leaf);
+        t.or(last, both)
+    });
+    let moved = (0..=E).fold(some, |last, way| {
+        let next = t.diamond(way, last);
+        t.push(9, way, next, 0)
+    });
+    let not = t.push(5, 0, moved, 0);
+    let again = t.push(5, 0, not, 0);
+    let least = t.push(10, 0, again, 0);
+    t.push(11, 1, least, 0);
+    t.0
+}
+
 // ---- sheets
 
 /// A name but 0, in turn.
@@ -366,6 +396,31 @@ pub fn moves(n: usize) -> Vec<u8> {
 /// AT of four links from `first` on in turn, between names that follow each other.
 pub fn links(n: usize, first: usize) -> Vec<u8> {
     (0..n).flat_map(|k| [4, (first + k % 4) as u8, other_name(k), other_name(k + 1)]).collect()
+}
+
+/// AT of link 4 from each name to the next, and then to the next but one.
+pub fn uplinks(n: usize) -> Vec<u8> {
+    let skipped = |k: usize| k / (names() - 1);
+    (0..n).flat_map(|k| [4, GENERAL as u8, other_name(k), other_name(k + 1 + skipped(k))]).collect()
+}
+
+/// The same with DT2 in front of each AT, so that there is no old target.
+pub fn cleared(sheet: &[u8]) -> Vec<u8> {
+    sheet.chunks_exact(4).flat_map(|at| [6, at[1], at[2], 0, at[0], at[1], at[2], at[3]]).collect()
+}
+
+/// Three edits at a time: a slot gets another target, a name moves to it, and the slot there gets another target too.
+pub fn onward(n: usize) -> Vec<u8> {
+    let edit = |k: usize| {
+        let turn = k / 3;
+        let f = (GENERAL + turn % 4) as u8;
+        match k % 3 {
+            0 => [4, f, 1, other_name(turn + 3)],
+            1 => [1, 3, 1, f],
+            _ => [4, f, 3, 2],
+        }
+    };
+    (0..n).flat_map(edit).collect()
 }
 
 /// AS of slots 100, 101, ..
@@ -414,9 +469,9 @@ pub fn small_edits(n: usize) -> Vec<u8> {
 
 // ---- job files
 
-pub fn job(site: &[u8], cond: &[u8], sheet: &[u8]) -> Vec<u8> {
+pub fn job(site: &[u8], cond: &[u8], sheet: &[u8], edition: u32) -> Vec<u8> {
     let mut file = [site, cond, sheet].concat();
-    let distances = [sheet.len(), sheet.len() + cond.len(), file.len()];
-    distances.iter().for_each(|d| file.extend((*d as u32).to_le_bytes()));
+    let trailer = [sheet.len() as u32, (sheet.len() + cond.len()) as u32, file.len() as u32, edition];
+    trailer.iter().for_each(|number| file.extend(number.to_le_bytes()));
     file
 }

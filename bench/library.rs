@@ -4,14 +4,16 @@ use crate::desk::{Applied, Chained, Classed, Done, Listed, Rewritten};
 use crate::{AskChain, Desk};
 
 /// Declares `through` of one build. It stands apart from the others, since an earlier build may lack it; so does `chain`, and so do `list` and `job`,
-/// which may have no limit there.
+/// which may have no limit there. The type of an edition is given here and below, or none for an earlier build, which may have no editions.
 macro_rules! through {
-    ($through:ident) => {{
+    ($through:ident, [$($edition:ty)?]) => {{
         extern "C" {
-            fn $through(sheet: *const u8, sheet_len: usize, result: *mut u8, result_len: usize) -> Rewritten;
+            fn $through(sheet: *const u8, sheet_len: usize, $(edition: $edition,)? result: *mut u8, result_len: usize) -> Rewritten;
         }
         // Safety: as below.
-        |sheet, result| unsafe { $through(sheet.as_ptr(), sheet.len(), result.as_mut_ptr(), result.len()) }
+        |sheet, _edition, result| unsafe {
+            $through(sheet.as_ptr(), sheet.len(), $(_edition as $edition,)? result.as_mut_ptr(), result.len())
+        }
     }};
 }
 
@@ -128,13 +130,18 @@ macro_rules! old_job {
 
 /// Declares what else one build exports, and makes a desk of it.
 macro_rules! library {
-    ($name:ident: $apply:ident $rewrite:ident $classes:ident, $limited:expr, $list:expr, $job:expr, $through:expr, $chain:expr) => {
+    (
+        $name:ident: $apply:ident $rewrite:ident $classes:ident, [$($edition:ty)?], $limited:expr,
+        $list:expr, $job:expr, $through:expr, $chain:expr
+    ) => {
         extern "C" {
             fn $apply(
-                site: *const u8, site_len: usize, sheet: *const u8, sheet_len: usize, result: *mut u8, result_len: usize,
+                site: *const u8, site_len: usize, sheet: *const u8, sheet_len: usize, $(edition: $edition,)?
+                result: *mut u8, result_len: usize,
             ) -> Applied;
             fn $rewrite(
-                cond: *const u8, cond_len: usize, sheet: *const u8, sheet_len: usize, result: *mut u8, result_len: usize,
+                cond: *const u8, cond_len: usize, sheet: *const u8, sheet_len: usize, $(edition: $edition,)?
+                result: *mut u8, result_len: usize,
             ) -> Rewritten;
             fn $classes(site: *const u8, site_len: usize, classes: *mut u8, classes_len: usize) -> Classed;
         }
@@ -143,11 +150,17 @@ macro_rules! library {
         pub const $name: Desk = Desk {
             limited: $limited,
             list: $list,
-            apply: |site, sheet, result| unsafe {
-                $apply(site.as_ptr(), site.len(), sheet.as_ptr(), sheet.len(), result.as_mut_ptr(), result.len())
+            apply: |site, sheet, _edition, result| unsafe {
+                $apply(
+                    site.as_ptr(), site.len(), sheet.as_ptr(), sheet.len(), $(_edition as $edition,)?
+                    result.as_mut_ptr(), result.len(),
+                )
             },
-            rewrite: |cond, sheet, result| unsafe {
-                $rewrite(cond.as_ptr(), cond.len(), sheet.as_ptr(), sheet.len(), result.as_mut_ptr(), result.len())
+            rewrite: |cond, sheet, _edition, result| unsafe {
+                $rewrite(
+                    cond.as_ptr(), cond.len(), sheet.as_ptr(), sheet.len(), $(_edition as $edition,)?
+                    result.as_mut_ptr(), result.len(),
+                )
             },
             through: $through,
             classes: |site, classes| unsafe { $classes(site.as_ptr(), site.len(), classes.as_mut_ptr(), classes.len()) },
@@ -163,18 +176,28 @@ const OLD_CHAIN: AskChain = chain!(before_chain);
 #[cfg(all(before, not(before_chain)))]
 const OLD_CHAIN: AskChain = |_, _, _, _, _, _, _| unreachable!("not timed");
 
-library!(NOW: desk_apply desk_rewrite desk_classes, true, list!(desk_list), job!(desk_job), through!(desk_through), CHAIN);
-#[cfg(before_limit)]
-library!(BEFORE: before_apply before_rewrite before_classes, true, list!(before_list), job!(before_job), through!(before_through), OLD_CHAIN);
+library!(
+    NOW: desk_apply desk_rewrite desk_classes, [u32], true, list!(desk_list), job!(desk_job), through!(desk_through, [u32]), CHAIN
+);
+#[cfg(before_edition)]
+library!(
+    BEFORE: before_apply before_rewrite before_classes, [u32], true, list!(before_list), job!(before_job),
+    through!(before_through, [u32]), OLD_CHAIN
+);
+#[cfg(all(before_limit, not(before_edition)))]
+library!(
+    BEFORE: before_apply before_rewrite before_classes, [], true, list!(before_list), job!(before_job),
+    through!(before_through, []), OLD_CHAIN
+);
 #[cfg(all(before_through, not(before_limit)))]
 library!(
-    BEFORE: before_apply before_rewrite before_classes, false, old_list!(before_list), old_job!(before_job),
-    through!(before_through), OLD_CHAIN
+    BEFORE: before_apply before_rewrite before_classes, [], false, old_list!(before_list), old_job!(before_job),
+    through!(before_through, []), OLD_CHAIN
 );
 #[cfg(all(before, not(before_through)))]
 library!(
-    BEFORE: before_apply before_rewrite before_classes, false, old_list!(before_list), old_job!(before_job),
-    |_, _| unreachable!("not timed"), OLD_CHAIN
+    BEFORE: before_apply before_rewrite before_classes, [], false, old_list!(before_list), old_job!(before_job),
+    |_, _, _| unreachable!("not timed"), OLD_CHAIN
 );
 
 // Without an earlier build the present one stands here, and is not timed twice.

@@ -5,21 +5,23 @@
 //!
 //! With `--cfg before` an earlier build of the library is timed too (bench/beside). A line then gives the times of the earlier build, of the
 //! present one and of the Rust, the ratio of present to earlier, in how many samples the present was slower, and the ratio to the Rust. With
-//! `--cfg before_through` the earlier build has `through` too, with `--cfg before_chain` it has `chain`, and with `--cfg before_limit` its lists and
-//! jobs take a limit; lines of what it does not have are of the present library and the Rust. So are lines with names that the earlier build does
-//! not have, and those of labels that its AP rewrites to other nodes.
+//! `--cfg before_through` the earlier build has `through` too, with `--cfg before_chain` it has `chain`, with `--cfg before_limit` its lists and
+//! jobs take a limit, and with `--cfg before_edition` its sheets have an edition; lines of what it does not have are of the present library and the
+//! Rust. So are lines with names that the earlier build does not have, and those of labels that its AP rewrites to other nodes.
 //!
-//! The part `sets` has tables of its own kind (sets.rs).
+//! Outside the part `editions` (editions.rs) all sheets are of edition 1. The part `sets` has tables of its own kind (sets.rs).
 
 mod chains;
 mod desk;
 mod earlier;
+mod editions;
 mod inputs;
 mod library;
 mod sets;
 mod stack;
 
-use desk::{Applied, Chained, Classed, Done, Listed, Results, Rewritten, E, GENERAL, HIGHEST, NAMES, NODES, SET, SITE, SLOTS, TABLE, WORK};
+use desk::{Applied, Chained, Classed, Done, Listed, Results, Rewritten};
+use desk::{E, FIRST, GENERAL, HIGHEST, NAMES, NODES, SET, SITE, SLOTS, TABLE, WORK};
 use std::time::Duration;
 
 type AskChain = fn(&[u8], &[u8], u32, u32, &mut [u8], &mut [u8], &mut [u8]) -> Chained;
@@ -28,9 +30,9 @@ type AskChain = fn(&[u8], &[u8], u32, u32, &mut [u8], &mut [u8], &mut [u8]) -> C
 struct Desk {
     limited: bool,
     list: fn(&[u8], &[u8], u32, &mut [u8], &mut [u8]) -> Listed,
-    apply: fn(&[u8], &[u8], &mut [u8]) -> Applied,
-    rewrite: fn(&[u8], &[u8], &mut [u8]) -> Rewritten,
-    through: fn(&[u8], &mut [u8]) -> Rewritten,
+    apply: fn(&[u8], &[u8], u32, &mut [u8]) -> Applied,
+    rewrite: fn(&[u8], &[u8], u32, &mut [u8]) -> Rewritten,
+    through: fn(&[u8], u32, &mut [u8]) -> Rewritten,
     classes: fn(&[u8], &mut [u8]) -> Classed,
     chain: AskChain,
     job: fn(&[u8], u32, Results) -> Done,
@@ -76,16 +78,16 @@ impl Buffers {
     }
 }
 
-/// What is called. A list has a limit on its rounds; a job has the highest. A chain has a way and a start.
+/// What is called. A list has a limit on its rounds; a job has the highest. A sheet has an edition behind it. A chain has a way and a start.
 #[derive(Clone)]
 enum Call {
     List(Vec<u8>, Vec<u8>, u32),
-    Apply(Vec<u8>, Vec<u8>),
-    Rewrite(Vec<u8>, Vec<u8>),
-    Through(Vec<u8>),
+    Apply(Vec<u8>, Vec<u8>, u32),
+    Rewrite(Vec<u8>, Vec<u8>, u32),
+    Through(Vec<u8>, u32),
     Classes(Vec<u8>),
     Chain(Vec<u8>, Vec<u8>, u32, u32),
-    Job(Vec<u8>, Vec<u8>, Vec<u8>, Vec<u8>),
+    Job(Vec<u8>, Vec<u8>, Vec<u8>, Vec<u8>, u32),
 }
 
 impl Call {
@@ -93,9 +95,25 @@ impl Call {
         Call::List(site, cond, HIGHEST)
     }
 
+    fn apply(site: Vec<u8>, sheet: Vec<u8>) -> Call {
+        Call::Apply(site, sheet, FIRST)
+    }
+
+    fn rewrite(cond: Vec<u8>, sheet: Vec<u8>) -> Call {
+        Call::Rewrite(cond, sheet, FIRST)
+    }
+
+    fn through(sheet: Vec<u8>) -> Call {
+        Call::Through(sheet, FIRST)
+    }
+
     fn job(site: Vec<u8>, cond: Vec<u8>, sheet: Vec<u8>) -> Call {
-        let file = inputs::job(&site, &cond, &sheet);
-        Call::Job(file, site, cond, sheet)
+        Call::job_of(site, cond, sheet, FIRST)
+    }
+
+    fn job_of(site: Vec<u8>, cond: Vec<u8>, sheet: Vec<u8>, edition: u32) -> Call {
+        let file = inputs::job(&site, &cond, &sheet, edition);
+        Call::Job(file, site, cond, sheet, edition)
     }
 
     fn library(&self, out: &mut Buffers) -> Vec<u32> {
@@ -119,16 +137,16 @@ impl Call {
                 let r = (desk.list)(site, cond, *limit, &mut out.after, &mut out.work);
                 told(desk, [r.reason, r.place, r.count, r.rounds], 1)
             }
-            Call::Apply(site, sheet) => {
-                let r = (desk.apply)(site, sheet, &mut out.site);
+            Call::Apply(site, sheet, edition) => {
+                let r = (desk.apply)(site, sheet, *edition, &mut out.site);
                 vec![r.reason, r.place]
             }
-            Call::Rewrite(cond, sheet) => {
-                let r = (desk.rewrite)(cond, sheet, &mut out.table);
+            Call::Rewrite(cond, sheet, edition) => {
+                let r = (desk.rewrite)(cond, sheet, *edition, &mut out.table);
                 vec![r.reason, r.place, r.nodes]
             }
-            Call::Through(sheet) => {
-                let r = (desk.through)(sheet, &mut out.table);
+            Call::Through(sheet, edition) => {
+                let r = (desk.through)(sheet, *edition, &mut out.table);
                 vec![r.reason, r.place, r.nodes]
             }
             Call::Classes(site) => {
@@ -154,12 +172,12 @@ impl Call {
         let edits = |sheet: &[u8]| Some(sheet.len() / 4);
         match self {
             Call::List(site, cond, _) => [slots(site), arcs(site), nodes(cond), None],
-            Call::Apply(site, sheet) => [slots(site), arcs(site), None, edits(sheet)],
-            Call::Rewrite(cond, sheet) => [None, None, nodes(cond), edits(sheet)],
-            Call::Through(sheet) => [None, None, None, edits(sheet)],
+            Call::Apply(site, sheet, _) => [slots(site), arcs(site), None, edits(sheet)],
+            Call::Rewrite(cond, sheet, _) => [None, None, nodes(cond), edits(sheet)],
+            Call::Through(sheet, _) => [None, None, None, edits(sheet)],
             Call::Classes(site) => [slots(site), arcs(site), None, None],
             Call::Chain(site, goal, ..) => [slots(site), arcs(site), nodes(goal), None],
-            Call::Job(_, site, cond, sheet) => [slots(site), arcs(site), nodes(cond), edits(sheet)],
+            Call::Job(_, site, cond, sheet, _) => [slots(site), arcs(site), nodes(cond), edits(sheet)],
         }
     }
 
@@ -331,6 +349,18 @@ fn measure_answer(what: &str, call: Call, two_builds: bool, reason: u32) {
     println!("{what:44} {slots:>5} {arcs:>6} {nodes:>5} {edits:>5}  {outcome:26} {columns}");
 }
 
+/// The name of a row, and what is called.
+type Row = (String, Call);
+
+/// Compares the sides on all rows of some tables, and then measures the rows.
+fn measure_tables<const N: usize>(tables: [(&str, Vec<Row>); N], two_builds: bool) {
+    tables.iter().flat_map(|(_, rows)| rows).for_each(|(what, call)| drop(compared(what, call, two_builds)));
+    for (name, rows) in tables {
+        title_of(name, two_builds);
+        rows.into_iter().for_each(|(what, call)| measure_of(&what, call, two_builds));
+    }
+}
+
 /// Whether there is an earlier build, with all the names.
 fn all_names() -> bool {
     cfg!(before) && earlier::names() == NAMES
@@ -407,33 +437,33 @@ fn applying() {
     let (sparse, dense) = (inputs::random(SLOTS, 2), inputs::full(SLOTS));
     title("Applying: edits, on a sparse and on a dense site");
     for n in [1, 2, 4, 8, 16, 32, 64] {
-        measure("all but DS and AS; sparse", Call::Apply(sparse.clone(), inputs::small_edits(n)));
-        measure("all but DS and AS; dense", Call::Apply(dense.clone(), inputs::small_edits(n)));
-        measure("DS and AS; sparse", Call::Apply(sparse.clone(), inputs::slots_gone(n)));
-        measure("DS and AS; dense", Call::Apply(dense.clone(), inputs::slots_gone(n)));
+        measure("all but DS and AS; sparse", Call::apply(sparse.clone(), inputs::small_edits(n)));
+        measure("all but DS and AS; dense", Call::apply(dense.clone(), inputs::small_edits(n)));
+        measure("DS and AS; sparse", Call::apply(sparse.clone(), inputs::slots_gone(n)));
+        measure("DS and AS; dense", Call::apply(dense.clone(), inputs::slots_gone(n)));
     }
     title_of("Applying: many names", all_names());
     let site = inputs::named(sparse, |k| (k <= 40) as usize);
-    measure_of("DS of a slot with 40 names; sparse", Call::Apply(site, vec![8, 1, 0, 0]), all_names());
+    measure_of("DS of a slot with 40 names; sparse", Call::apply(site, vec![8, 1, 0, 0]), all_names());
 }
 
 fn rewriting() {
     title("Rewriting: nodes");
     for n in [64, 128, 256, 512, 1024, NODES - 1] {
-        measure("no edit", Call::Rewrite(inputs::mixed(n, E + 1), Vec::new()));
+        measure("no edit", Call::rewrite(inputs::mixed(n, E + 1), Vec::new()));
         if n < 1500 {
-            measure("AP 64 times, another label", Call::Rewrite(inputs::mixed(n, E + 1), inputs::labels(64, 1)));
-            measure("DT1 of link 0, one way in 17", Call::Rewrite(inputs::mixed(n, E + 1), inputs::cuts(1)));
+            measure("AP 64 times, another label", Call::rewrite(inputs::mixed(n, E + 1), inputs::labels(64, 1)));
+            measure("DT1 of link 0, one way in 17", Call::rewrite(inputs::mixed(n, E + 1), inputs::cuts(1)));
         }
         if n < 600 {
-            measure("DS, ways 0 to 15", Call::Rewrite(inputs::mixed(n, E), inputs::slots_gone(1)));
+            measure("DS, ways 0 to 15", Call::rewrite(inputs::mixed(n, E), inputs::slots_gone(1)));
         }
     }
     title("Rewriting: edits, 64 nodes");
     for k in [1, 2, 3, 4] {
-        measure("DT1 of link 0, one way in 17", Call::Rewrite(inputs::mixed(64, E + 1), inputs::cuts(k)));
+        measure("DT1 of link 0, one way in 17", Call::rewrite(inputs::mixed(64, E + 1), inputs::cuts(k)));
     }
-    let measure = |what, n, edits| measure_of(what, Call::Rewrite(inputs::mixed(n, E + 1), inputs::labels(edits, 0)), same_labels());
+    let measure = |what, n, edits| measure_of(what, Call::rewrite(inputs::mixed(n, E + 1), inputs::labels(edits, 0)), same_labels());
     title_of("Rewriting: nodes, AP", same_labels());
     for n in [64, 128, 256, 512, 1024] {
         measure("AP, one label", n, 1);
@@ -450,23 +480,23 @@ fn going_through() {
     let measure = |what, call| measure_of(what, call, cfg!(before_through));
     title_of("Through: edits of one kind", cfg!(before_through));
     for k in [1, 8, 64] {
-        measure("CN1, which adds no node", Call::Through(inputs::moves(k)));
+        measure("CN1, which adds no node", Call::through(inputs::moves(k)));
     }
     for k in [1, 2, 4, 8, 16, 32, 64] {
-        measure("AT of links 0 to 3", Call::Through(inputs::links(k, 0)));
+        measure("AT of links 0 to 3", Call::through(inputs::links(k, 0)));
     }
     for k in [1, 2, 4, 8, 16, 31] {
-        measure("AT of links 4 to 7", Call::Through(inputs::links(k, GENERAL)));
+        measure("AT of links 4 to 7", Call::through(inputs::links(k, GENERAL)));
     }
     for k in [1, 2, 4, 8, 16, 32, 42] {
-        measure("AS", Call::Through(inputs::slots_added(k)));
+        measure("AS", Call::through(inputs::slots_added(k)));
     }
     for k in [1, 2, 3, 4, 5] {
-        measure("DS", Call::Through(inputs::slots_removed(k)));
+        measure("DS", Call::through(inputs::slots_removed(k)));
     }
     title_of("Through: all of these, mixed", cfg!(before_through));
     for k in [1, 2, 4, 8, 16, 32, 64] {
-        measure("DS, AS, CN1, AP, AT of links 0 to 7", Call::Through(inputs::plan(k)));
+        measure("DS, AS, CN1, AP, AT of links 0 to 7", Call::through(inputs::plan(k)));
     }
 }
 
@@ -517,6 +547,7 @@ fn all() {
     classing();
     chains::show();
     jobs();
+    editions::show();
     sets::show();
     stack::show();
 }
@@ -531,11 +562,12 @@ fn main() {
         Some("classes") => classing(),
         Some("chain") => chains::show(),
         Some("job") => jobs(),
+        Some("editions") => editions::show(),
         Some("sets") => sets::show(),
         Some("stack") => stack::show(),
         Some("worst") => worst(),
         Some(other) => {
-            eprintln!("{other} is none of list, apply, rewrite, through, classes, chain, job, sets, stack and worst");
+            eprintln!("{other} is none of list, apply, rewrite, through, classes, chain, job, editions, sets, stack and worst");
             std::process::exit(2);
         }
     }

@@ -1,6 +1,6 @@
 //! How much stack each function takes: it is called in a thread whose stack is painted before and looked at after.
 
-use crate::desk::{E, GENERAL, NODES, SLOTS};
+use crate::desk::{E, GENERAL, NODES, SECOND, SLOTS};
 use crate::{inputs, Buffers, Call};
 use std::ffi::c_void;
 
@@ -63,12 +63,14 @@ pub fn show() {
         ("listing, 2,047 nested loops", Call::list(dense.clone(), loops.clone())),
         ("listing, a line of 2,048 nodes", Call::list(dense.clone(), inputs::line(NODES))),
         ("listing, one node", Call::list(dense.clone(), inputs::shared(1))),
-        ("applying, 64 edits", Call::Apply(dense.clone(), inputs::slots_gone(64))),
-        ("rewriting, to 1,792 nodes", Call::Rewrite(mixed.clone(), sheet.clone())),
-        ("rewriting, a line of 2,048 nodes", Call::Rewrite(inputs::line(NODES), Vec::new())),
-        ("going through, 31 AT, to 2,036 nodes", Call::Through(inputs::links(31, GENERAL))),
-        ("going through, 42 AS, to 1,975 nodes", Call::Through(inputs::slots_added(42))),
-        ("going through, a path of 249 nodes", Call::Through(inputs::long_paths())),
+        ("applying, 64 edits", Call::apply(dense.clone(), inputs::slots_gone(64))),
+        ("rewriting, to 1,792 nodes", Call::rewrite(mixed.clone(), sheet.clone())),
+        ("rewriting R, 64 AT of edition 2", Call::Rewrite(inputs::reach(GENERAL), inputs::uplinks(64), SECOND)),
+        ("rewriting, a line of 2,048 nodes", Call::rewrite(inputs::line(NODES), Vec::new())),
+        ("going through, 31 AT, to 2,036 nodes", Call::through(inputs::links(31, GENERAL))),
+        ("going through, 64 AT of edition 2", Call::Through(inputs::links(64, GENERAL), SECOND)),
+        ("going through, 42 AS, to 1,975 nodes", Call::through(inputs::slots_added(42))),
+        ("going through, a path of 249 nodes", Call::through(inputs::long_paths())),
         ("classes", Call::Classes(dense.clone())),
         ("the chain, 254 steps", Call::Chain(inputs::path(), inputs::slot(1), 0, SLOTS as u32 - 1)),
         ("the chain, 2,047 nested loops", Call::Chain(dense.clone(), loops.clone(), 0, 1)),

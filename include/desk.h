@@ -1,13 +1,13 @@
 /* The desk for C: seven functions over bytes, in libdesk.a (`rt staticlib desk`), for x86-64 Linux.
  *
  * docs/SPEC.md says what the bytes mean and has a glossary. This file names all the numbers, so that no caller has to write one: the
- * offset of each part of a site, the kinds of node, the ways, the operations, the lengths of buffers and the reasons for a refusal.
+ * offset of each part of a site, the kinds of node, the ways, the operations, the editions, the lengths of buffers and the reasons for a refusal.
  * examples/plan.c shows them in use.
  *
  * Every input gets an answer. Either the reason is DESK_OK and the result is complete; or the reason is the first item that the input
  * meets. In that case `where` is the node or edit at fault, counted from 0 (0 if the item names none), every result and work buffer is
- * all zeros, whatever its length, and all other numbers of the answer are 0. Items are tested in the order 1, 16, 2 to 10, 17, 11 to 15, each
- * over all the inputs of the function.
+ * all zeros, whatever its length, and all other numbers of the answer are 0. Items are tested in the order 1, 16, 2, 18, 3 to 10, 17, 11 to 15,
+ * each over all the inputs of the function.
  *
  * Each pointer must be valid for its length and must not be NULL, even for a length of 0. No result or work buffer may overlap another
  * buffer or an input. Inputs are only read. Nothing is kept between calls, so several threads may call at the same time.
@@ -130,6 +130,12 @@ enum desk_kind {
 #define DESK_EDITS_MAX 64
 #define DESK_SHEET_BYTES_MAX (DESK_EDITS_MAX * DESK_EDIT_BYTES)
 
+/* The edition of a sheet: a number that goes with it and is not among its bytes. It says what DESK_OP_AT does on links 4 to 7 where a slot has
+ * another target already: in edition 1 it does not go through, in edition 2 it replaces that target. All else is the same in both. Any other
+ * number is refused with DESK_EDITION. */
+#define DESK_EDITION_1 1
+#define DESK_EDITION_2 2
+
 /* The comments name the operands in their order; the others are 0. n, n1 and n2 are names, @n is the slot of name n, p is a label, m any link,
  * f a link from 4 to 7, k a slot. */
 enum desk_operation {
@@ -137,7 +143,8 @@ enum desk_operation {
     DESK_OP_CN2 = 1,            /* n1 n2 f   n1, not 0, moves to the f-target of @n2, or to nil */
     DESK_OP_AP = 2,             /* n p       @n, unless it is nil, gains label p */
     DESK_OP_DP = 3,             /* n p       @n loses label p */
-    DESK_OP_AT = 4,             /* m n1 n2   a link m from @n1 to @n2 is added; neither is nil; for m 4 to 7, @n1 has no m-target or has @n2 */
+    DESK_OP_AT = 4,             /* m n1 n2   a link m from @n1 to @n2 is added; neither is nil. For m 4 to 7: in edition 1, @n1 has no m-target or
+                                 *           has @n2; in edition 2, @n2 replaces the m-target that @n1 has, if it has one */
     DESK_OP_DT1 = 5,            /* m n1 n2   that link is removed, if it is there */
     DESK_OP_DT2 = 6,            /* f n       the f-target of @n is removed, if there is one */
     DESK_OP_AS = 7,             /* n k       slot k, absent before, becomes present; n, not 0, moves to it */
@@ -147,13 +154,15 @@ enum desk_operation {
 /* ---- the job file: site, condition, sheet and trailer, with nothing between them */
 
 #define DESK_FILE_BYTES_MAX 65536
-#define DESK_DISTANCE_BYTES 4    /* an unsigned number, low byte first */
+#define DESK_NUMBER_BYTES 4      /* an unsigned number, low byte first */
 
-/* Three distances, from the first byte of the trailer back to the first byte of the sheet, of the condition and of the site. */
-#define DESK_TRAILER_BYTES (3 * DESK_DISTANCE_BYTES)
+/* Four numbers: the distances from the first byte of the trailer back to the first byte of the sheet, of the condition and of the site; and the
+ * edition of the sheet. */
+#define DESK_TRAILER_BYTES (4 * DESK_NUMBER_BYTES)
 #define DESK_TO_SHEET_AT 0
-#define DESK_TO_CONDITION_AT DESK_DISTANCE_BYTES
-#define DESK_TO_SITE_AT (2 * DESK_DISTANCE_BYTES)
+#define DESK_TO_CONDITION_AT DESK_NUMBER_BYTES
+#define DESK_TO_SITE_AT (2 * DESK_NUMBER_BYTES)
+#define DESK_EDITION_AT (3 * DESK_NUMBER_BYTES)
 
 /* ---- the lengths of the other buffers */
 
@@ -171,8 +180,8 @@ enum desk_operation {
 enum desk_reason {
     DESK_OK = 0,
     DESK_BUFFER_LENGTH = 1,     /* a result or work buffer does not have its stated length */
-    DESK_FILE = 2,              /* the file has under 12 or over 65,536 bytes, a distance is below the one before it, or the last is not
-                                 * the file's length less 12 */
+    DESK_FILE = 2,              /* the file has under 16 or over 65,536 bytes, a distance is below the one before it, or the third is not
+                                 * the file's length less 16 */
     DESK_SITE_LENGTH = 3,       /* the site does not have DESK_SITE_BYTES bytes */
     DESK_NAMES = 4,             /* slot 0 is absent, name 0 is not at slot 0, or a name is at an absent slot */
     DESK_LABELS = 5,            /* a label is on slot 0 or on an absent slot */
@@ -189,7 +198,8 @@ enum desk_reason {
     DESK_TABLE_FULL = 14,       /* after some edit the table of desk_rewrite or desk_through has over 2,048 nodes */
     DESK_ROUNDS = 15,           /* a list makes more rounds than the limit; tested after all others */
     DESK_LIMIT = 16,            /* the limit is over DESK_LIMIT_MAX; tested right after DESK_BUFFER_LENGTH */
-    DESK_START = 17             /* the way of a chain is over 15, or its start is absent or over 255; tested right after DESK_FREE_VARIABLE */
+    DESK_START = 17,            /* the way of a chain is over 15, or its start is absent or over 255; tested right after DESK_FREE_VARIABLE */
+    DESK_EDITION = 18           /* the edition is neither 1 nor 2; tested right after DESK_FILE */
 };
 
 /* ---- the answers. `reason` is a number of enum desk_reason */
@@ -234,20 +244,21 @@ struct desk_done {
 struct desk_listed desk_list(const uint8_t *site, size_t site_len, const uint8_t *cond, size_t cond_len, uint32_t limit,
                              uint8_t *set, size_t set_len, uint8_t *work, size_t work_len);
 
-/* Writes the site that the whole sheet leaves into `result` (DESK_SITE_BYTES). Items 1, 3 to 6, 11 to 13. */
-struct desk_applied desk_apply(const uint8_t *site, size_t site_len, const uint8_t *sheet, size_t sheet_len,
+/* Writes the site that the whole sheet, of this edition, leaves into `result` (DESK_SITE_BYTES). Items 1, 18, 3 to 6, 11 to 13. */
+struct desk_applied desk_apply(const uint8_t *site, size_t site_len, const uint8_t *sheet, size_t sheet_len, uint32_t edition,
                                uint8_t *result, size_t result_len);
 
-/* Writes the condition, rewritten through the sheet, into `result` (DESK_TABLE_BYTES). On each site on which the sheet goes through, the
- * rewritten condition lists what the condition lists on the site that the sheet leaves. The table is the first DESK_NODE_BYTES times `nodes`
- * bytes, and can be passed to desk_list as it is. Items 1, 7 to 12, 14. */
-struct desk_rewritten desk_rewrite(const uint8_t *cond, size_t cond_len, const uint8_t *sheet, size_t sheet_len,
+/* Writes the condition, rewritten through the sheet of this edition, into `result` (DESK_TABLE_BYTES). On each site on which the sheet goes through,
+ * the rewritten condition lists what the condition lists on the site that the sheet leaves. The table is the first DESK_NODE_BYTES times `nodes`
+ * bytes, and can be passed to desk_list as it is. Items 1, 18, 7 to 12, 14. */
+struct desk_rewritten desk_rewrite(const uint8_t *cond, size_t cond_len, const uint8_t *sheet, size_t sheet_len, uint32_t edition,
                                    uint8_t *result, size_t result_len);
 
-/* Writes the condition for the sheet's going through into `result` (DESK_TABLE_BYTES), from the sheet alone: on each valid site it lists every
- * slot if the sheet goes through, and no slot if it does not. The table is the first DESK_NODE_BYTES times `nodes` bytes, and can be passed to
- * desk_list as it is. Items 1, 11, 12, 14; never 13, since no site is given. */
-struct desk_rewritten desk_through(const uint8_t *sheet, size_t sheet_len, uint8_t *result, size_t result_len);
+/* Writes the condition for the sheet's going through into `result` (DESK_TABLE_BYTES), from the sheet and its edition alone: on each valid site it
+ * lists every slot if the sheet goes through, and no slot if it does not. In edition 2 it does not ask whether a target is there already: AT on links
+ * 4 to 7 has the condition that it has on links 0 to 3. The table is the first DESK_NODE_BYTES times `nodes` bytes, and can be passed to
+ * desk_list as it is. Items 1, 18, 11, 12, 14; never 13, since no site is given. */
+struct desk_rewritten desk_through(const uint8_t *sheet, size_t sheet_len, uint32_t edition, uint8_t *result, size_t result_len);
 
 /* Writes the class number of each slot into `classes` (DESK_CLASSES_BYTES): the lowest slot that some likeness (bisimulation) relates to it.
  * Items 1, 3 to 6. */
@@ -270,9 +281,9 @@ struct desk_classed desk_classes(const uint8_t *site, size_t site_len, uint8_t *
 struct desk_chained desk_chain(const uint8_t *site, size_t site_len, const uint8_t *cond, size_t cond_len, uint32_t way, uint32_t start,
                                uint8_t *chain, size_t chain_len, uint8_t *set, size_t set_len, uint8_t *work, size_t work_len);
 
-/* Runs a job file, if neither list takes more rounds than the limit. Writes the site after into `site`, the rewritten table into `table`, the
- * condition's set on the site after into `after`, the rewritten table's set on the site of the file into `today`, and the class numbers of the site
- * after into `classes`. Items 1, 16, 2 to 15. */
+/* Runs a job file, if neither list takes more rounds than the limit; the edition is in its trailer. Writes the site after into `site`, the rewritten
+ * table into `table`, the condition's set on the site after into `after`, the rewritten table's set on the site of the file into `today`, and the
+ * class numbers of the site after into `classes`. Items 1, 16, 2, 18, 3 to 15. */
 struct desk_done desk_job(const uint8_t *file, size_t file_len, uint32_t limit, uint8_t *site, size_t site_len,
                           uint8_t *table, size_t table_len, uint8_t *after, size_t after_len, uint8_t *today, size_t today_len,
                           uint8_t *classes, size_t classes_len, uint8_t *work, size_t work_len);

@@ -651,7 +651,7 @@ def cases(rng):
 
 def encode_questions(questions):
     assert len(questions) <= QUESTIONS, len(questions)
-    return bytes([len(questions)]) + b"".join(n.to_bytes(4, "little") for question in questions for n in question)
+    return bytes([len(questions)]) + b"".join(pieces.encode_number(n) for question in questions for n in question)
 
 
 def main():

@@ -1,21 +1,27 @@
 #!/usr/bin/env python3
-"""Writes crates/test_changes/stdin and stdout: sites, conditions and sheets, and for each what applying, rewriting and listing answer,
-and the sheet's condition for going through.
+"""Writes crates/test_changes/stdin and stdout: sites, conditions and sheets with their editions, and for each what applying, rewriting and
+listing answer, and the sheet's condition for going through.
 
 Written from docs/SPEC.md alone and in another way than the crates: a site is a Python object with sets
 and dictionaries, and the blocks of rewriting and the conditions of edits are the specification's own postfix
-texts, read word by word.
+texts, read word by word. The edition is no part of an edit but stands beside it.
+
+Behind the three pieces of a case (pieces.py) stands the edition, in four bytes, low byte first.
 """
 import copy
+import functools
+import itertools
 import random
 import sys
 
 import lists
 import pieces
 from layout import *
-from pieces import CROWD, HIGH, named, names_joined, place, sheet, turned
+from pieces import CROWD, HIGH, named, names_joined, place, sheet, turned, with_bytes
 
 SEED = 34384
+FIRST, SECOND = EDITIONS
+SHOWN_NODES = 256  # a table with more is shown by its checksum
 
 
 # ---- applying
@@ -28,6 +34,11 @@ class Site:
         self.links = {(f, s, d[target_at(f, s)]) for f in range(GENERAL, LINKS) for s in range(SLOTS)}
         self.links = {(m, s, t) for m, s, t in self.links if t}
         self.links |= {(m, s, t) for m in range(GENERAL) for s in range(SLOTS) for t in pieces.members(d, row_at(m, s))}
+
+    def copy(self):
+        new = copy.copy(self)
+        new.present, new.labels, new.names, new.links = set(self.present), set(self.labels), list(self.names), set(self.links)
+        return new
 
     def target(self, f, s):
         return next((t for m, u, t in self.links if (m, u) == (f, s)), 0)
@@ -43,15 +54,23 @@ class Site:
             if m < GENERAL:
                 pieces.put(d, row_at(m, s), t)
             else:
+                assert not d[target_at(m, s)], "a second target"
                 d[target_at(m, s)] = t
         return d
 
 
-def goes_through(site, edit):
+def replaces(edit, edition):
+    """AT on links 4 to 7 in edition 2."""
+    op, link, _, _ = edit
+    return edition == SECOND and op == 4 and link >= GENERAL
+
+
+def goes_through(site, edit, edition):
     op, x, y, z = edit
     if op == 4:
         here, there = site.names[y], site.names[z]
-        return here != 0 and there != 0 and (x < GENERAL or site.target(x, here) in (0, there))
+        free = x < GENERAL or replaces(edit, edition) or site.target(x, here) in (0, there)
+        return here != 0 and there != 0 and free
     if op == 7:
         return y not in site.present
     if op == 8:
@@ -59,10 +78,15 @@ def goes_through(site, edit):
     return True
 
 
-def change(site, edit):
+def without(links, link, slot):
+    """The links but those by this link from this slot."""
+    return {(m, s, t) for m, s, t in links if (m, s) != (link, slot)}
+
+
+def change(site, edit, edition):
     """The site that the edit leaves; what it reads is the site before."""
     op, x, y, z = edit
-    new, at = copy.deepcopy(site), site.names
+    new, at = site.copy(), site.names
     if op == 0:
         new.names[x] = at[y]
     elif op == 1:
@@ -72,11 +96,13 @@ def change(site, edit):
     elif op == 3:
         new.labels.discard((y, at[x]))
     elif op == 4:
+        if replaces(edit, edition):
+            new.links = without(site.links, x, at[y])
         new.links.add((x, at[y], at[z]))
     elif op == 5:
         new.links.discard((x, at[y], at[z]))
     elif op == 6:
-        new.links = {(m, s, t) for m, s, t in site.links if (m, s) != (x, at[y])}
+        new.links = without(site.links, x, at[y])
     elif op == 7:
         new.present.add(y)
         new.names[x] = y
@@ -93,12 +119,18 @@ def edits_of(d):
     return [tuple(d[i:i + EDIT_BYTES]) for i in range(0, len(d), EDIT_BYTES)]
 
 
-def apply(d, sheet):
-    site = Site(d)
+@functools.lru_cache(maxsize=4)
+def opened(d):
+    """Kept, since many cases in a row have the same site; no edit changes it."""
+    return Site(d)
+
+
+def apply(d, sheet, edition):
+    site = opened(bytes(d))
     for k, edit in enumerate(edits_of(sheet)):
-        if not goes_through(site, edit):
+        if not goes_through(site, edit, edition):
             return None, (13, k)
-        site = change(site, edit)
+        site = change(site, edit, edition)
     return site.bytes(), None
 
 
@@ -132,12 +164,19 @@ WAY_TEXTS = {
     (6, 8, False): "n ! T <f> &", (6, 9, False): "n T [f] |", (6, 8, True): "n ! T & <f->", (6, 9, True): "n T | [f-]",
     (8, 8): "n ! n ! T & <m> &", (8, 9): "n n T | [m] |",
 }
+# of an AT that replaces, by kind and by whether the way goes against the link
+REPLACING_TEXTS = {
+    (8, False): "n1 ! T <f> & n1 n2 T & <E> & |", (9, False): "n1 T [f] | n1 ! n2 ! T | [E] | &",
+    (8, True): "n1 ! T & <f-> n2 n1 T & <E> & |", (9, True): "n1 T | [f-] n2 ! n1 ! T | [E] | &",
+}
 
 
-def way_text(edit, kind, way):
+def way_text(edit, edition, kind, way):
     op, x, y, z = edit
     link, back = way % LINKS, way >= LINKS
     names = {"m": way, "f": way, "f-": way}
+    if replaces(edit, edition) and link == x:
+        return REPLACING_TEXTS[kind, back], {**names, "n1": y, "n2": z}
     if op in (4, 5) and link == x:
         names["n1"], names["n2"] = (z, y) if back else (y, z)
         return WAY_TEXTS[op, kind], names
@@ -148,11 +187,11 @@ def way_text(edit, kind, way):
     return None
 
 
-def text(edit, kind, param):
+def text(edit, edition, kind, param):
     """The block of a node of this kind and parameter, in the words of docs/SPEC.md, "Rewriting"; None where it is copied."""
     if kind not in (8, 9):
         return leaf_text(edit, kind, param)
-    return way_text(edit, kind, param) if param != EVERYWHERE else None
+    return way_text(edit, edition, kind, param) if param != EVERYWHERE else None
 
 
 def put_text(out, words, names, image):
@@ -189,10 +228,10 @@ def put_text(out, words, names, image):
     return stack[0]
 
 
-def rewrite_edit(edit, nodes):
+def rewrite_edit(edit, edition, nodes):
     out, images = [], []
     for kind, param, left, right in nodes:
-        block = text(edit, kind, param)
+        block = text(edit, edition, kind, param)
         if block:
             images.append(put_text(out, *block, images[left] if kind in (8, 9) else None))
         else:
@@ -202,27 +241,27 @@ def rewrite_edit(edit, nodes):
     return out
 
 
-def over_sheet(nodes, sheet, step):
+def over_sheet(nodes, sheet, edition, step):
     """What a step makes of the table at each edit, the last one first."""
     for edit in reversed(edits_of(sheet)):
-        nodes = step(edit, nodes)
+        nodes = step(edit, edition, nodes)
         if len(nodes) > NODES:
             return None, (14, 0)
     return pieces.table(*nodes), None
 
 
-def rewrite(condition, sheet):
-    return over_sheet(pieces.nodes_of(condition), sheet, rewrite_edit)
+def rewrite(condition, sheet, edition):
+    return over_sheet(pieces.nodes_of(condition), sheet, edition, rewrite_edit)
 
 
 # ---- going through: the texts of the edits' own conditions
 
-def own_text(edit):
+def own_text(edit, edition):
     """What has to hold for the edit to go through; None where it always does."""
     op, x, y, z = edit
     if op == 4:
         words = "n1 nil & <E> ! n2 nil & <E> ! &"
-        if x >= GENERAL:
+        if x >= GENERAL and edition == FIRST:
             words += " n1 t <m> & <E> ! n1 n2 <m> & <E> | &"
         return words, {"m": x, "n1": y, "n2": z}
     if op == 7:
@@ -232,31 +271,44 @@ def own_text(edit):
     return None
 
 
-def through_edit(edit, nodes):
-    nodes = rewrite_edit(edit, nodes)
-    older, own = len(nodes) - 1, own_text(edit)
+def through_edit(edit, edition, nodes):
+    nodes = rewrite_edit(edit, edition, nodes)
+    older, own = len(nodes) - 1, own_text(edit, edition)
     if own:
         image = put_text(nodes, *own, None)
         nodes.append((7, 0, older, image))
     return nodes
 
 
-def through(sheet):
-    return over_sheet([(0, 0, 0, 0)], sheet, through_edit)
+def through(sheet, edition):
+    return over_sheet([(0, 0, 0, 0)], sheet, edition, through_edit)
 
 
 # ---- what is printed
 
-def outcome(verdict, work, show):
-    """What the work gives where nothing is refused before or by it, and the line for it."""
-    result = None
-    if not verdict:
-        result, verdict = work()
-    return result, "refused %d %d" % verdict if verdict else show(result)
+def results(site, condition, sheet, edition):
+    """What applying, rewriting and the condition for going through give, each with the refusal before or by it."""
+    unknown, illegal = pieces.judge_edition(edition), pieces.judge_sheet(sheet)
+
+    def unless(refusal, work):
+        refusal = unknown or refusal or illegal
+        return (None, refusal) if refusal else work()
+
+    return (
+        unless(lists.judged(bytes(site))[0], lambda: apply(site, sheet, edition)),
+        unless(pieces.judge_condition(condition), lambda: rewrite(condition, sheet, edition)),
+        unless(None, lambda: through(sheet, edition)),
+    )
+
+
+def line(found, show):
+    result, refusal = found
+    return "refused %d %d" % refusal if refusal else show(result)
 
 
 def show_table(d):
-    return "%d nodes %s" % (len(d) // NODE_BYTES, d.hex())
+    nodes = len(d) // NODE_BYTES
+    return "%d nodes %s" % (nodes, "sum %d" % pieces.checksum(d) if nodes > SHOWN_NODES else d.hex())
 
 
 def works(site, table, after):
@@ -267,22 +319,50 @@ def works(site, table, after):
     return line
 
 
-def answer(site, condition, sheet):
-    after, applied = outcome(
-        pieces.judge_site(site) or pieces.judge_sheet(sheet), lambda: apply(site, sheet),
-        lambda d: "applied" + "".join(" %d:%d" % (k, b) for k, b in enumerate(d) if b != site[k]))
-    table, nodes = outcome(
-        pieces.judge_condition(condition) or pieces.judge_sheet(sheet), lambda: rewrite(condition, sheet), show_table)
-    lines = [applied, nodes]
+def answer(site, condition, sheet, edition):
+    found = results(site, condition, sheet, edition)
+    check_editions(site, condition, sheet, edition, found)
+    (after, _), (table, _), (own, _) = found
+    lines = [
+        line(found[0], lambda d: "applied" + "".join(" %d:%d" % (k, b) for k, b in enumerate(d) if b != site[k])),
+        line(found[1], show_table),
+    ]
     if after is not None and table is not None:
         one, two = lists.answer(after, condition), lists.answer(site, table)
         assert one == two, (one, two)
         lines += ["after " + one, "today " + two]
-    table, nodes = outcome(pieces.judge_sheet(sheet), lambda: through(sheet), show_table)
-    lines.append("through " + nodes)
-    if table is not None:
-        lines.append("works " + works(site, table, after))
+    lines.append("through " + line(found[2], show_table))
+    if own is not None:
+        lines.append("works " + works(site, own, after))
     return lines
+
+
+# ---- what the editions have to do with each other
+
+def rehoming(edit):
+    """AT on links 4 to 7: what the editions differ in."""
+    return replaces(edit, SECOND)
+
+
+def cleared(edits):
+    """The edits with a DT2 before each that re-homes: in edition 1 they do what the edits do in edition 2."""
+    return [e for edit in edits for e in ([(6, *edit[1:3], 0)] if rehoming(edit) else []) + [edit]]
+
+
+def check_editions(site, condition, sheet, edition, found):
+    """Where no edit re-homes, the editions answer alike. Where one does and edition 1 goes through, edition 2 leaves the same site; and it does what
+    edition 1 does with the old targets taken away."""
+    if pieces.judge_edition(edition) or pieces.judge_sheet(sheet):
+        return
+    edits, other = edits_of(sheet), FIRST + SECOND - edition
+    if not any(map(rehoming, edits)):
+        assert results(site, condition, sheet, other) == found
+    elif edition == SECOND and not lists.judged(bytes(site))[0]:
+        after, refusal = found[0]
+        assert apply(site, sheet, FIRST)[0] in (None, after)
+        if refusal:
+            refusal = 13, len(cleared(edits[:refusal[1] + 1])) - 1
+        assert apply(site, pieces.sheet(*cleared(edits)), FIRST) == (after, refusal), (edits, refusal)
 
 
 # ---- cases
@@ -302,29 +382,30 @@ def random_edit(rng, site, operations):
     return (op, *(operands[o]() for o in pieces.OPERANDS[op]))
 
 
-def random_sheet(rng, d, length, operations=range(OPERATIONS), stray=0.01):
+def random_sheet(rng, d, length, edition, operations=range(OPERATIONS), stray=0.01):
     """Edits that go through, but for some that need not."""
     site, sheet = Site(d), bytearray()
     for _ in range(length):
         for _ in range(20):
             edit = random_edit(rng, site, operations)
-            if goes_through(site, edit) or rng.random() < stray:
+            if goes_through(site, edit, edition) or rng.random() < stray:
                 break
         else:
             continue
         sheet += bytes(edit)
-        if goes_through(site, edit):
-            site = change(site, edit)
+        if goes_through(site, edit, edition):
+            site = change(site, edit, edition)
     return sheet
 
 
 def every_kind():
-    """A condition with every kind of node, each way under a diamond and under a box, names and labels of every number."""
+    """A condition with every kind of node, each way under a diamond and under a box, the first names and labels and the last."""
     nodes = [(0, 0, 0, 0), (1, 0, 0, 0), (4, 0, 0, 0), (12, 7, 0, 0), (4, 1, 0, 0), (11, 1, 4, 0)]
     labels = len(nodes)
-    names = labels + LABELS
-    nodes += [(2, p, 0, 0) for p in range(LABELS)] + [(3, n, 0, 0) for n in range(NAMES)]
-    below = [0, 1, 2, 3, *(labels + p for p in (0, 1)), *(names + n for n in (0, 1, 2, 3, NAMES - 1))]
+    nodes += [(2, p, 0, 0) for p in (*range(4), LABELS - 1)]
+    names = len(nodes)
+    nodes += [(3, n, 0, 0) for n in (*range(5), NAMES - 2, NAMES - 1)]
+    below = [0, 1, 2, 3, labels, labels + 1, *(names + k for k in (0, 1, 2, 3, 6))]
     for way in range(WAYS):
         nodes += [(8, way, below[way % len(below)], 0), (9, way, len(nodes) - 3, 0)]
     nodes += [(5, 0, 1, 0), (7, 0, len(nodes), len(nodes) - 1), (6, 0, 2, len(nodes) + 1), (10, 0, len(nodes) + 2, 0)]
@@ -381,7 +462,8 @@ def every_edit():
     yield from ((0, x, y) for x, y in ((1, 2), (2, 1), (3, 3), (1, 0), (NAMES - 1, 1)))
     yield from ((1, x, y, f) for x, y, f in ((1, 2, 4), (1, 1, 4), (2, 1, 5), (3, 0, 6), (1, 3, 7)))
     yield from ((op, n, p) for op in (2, 3) for n, p in ((1, 0), (2, 3), (0, 0), (3, LABELS - 1)))
-    yield from ((op, m, x, y) for op in (4, 5) for m in range(LINKS) for x, y in ((1, 2), (2, 1), (1, 1), (0, 1), (3, 1), (0, 0)))
+    yield from ((4, m, x, y) for m in range(LINKS) for x, y in ((1, 2), (2, 1), (1, 1), (0, 1), (3, 1), (0, 0)))
+    yield from ((5, m, x, y) for m in range(LINKS) for x, y in ((1, 2), (2, 1), (1, 1), (0, 1)))
     yield from ((6, f, n) for f in range(GENERAL, LINKS) for n in (0, 1, 2))
     yield from ((7, n, k) for n, k in ((1, 4), (1, 255), (3, 7), (2, 0), (2, 3)))
     yield from ((8, n) for n in (0, 1, 2, 3))
@@ -661,39 +743,202 @@ def random_marks(rng):
     """Names that come and go, and the labels that they get."""
     for _ in range(40):
         site, conditions = lists.random_site(rng, rng.choice((0, 30))), list(label_conditions(rng.randrange(1, 4)))
-        yield site, rng.choice(conditions), random_sheet(rng, site, rng.choice((2, 4, 8, 16)), (0, 1, 2, 2, 2, 2, 3, 7, 8))
+        yield site, rng.choice(conditions), random_sheet(rng, site, rng.choice((2, 4, 8, 16)), FIRST, (0, 1, 2, 2, 2, 2, 3, 7, 8))
+
+
+# ---- cases of re-homing
+
+# AT 6 2 3 in edition 2: the four blocks, with label 3 before them as node 0, whose image is T; the first words of each are its text
+BLOCKS = {
+    # n1 ! T <f> & n1 n2 T & <E> & |
+    (8, 6): (
+        (3, 2, 0, 0), (5, 0, 1, 0), (8, 6, 0, 0), (7, 0, 2, 3), (3, 2, 0, 0), (3, 3, 0, 0), (7, 0, 6, 0), (8, 16, 7, 0), (7, 0, 5, 8), (6, 0, 4, 9),
+    ),
+    # n1 T [f] | n1 ! n2 ! T | [E] | &
+    (9, 6): (
+        (3, 2, 0, 0), (9, 6, 0, 0), (6, 0, 1, 2), (3, 2, 0, 0), (5, 0, 4, 0), (3, 3, 0, 0), (5, 0, 6, 0), (6, 0, 7, 0), (9, 16, 8, 0), (6, 0, 5, 9),
+        (7, 0, 3, 10),
+    ),
+    # n1 ! T & <f-> n2 n1 T & <E> & |
+    (8, 14): (
+        (3, 2, 0, 0), (5, 0, 1, 0), (7, 0, 2, 0), (8, 14, 3, 0), (3, 3, 0, 0), (3, 2, 0, 0), (7, 0, 6, 0), (8, 16, 7, 0), (7, 0, 5, 8), (6, 0, 4, 9),
+    ),
+    # n1 T | [f-] n2 ! n1 ! T | [E] | &
+    (9, 14): (
+        (3, 2, 0, 0), (6, 0, 1, 0), (9, 14, 2, 0), (3, 3, 0, 0), (5, 0, 4, 0), (3, 2, 0, 0), (5, 0, 6, 0), (6, 0, 7, 0), (9, 16, 8, 0), (6, 0, 5, 9),
+        (7, 0, 3, 10),
+    ),
+}
+
+
+def blocks_by_hand():
+    """Each block as it is written out, on a site where slot 2 has no target by link 6."""
+    label, edits = (2, 3, 0, 0), sheet((4, 6, 2, 3))
+    for (kind, way), block in BLOCKS.items():
+        condition = pieces.table(label, (kind, way, 0, 0))
+        assert rewrite(condition, edits, SECOND) == (pieces.table(label, *block), None), (kind, way)
+        yield dense_site(), condition, edits
+
+
+def second_uplink():
+    """The specification's second uplink, with its numbers: slot 1 is a gateway, slot 2 a relay that leads no further, slot 3 a probe with an uplink
+    to it, which gets one to the gateway. R says that an uplink chain leads to a gateway."""
+    site, edits = with_bytes(A, (NAMES_AT + 1, 1), (target_at(4, 2), 0)), sheet((4, 4, 2, 1))
+    after = with_bytes(site, (target_at(4, 3), 1))
+    assert [apply(site, edits, edition) for edition in EDITIONS] == [(None, (13, 0)), (after, None)]
+    table = rewrite(R, edits, SECOND)[0]
+    assert [len(rewrite(R, edits, FIRST)[0]), len(table)] == [11 * NODE_BYTES, 14 * NODE_BYTES]
+    assert [len(through(edits, edition)[0]) for edition in EDITIONS] == [26 * NODE_BYTES, 13 * NODE_BYTES]
+    assert lists.outcome(site, R) == (None, ({1}, 2))
+    assert lists.outcome(after, R) == lists.outcome(site, table) == (None, ({1, 3}, 3))
+    yield site, R, edits
+
+
+def between_relays():
+    """Site A with a second relay, slot 4: the probe, slot 3, leads to the gateway by the first, and then by the second. The first may then go."""
+    site, taken = with_bytes(A, (0, 31), (NAMES_AT + 3, 4), (target_at(4, 4), 1)), (4, 4, 2, 3)
+    for edits, slots in ([], {1, 2, 3, 4}), ([taken], {1, 2, 3, 4}), ([taken, (8, 1)], {1, 3, 4}), ([(8, 1)], {1, 4}):
+        after, _ = apply(site, sheet(*edits), SECOND)
+        assert lists.outcome(after, R)[1][0] == slots, edits
+        yield site, R, sheet(*edits)
+
+
+def homes(f):
+    """Name n at slot n, up to 6, name 7 at nil, name 8 at slot 1 too. By link f slots 1 and 4 lead to 2, 2 to 3, 5 to itself, 3 and 6 nowhere; by the
+    other functional links each leads to the next, and general links lead from slot 1."""
+    site = with_bytes(bytes(SITE_BYTES), (0, 127), (NAMES_AT + 8, 1), *((NAMES_AT + n, n) for n in range(1, 7)))
+    for g in range(GENERAL, LINKS):
+        for s, t in ((1, 2), (2, 3), (4, 2), (5, 5)) if g == f else ((s, 1 + s % 6) for s in range(1, 7)):
+            site[target_at(g, s)] = t
+        pieces.put(site, row_at(g - GENERAL, 1), g - 1)
+    for p, s in ((0, 3), (1, 1), (1, 2), (1, 5)):
+        pieces.put(site, label_at(p), s)
+    return site
+
+
+def single_rehomings():
+    """The names of AT there: the target that there is, another, the slot itself, by this name or by another; a slot without a target, one with itself
+    as its target, one that shares its target; and names at nil."""
+    yield from ((1, 2), (1, 3), (1, 4), (1, 1), (1, 8), (8, 5), (6, 3), (3, 1), (5, 1), (5, 5), (4, 6), (2, 1))
+    yield from ((1, 7), (7, 1), (7, 7), (1, 0), (0, 1), (0, 0))
+
+
+def ways_of(f):
+    """The diamond and the box of a functional link and of its reverse, over label 1."""
+    for kind in (8, 9):
+        for way in (f, f + LINKS):
+            yield pieces.table((2, 1, 0, 0), (kind, way, 0, 0))
+
+
+def loops_of(f):
+    """A chain by the link leads to label 0; and every chain back stays in label 1 or slot 6."""
+    yield pieces.table((2, 0, 0, 0), (4, 0, 0, 0), (8, f, 1, 0), (6, 0, 0, 2), (10, 0, 3, 0))
+    yield pieces.table((2, 1, 0, 0), (12, 6, 0, 0), (6, 0, 0, 1), (4, 0, 0, 0), (9, f + LINKS, 3, 0), (7, 0, 2, 4), (11, 0, 5, 0))
+
+
+def several_rehomings(f):
+    """Edits there: away and back, onto itself, in a ring; the name follows the new target, or the old; the old link and the new are removed; slots
+    that come and go; names that go to nil; other links between; and as many as a sheet has."""
+    def to(x, y):
+        return 4, f, x, y
+
+    other = GENERAL + (f + 1) % FUNCTIONAL
+    yield [to(1, 3), to(1, 4), to(1, 2)]
+    yield [to(1, 1), to(8, 8), to(8, 3)]
+    yield [to(1, 2), to(2, 3), to(3, 1), to(2, 1), to(1, 3)]
+    yield [to(1, 3), (1, 1, 1, f), to(1, 4)]
+    yield [to(1, 5), (1, 2, 8, f), (8, 2)]
+    yield [(1, 2, 1, f), to(1, 5), (8, 2)]
+    yield [to(1, 3), (1, 6, 4, f), (1, 1, 6, f), (8, 1), to(2, 6)]
+    yield [to(1, 3), (5, f, 1, 2)]
+    yield [to(1, 3), (5, f, 8, 3), to(1, 4)]
+    yield [(6, f, 1), to(1, 3)]
+    yield [to(1, 3), (6, f, 8), to(4, 1)]
+    yield [(7, 7, 9), to(1, 7), to(7, 3), (8, 2), (2, 7, 1)]
+    yield [(8, 2), to(1, 3), to(4, 1)]
+    yield [to(1, 3), (8, 1), to(1, 3)]
+    yield [to(1, 3), (0, 3, 0), to(1, 3)]
+    yield [to(6, 3), to(1, 7)]
+    yield [(4, f - GENERAL, 1, 3), to(1, 3), (4, other, 1, 3), (4, other, 8, 2)]
+    yield [to(1 + k % 6, 1 + 5 * k % 7 % 6) for k in range(EDITS)]
+
+
+def rehomings():
+    """Each of the four functional links in turn."""
+    yield from blocks_by_hand()
+    yield from second_uplink()
+    yield from between_relays()
+    for k, (x, y) in enumerate(single_rehomings()):
+        f = GENERAL + k % FUNCTIONAL
+        for condition in ways_of(f):
+            yield homes(f), condition, sheet((4, f, x, y))
+    for f in range(GENERAL, LINKS):
+        for condition, edits in list(zip(itertools.cycle(loops_of(f)), several_rehomings(f)))[f - GENERAL::FUNCTIONAL]:
+            yield homes(f), condition, sheet(*edits)
+
+
+def rewritten_full():
+    """Tables that come to 2,048 nodes by one AT of edition 2, and to one more: its diamonds become ten nodes, its boxes eleven."""
+    for kind, more in (8, 9), (9, 10):
+        for way in (5, 5 + LINKS):
+            for nodes in (NODES - more, NODES - more + 1):
+                yield A, pieces.table((2, 0, 0, 0), *[(0, 0, 0, 0)] * (nodes - 2), (kind, way, 0, 0)), sheet((4, 5, 2, 1))
+
+
+def unknown_editions():
+    """Editions that there are not: beside a sheet that goes through in one or in both, and beside each fault of the pieces."""
+    faults = (A, named(NAMES), sheet(DT2)), (with_bytes(A, pieces.LINK_FAULTS[0]), R, sheet()), *order()
+    yield from ((A, R, sheet(edit), edition) for edition in pieces.UNKNOWN for edit in (DT2, (4, 4, 1, 2)))
+    yield from ((*case, pieces.UNKNOWN[k % 5]) for k, case in enumerate(faults))
+
+
+def in_editions(cases):
+    """Where an edit re-homes, in both editions; else in one of them, in turn, since they answer alike."""
+    for k, (site, condition, sheet) in enumerate(cases):
+        both = any(len(edit) == EDIT_BYTES and rehoming(edit) for edit in edits_of(sheet))
+        for edition in EDITIONS if both else EDITIONS[k % 2:][:1]:
+            yield site, condition, sheet, edition
+
+
+def random_cases(rng):
+    for k in range(150):
+        edition = EDITIONS[k % 2]
+        site = lists.random_site(rng, rng.choice((0, 5, 30, 120)))
+        three = [site, lists.random_condition(rng), random_sheet(rng, site, rng.choice((1, 2, 3, 4, 6)), edition)]
+        part = rng.randrange(8)
+        if part < 3:
+            three[part] = damaged(rng, three[part])
+        yield *three, edition
+    for _ in range(40):
+        site = lists.random_site(rng, rng.choice((0, 30, 120)))
+        edits = random_sheet(rng, site, rng.choice((1, 2, 3, 4, 6)), SECOND, (0, 1, 4, 4, 4, 5, 6, 7, 8), 0.1)
+        yield from in_editions([(site, named(1), edits)])
 
 
 def cases(rng):
-    yield from by_hand()
-    for edits in (*going(), *long_going()):
-        yield A, named(1), sheet(*edits)
-    yield from many_names()
-    yield from labels_and_nil()
+    plain = (*by_hand(), *((A, named(1), sheet(*edits)) for edits in (*going(), *long_going())), *many_names(), *labels_and_nil(), *order())
+    yield from in_editions(plain)
     site, condition = dense_site(), every_kind()
-    for edit in every_edit():
-        yield site, condition, sheet(edit)
-    yield from order()
-    for _ in range(150):
-        site = lists.random_site(rng, rng.choice((0, 5, 30, 120)))
-        condition = lists.random_condition(rng)
-        edits = random_sheet(rng, site, rng.choice((1, 2, 3, 4, 6)))
-        part = rng.randrange(8)
-        yield damaged(rng, site) if part == 0 else site, damaged(rng, condition) if part == 1 else condition, damaged(rng, edits) if part == 2 else edits
-    for _ in range(60):
-        site = lists.random_site(rng, rng.choice((0, 30, 120)))
-        yield site, named(1), random_sheet(rng, site, rng.choice((1, 2, 3, 4, 6)), (0, 1, 4, 4, 4, 5, 6, 7, 8), 0.1)
-    yield from random_marks(rng)
+    for edition in EDITIONS:
+        for edit in every_edit():
+            yield site, condition, sheet(edit), edition
+    yield from in_editions(rehomings())
+    for case in unknown_editions():
+        assert results(*case) == ((None, (18, 0)),) * 3, case[3]
+        yield case
+    yield from random_cases(rng)
+    yield from in_editions(random_marks(rng))
 
 
 def main():
     sys.setrecursionlimit(20000)
     rng = random.Random(SEED)
     stdin, stdout, count = bytearray(), [], {}
-    for site, condition, sheet in cases(rng):
+    for site, condition, sheet, edition in cases(rng):
         for kind, d in ((pieces.SITE, site), (pieces.CONDITION, condition), (pieces.SHEET, sheet)):
             stdin += pieces.encode(kind, d)
-        lines = answer(site, condition, sheet)
+        stdin += pieces.encode_number(edition)
+        lines = answer(site, condition, sheet, edition)
         stdout += lines
         for line in lines:
             words = line.split()

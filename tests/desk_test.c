@@ -4,9 +4,10 @@
  * turn a byte short or a byte long, and with buffers of other wrong lengths. Results, counts, reasons and W are compared, and every byte
  * of every buffer; buffers are filled with 0xAA before, inputs must stay as they are, and the memory after each input and buffer may not
  * be touched. Listing and the job get limits about the rounds that they make, and then a larger one, under which nothing may change. The condition
- * for a sheet's going through is listed on the job's site, and applying has to agree with it. Chains are asked for by several ways from several
- * starts, and also on sites that have long ones; all chains are tried where they are few, and the list of mu 15 (goal or diamond of variable 15) has
- * to agree. The first difference ends the run with 1, and so does something that so many jobs should have met and have not. */
+ * for a sheet's going through is listed on the job's site, and applying has to agree with it. Each sheet is asked about in both editions: without
+ * AT on links 4 to 7 no byte may differ, and where edition 1 goes through, edition 2 has to leave the same site. Chains are asked for by several ways
+ * from several starts, and also on sites that have long ones; all chains are tried where they are few, and the list of mu 15 (goal or diamond of
+ * variable 15) has to agree. The first difference ends the run with 1, and so does something that so many jobs should have met and have not. */
 #define _DEFAULT_SOURCE
 #include "random_jobs.h"
 
@@ -141,6 +142,14 @@ enum { LONG_FROM = 8, LONGEST = 17 };                           /* steps; so man
 enum { BY_E, BY_WAY, BY_NUMBER, BY_ABSENCE, STARTS };           /* why item 17 is met, if for one cause alone: the way is E, or over E; the start
                                                                  * is over 255, or absent */
 
+/* What AT of edition 2 finds on links 4 to 7: no target; the same one; another one, which it replaces by a third slot or by the slot itself; or one
+ * that an edit before it has put in another's place. */
+enum { NO_TARGET, SAME_TARGET, OTHER_TARGET, TO_ITSELF, MOVED_AGAIN, HOMINGS };
+
+/* How the two editions of a sheet compare: no AT on links 4 to 7; with it, the same site, only edition 2 goes through, or neither does. */
+enum { ALIKE, SAME_SITE, SECOND_ALONE, NEITHER, PAIRS };
+enum { BOTH_WAYS = 2 * FUNCTIONAL };                            /* ways 4 to 7, and their reverses */
+
 static struct {
     unsigned long reasons[ENTRIES][REASONS];
     unsigned long kinds[KINDS], diamonds[WAYS], boxes[WAYS]; /* nodes that an accepted condition's last node reaches */
@@ -164,9 +173,13 @@ static struct {
     unsigned long set_ways[EVERYWHERE];                      /* sets with more than the start */
     unsigned long tried[2];                                  /* sets and chains that trying all chains gave too */
     unsigned long exact[2];                                  /* and with which the list of the loop agreed */
+    unsigned long homings[HOMINGS];                          /* of sheets that went through */
+    unsigned long pairs[PAIRS];                              /* sheets in both editions */
+    unsigned long moved[2][BOTH_WAYS];                       /* diamonds and boxes over a link that moves, in jobs of edition 2 */
 } met;
 
-static void meet_nodes(void)
+/* Each node that the last one of the condition reaches. */
+static void for_reached(void (*meet)(const uint8_t *node))
 {
     static bool reached[DESK_NODES_MAX];
     int count = (int)cond.length / DESK_NODE_BYTES;
@@ -176,18 +189,23 @@ static void meet_nodes(void)
         const uint8_t *node = cond.at + DESK_NODE_BYTES * i;
         if (!reached[i])
             continue;
-        met.kinds[node[0]]++;
-        if (node[0] == NAME)
-            met.names[node[1]]++;
-        if (node[0] == DIAMOND)
-            met.diamonds[node[1]]++;
-        if (node[0] == BOX)
-            met.boxes[node[1]]++;
+        meet(node);
         if (children(node[0]) >= 1)
             reached[node[2] + 256 * node[3]] = true;
         if (children(node[0]) == 2)
             reached[node[4] + 256 * node[5]] = true;
     }
+}
+
+static void meet_node(const uint8_t *node)
+{
+    met.kinds[node[0]]++;
+    if (node[0] == NAME)
+        met.names[node[1]]++;
+    if (node[0] == DIAMOND)
+        met.diamonds[node[1]]++;
+    if (node[0] == BOX)
+        met.boxes[node[1]]++;
 }
 
 static void meet_edits(unsigned long *operations, size_t count)
@@ -231,20 +249,58 @@ static bool has_label(int label)
     return false;
 }
 
-/* From edit to edit, since names move. */
+static void meet_mark(const struct model *model, const uint8_t *edit)
+{
+    if (edit[0] == AP && model->name[edit[1]] == DESK_NIL) {
+        met.effects[UNMARKED]++;
+        met.effects[ASKED] += has_label(edit[2]);
+    } else if (edit[0] == AP) {
+        met.effects[MARKED]++;
+    }
+}
+
+/* The targets that the last sheet that went through has put in the place of others, by links 4 to 7. */
+static struct {
+    bool link[LINKS], slot[LINKS][SLOTS];
+} moved;
+
+static bool is_homing(const uint8_t *edit)
+{
+    return edit[0] == AT && edit[1] >= GENERAL;
+}
+
+static void meet_homing(const struct model *model, const uint8_t *edit)
+{
+    if (edition != DESK_EDITION_2 || !is_homing(edit))
+        return;
+    const int link = edit[1], from = model->name[edit[2]], to = model->name[edit[3]], old = model_target(model, link, from);
+    const bool moves = old != DESK_NIL && old != to;
+    met.homings[NO_TARGET] += old == DESK_NIL;
+    met.homings[SAME_TARGET] += old == to;
+    met.homings[OTHER_TARGET] += moves && to != from;
+    met.homings[TO_ITSELF] += moves && to == from;
+    met.homings[MOVED_AGAIN] += moves && moved.slot[link][from];
+    moved.slot[link][from] |= moves;
+    moved.link[link] |= moves;
+}
+
+static void meet_moved(const uint8_t *node)
+{
+    const int link = node[1] % LINKS;
+    if ((node[0] == DIAMOND || node[0] == BOX) && node[1] != EVERYWHERE && moved.link[link])
+        met.moved[node[0] == BOX][link - GENERAL + (node[1] < LINKS ? 0 : FUNCTIONAL)]++;
+}
+
+/* From edit to edit, since names and links move. */
 static void meet_effects(void)
 {
     static struct model model;
     model_read(&model, site.at);
+    memset(&moved, 0, sizeof moved);
     for (size_t k = 0; k < sheet.length; k += DESK_EDIT_BYTES) {
-        const uint8_t *edit = sheet.at + k;
-        if (edit[0] == AP && model.name[edit[1]] == DESK_NIL) {
-            met.effects[UNMARKED]++;
-            met.effects[ASKED] += has_label(edit[2]);
-        } else if (edit[0] == AP) {
-            met.effects[MARKED]++;
-        }
-        model_edit(&model, edit);
+        meet_mark(&model, sheet.at + k);
+        meet_homing(&model, sheet.at + k);
+        model_edit(&model, sheet.at + k, edition);
     }
 }
 
@@ -464,7 +520,7 @@ static uint32_t try_list(const size_t *lengths)
     check_input("desk_list", a);
     check_input("desk_list", b);
     if (other.reason == DESK_OK) {
-        meet_nodes();
+        for_reached(meet_node);
         check_walk(&other);
     }
     met.listed += other.count != 0;
@@ -475,8 +531,8 @@ static uint32_t try_apply(const size_t *lengths)
 {
     struct input a = lend(0, &site), b = lend(1, &sheet);
     open_buffer(0, lengths[0]);
-    struct desk_applied one = desk_apply(INPUT(a), INPUT(b), BUFFER(0));
-    struct desk_applied other = oracle_apply(INPUT(a), INPUT(b), ORACLE(0));
+    struct desk_applied one = desk_apply(INPUT(a), INPUT(b), edition, BUFFER(0));
+    struct desk_applied other = oracle_apply(INPUT(a), INPUT(b), edition, ORACLE(0));
     check_numbers("desk_apply", &one, &other, sizeof one);
     check_buffers("desk_apply", 1, other.reason, -1);
     check_input("desk_apply", a);
@@ -495,8 +551,8 @@ static uint32_t try_rewrite(const size_t *lengths)
 {
     struct input a = lend(0, &cond), b = lend(1, &sheet);
     open_buffer(0, lengths[0]);
-    struct desk_rewritten one = desk_rewrite(INPUT(a), INPUT(b), BUFFER(0));
-    struct desk_rewritten other = oracle_rewrite(INPUT(a), INPUT(b), ORACLE(0));
+    struct desk_rewritten one = desk_rewrite(INPUT(a), INPUT(b), edition, BUFFER(0));
+    struct desk_rewritten other = oracle_rewrite(INPUT(a), INPUT(b), edition, ORACLE(0));
     check_numbers("desk_rewrite", &one, &other, sizeof one);
     check_buffers("desk_rewrite", 1, other.reason, -1);
     check_input("desk_rewrite", a);
@@ -510,8 +566,8 @@ static uint32_t try_through(const size_t *lengths)
 {
     struct input a = lend(0, &sheet);
     open_buffer(0, lengths[0]);
-    struct desk_rewritten one = desk_through(INPUT(a), BUFFER(0));
-    struct desk_rewritten other = oracle_through(INPUT(a), ORACLE(0));
+    struct desk_rewritten one = desk_through(INPUT(a), edition, BUFFER(0));
+    struct desk_rewritten other = oracle_through(INPUT(a), edition, ORACLE(0));
     check_numbers("desk_through", &one, &other, sizeof one);
     check_buffers("desk_through", 1, other.reason, -1);
     check_input("desk_through", a);
@@ -603,8 +659,8 @@ static uint32_t try_entry(int e, const size_t *lengths)
 static void try_works(void)
 {
     static uint8_t table[DESK_TABLE_BYTES], result[DESK_SITE_BYTES], set[DESK_SET_BYTES], work[DESK_WORK_BYTES], wanted[DESK_SET_BYTES];
-    struct desk_rewritten through = desk_through(sheet.at, sheet.length, table, sizeof table);
-    struct desk_applied applied = desk_apply(site.at, site.length, sheet.at, sheet.length, result, sizeof result);
+    struct desk_rewritten through = desk_through(sheet.at, sheet.length, edition, table, sizeof table);
+    struct desk_applied applied = desk_apply(site.at, site.length, sheet.at, sheet.length, edition, result, sizeof result);
     if (through.reason != DESK_OK || (applied.reason != DESK_OK && applied.reason != DESK_NOT_THROUGH))
         return;
     const bool works = applied.reason == DESK_OK;
@@ -613,6 +669,62 @@ static void try_works(void)
     if (r.reason != DESK_OK || r.where != 0 || r.count != (works ? SLOTS : 0) || memcmp(set, wanted, sizeof set) != 0)
         fail("desk_through", "what its table lists from what applying does");
     met.works[works]++;
+}
+
+/* What the library says of the pieces at hand in one edition. */
+struct answers {
+    struct desk_applied applied;
+    struct desk_rewritten rewritten, through;
+    struct desk_done done;
+    struct {
+        uint8_t site[DESK_SITE_BYTES], rewritten[DESK_TABLE_BYTES], through[DESK_TABLE_BYTES];
+        uint8_t job_site[DESK_SITE_BYTES], table[DESK_TABLE_BYTES], after[DESK_SET_BYTES], today[DESK_SET_BYTES], classes[DESK_CLASSES_BYTES];
+        uint8_t work[DESK_WORK_BYTES];
+    } to;
+};
+
+static void ask(struct answers *a, uint32_t in_edition)
+{
+    const uint32_t kept = edition;
+    edition = in_edition;
+    build_file();
+    memset(&a->to, 0xaa, sizeof a->to);
+    a->applied = desk_apply(site.at, site.length, sheet.at, sheet.length, edition, a->to.site, sizeof a->to.site);
+    a->rewritten = desk_rewrite(cond.at, cond.length, sheet.at, sheet.length, edition, a->to.rewritten, sizeof a->to.rewritten);
+    a->through = desk_through(sheet.at, sheet.length, edition, a->to.through, sizeof a->to.through);
+    a->done = desk_job(file.at, file.length, limit, a->to.job_site, sizeof a->to.job_site, a->to.table, sizeof a->to.table, a->to.after,
+                       sizeof a->to.after, a->to.today, sizeof a->to.today, a->to.classes, sizeof a->to.classes, a->to.work, sizeof a->to.work);
+    edition = kept;
+}
+
+static bool has_homing(void)
+{
+    bool found = false;
+    for (size_t k = 0; k + 1 < sheet.length; k += DESK_EDIT_BYTES)
+        found |= is_homing(sheet.at + k);
+    return found;
+}
+
+/* The sheet at hand in both editions, beside no oracle; the file is built again. Edition 2 goes through wherever edition 1 does, and gets as far
+ * wherever it does not. */
+static void try_editions(void)
+{
+    static struct answers one, two;
+    ask(&one, DESK_EDITION_1);
+    ask(&two, DESK_EDITION_2);
+    const bool first = one.applied.reason == DESK_OK, second = two.applied.reason == DESK_OK, stuck = one.applied.reason == DESK_NOT_THROUGH;
+    if (!has_homing() && memcmp(&one, &two, sizeof one) != 0)
+        fail("a sheet without AT on links 4 to 7", "edition 2 from edition 1");
+    if (!stuck && (one.applied.reason != two.applied.reason || memcmp(one.to.site, two.to.site, sizeof one.to.site) != 0))
+        fail("desk_apply", "edition 2 from edition 1, which is not stuck,");
+    if (stuck && !second && (two.applied.reason != DESK_NOT_THROUGH || two.applied.where < one.applied.where))
+        fail("desk_apply", "how far edition 2 gets");
+    if (one.done.reason == DESK_OK && two.done.reason == DESK_OK && memcmp(one.to.after, two.to.after, sizeof one.to.after) != 0)
+        fail("desk_job", "the list of edition 2 from that of edition 1");
+    if (two.done.reason == DESK_OK && edition == DESK_EDITION_2)
+        for_reached(meet_moved);
+    if (first || stuck)
+        met.pairs[!has_homing() ? ALIKE : first ? SAME_SITE : second ? SECOND_ALONE : NEITHER]++;
 }
 
 /* The rounds of the condition on the site; one more than the highest limit for more. */
@@ -809,6 +921,14 @@ static void build_sheet(int op, int x, int y, int z)
     add_edits(1, op, x, y, z);
 }
 
+/* The pieces of the job of the specification. */
+static void build_j(void)
+{
+    build_a();
+    build_r();
+    build_sheet(DT2, 4, 1, 0);
+}
+
 /* The reason, with the count or W. */
 static void expect_list(uint32_t reason, uint32_t number, const char *what)
 {
@@ -821,7 +941,7 @@ static void expect_list(uint32_t reason, uint32_t number, const char *what)
 static void expect_rewrite(uint32_t reason, uint32_t nodes, const char *what)
 {
     static uint8_t table[DESK_TABLE_BYTES];
-    struct desk_rewritten r = desk_rewrite(cond.at, cond.length, sheet.at, sheet.length, table, sizeof table);
+    struct desk_rewritten r = desk_rewrite(cond.at, cond.length, sheet.at, sheet.length, edition, table, sizeof table);
     expect(r.reason == reason && r.where == 0 && r.nodes == nodes, what);
 }
 
@@ -829,7 +949,7 @@ static void expect_rewrite(uint32_t reason, uint32_t nodes, const char *what)
 static void expect_through(uint32_t reason, uint32_t number, const char *what)
 {
     static uint8_t table[DESK_TABLE_BYTES];
-    struct desk_rewritten r = desk_through(sheet.at, sheet.length, table, sizeof table);
+    struct desk_rewritten r = desk_through(sheet.at, sheet.length, edition, table, sizeof table);
     expect(r.reason == reason && r.where == (reason ? number : 0) && r.nodes == (reason ? 0 : number), what);
     try_entry(THROUGH, entries[THROUGH].lengths);
 }
@@ -838,7 +958,7 @@ static void expect_through(uint32_t reason, uint32_t number, const char *what)
 static void expect_works(bool works, const char *what)
 {
     static uint8_t table[DESK_TABLE_BYTES], set[DESK_SET_BYTES], work[DESK_WORK_BYTES];
-    struct desk_rewritten t = desk_through(sheet.at, sheet.length, table, sizeof table);
+    struct desk_rewritten t = desk_through(sheet.at, sheet.length, edition, table, sizeof table);
     struct desk_listed r = desk_list(site.at, site.length, table, DESK_NODE_BYTES * t.nodes, 0, set, sizeof set, work, sizeof work);
     expect(t.reason == DESK_OK && r.reason == DESK_OK && r.count == (works ? SLOTS : 0), what);
     try_works();
@@ -945,21 +1065,6 @@ static void try_full_tables(void)
     expect_rewrite(DESK_OK, DESK_NODES_MAX, "a full table without the label");
 }
 
-/* A functional link onto the target that is there, onto another one, and from a slot to itself. */
-static void try_links(void)
-{
-    static const int ends[3][2] = {{2, 1}, {1, 2}, {1, 1}};
-    build_a();
-    for (int k = 0; k < 3; k++) {
-        static uint8_t result[DESK_SITE_BYTES];
-        build_sheet(AT, 4, ends[k][0], ends[k][1]);
-        struct desk_applied r = desk_apply(site.at, site.length, sheet.at, sheet.length, result, sizeof result);
-        expect(k == 0 ? r.reason == DESK_OK && memcmp(result, site.at, sizeof result) == 0 : r.reason == DESK_NOT_THROUGH,
-               "AT over a target");
-        try_entry(APPLY, entries[APPLY].lengths);
-    }
-}
-
 /* The tables of short sheets, every byte, and whether the sheets work on site A. */
 #define EDIT(op, x, y, z) (op), (x), (y), (z)
 #define NODE(kind, param, left, right) (kind), (param), (left), 0, (right), 0 /* children below 256 */
@@ -971,30 +1076,35 @@ static void try_links(void)
         NODE(3, 2, 0, 0), NODE(3, 0, 0, 0), NODE(7, 0, 6, 7), NODE(8, 16, 8, 0), NODE(5, 0, 9, 0), /* n2 nil & <E> ! */      \
         NODE(7, 0, 5, 10)
 
+enum { EITHER = 0 }; /* for an edition: the same in both */
+
 static const struct known {
     const char *what;
+    uint32_t edition;
     bool works;
     int edits, nodes;
     uint8_t sheet[2 * DESK_EDIT_BYTES], table[26 * DESK_NODE_BYTES];
 } known[] = {
-    {"through no edit", true, 0, 1, {0}, {NODE(0, 0, 0, 0)}},
-    {"through DT2 4 1", true, 1, 1, {EDIT(6, 4, 1, 0)}, {NODE(0, 0, 0, 0)}},
-    {"through DS 1", true, 1, 7, {EDIT(8, 1, 0, 0)},
+    {"through no edit", EITHER, true, 0, 1, {0}, {NODE(0, 0, 0, 0)}},
+    {"through DT2 4 1", EITHER, true, 1, 1, {EDIT(6, 4, 1, 0)}, {NODE(0, 0, 0, 0)}},
+    {"through DS 1", EITHER, true, 1, 7, {EDIT(8, 1, 0, 0)},
      {NODE(0, 0, 0, 0), NODE(3, 1, 0, 0), NODE(3, 0, 0, 0), NODE(7, 0, 1, 2), NODE(8, 16, 3, 0), NODE(5, 0, 4, 0), NODE(7, 0, 0, 5)}},
-    {"through AS 3 4", true, 1, 7, {EDIT(7, 3, 4, 0)},
+    {"through AS 3 4", EITHER, true, 1, 7, {EDIT(7, 3, 4, 0)},
      {NODE(0, 0, 0, 0), NODE(1, 0, 0, 0), NODE(12, 4, 0, 0), NODE(7, 0, 1, 2), NODE(8, 16, 3, 0), NODE(5, 0, 4, 0), NODE(7, 0, 0, 5)}},
-    {"through AS 3 3", false, 1, 7, {EDIT(7, 3, 3, 0)},
+    {"through AS 3 3", EITHER, false, 1, 7, {EDIT(7, 3, 3, 0)},
      {NODE(0, 0, 0, 0), NODE(1, 0, 0, 0), NODE(12, 3, 0, 0), NODE(7, 0, 1, 2), NODE(8, 16, 3, 0), NODE(5, 0, 4, 0), NODE(7, 0, 0, 5)}},
-    {"through AT 0 1 2", true, 1, 13, {EDIT(4, 0, 1, 2)}, {ENDS_1_2, NODE(7, 0, 0, 11)}},
-    {"through AT 4 1 2", false, 1, 26, {EDIT(4, 4, 1, 2)},
+    {"through AT 0 1 2", EITHER, true, 1, 13, {EDIT(4, 0, 1, 2)}, {ENDS_1_2, NODE(7, 0, 0, 11)}},
+    {"through AT 4 1 2 in edition 2", DESK_EDITION_2, true, 1, 13, {EDIT(4, 4, 1, 2)}, {ENDS_1_2, NODE(7, 0, 0, 11)}},
+    {"through AT 7 1 2 in edition 2", DESK_EDITION_2, true, 1, 13, {EDIT(4, 7, 1, 2)}, {ENDS_1_2, NODE(7, 0, 0, 11)}},
+    {"through AT 4 1 2", DESK_EDITION_1, false, 1, 26, {EDIT(4, 4, 1, 2)},
      {ENDS_1_2, NODE(3, 1, 0, 0), NODE(0, 0, 0, 0), NODE(8, 4, 13, 0), NODE(7, 0, 12, 14), NODE(8, 16, 15, 0), NODE(5, 0, 16, 0),
       NODE(3, 1, 0, 0), NODE(3, 2, 0, 0), NODE(8, 4, 19, 0), NODE(7, 0, 18, 20), NODE(8, 16, 21, 0), NODE(6, 0, 17, 22),
       NODE(7, 0, 11, 23), NODE(7, 0, 0, 24)}},
-    {"through DS 1, AS 3 4", true, 2, 16, {EDIT(8, 1, 0, 0), EDIT(7, 3, 4, 0)},
+    {"through DS 1, AS 3 4", EITHER, true, 2, 16, {EDIT(8, 1, 0, 0), EDIT(7, 3, 4, 0)},
      {NODE(0, 0, 0, 0), NODE(1, 0, 0, 0), NODE(3, 1, 0, 0), NODE(5, 0, 2, 0), NODE(7, 0, 1, 3), NODE(12, 4, 0, 0), NODE(7, 0, 4, 5),
       NODE(8, 16, 6, 0), NODE(5, 0, 7, 0), NODE(7, 0, 0, 8), NODE(3, 1, 0, 0), NODE(3, 0, 0, 0), NODE(7, 0, 10, 11), NODE(8, 16, 12, 0),
       NODE(5, 0, 13, 0), NODE(7, 0, 9, 14)}},
-    {"through CN1 1 2, DS 1", true, 2, 7, {EDIT(0, 1, 2, 0), EDIT(8, 1, 0, 0)},
+    {"through CN1 1 2, DS 1", EITHER, true, 2, 7, {EDIT(0, 1, 2, 0), EDIT(8, 1, 0, 0)},
      {NODE(0, 0, 0, 0), NODE(3, 2, 0, 0), NODE(3, 0, 0, 0), NODE(7, 0, 1, 2), NODE(8, 16, 3, 0), NODE(5, 0, 4, 0), NODE(7, 0, 0, 5)}},
 };
 
@@ -1004,12 +1114,14 @@ static void try_through_tables(void)
     build_a();
     build_r();
     for (size_t k = 0; k < sizeof known / sizeof *known; k++) {
+        if (known[k].edition != EITHER && known[k].edition != edition)
+            continue;
         sheet.length = 0;
         append(&sheet, known[k].sheet, (size_t)(DESK_EDIT_BYTES * known[k].edits));
         memset(wanted, 0, sizeof wanted);
         memcpy(wanted, known[k].table, (size_t)(DESK_NODE_BYTES * known[k].nodes));
         memset(table, 0xaa, sizeof table);
-        desk_through(sheet.at, sheet.length, table, sizeof table);
+        desk_through(sheet.at, sheet.length, edition, table, sizeof table);
         expect(memcmp(table, wanted, sizeof table) == 0, known[k].what);
         expect_through(DESK_OK, (uint32_t)known[k].nodes, known[k].what);
         expect_works(known[k].works, known[k].what);
@@ -1020,37 +1132,48 @@ static void try_through_tables(void)
 
 /* On site A: a functional link to the target that is there, where there is none and where there is another; ends at nil; slots that are there;
  * and edits that make a later one go through, or not. */
+enum { NEVER = 0, ALWAYS = DESK_EDITION_1 }; /* the first edition in which a sheet works */
+
 static const struct on_a {
-    bool works;
+    uint32_t from;
     int edits;
     uint8_t sheet[3 * DESK_EDIT_BYTES];
 } on_a[] = {
-    {true, 1, {EDIT(AT, 4, 2, 1)}},
-    {true, 1, {EDIT(AT, 5, 1, 2)}},
-    {false, 1, {EDIT(AT, 4, 1, 2)}},
-    {false, 1, {EDIT(AT, 4, 1, 1)}},
-    {false, 1, {EDIT(AT, 0, 0, 1)}},
-    {false, 1, {EDIT(AT, 0, 1, 0)}},
-    {false, 1, {EDIT(AT, 5, 3, 1)}},
-    {false, 1, {EDIT(AT, 5, 1, 3)}},
-    {false, 1, {EDIT(AS, 3, 0, 0)}},
-    {true, 1, {EDIT(AS, 3, 255, 0)}},
-    {false, 1, {EDIT(DS, 0, 0, 0)}},
-    {false, 1, {EDIT(DS, 3, 0, 0)}},
-    {true, 2, {EDIT(DT2, 4, 1, 0), EDIT(AT, 4, 1, 2)}},
-    {true, 2, {EDIT(DT1, 4, 2, 1), EDIT(AT, 4, 2, 2)}},
-    {false, 2, {EDIT(DT1, 4, 1, 2), EDIT(AT, 4, 1, 2)}},
-    {true, 2, {EDIT(AT, 5, 1, 2), EDIT(AT, 5, 1, 2)}},
-    {false, 2, {EDIT(AT, 5, 1, 2), EDIT(AT, 5, 1, 1)}},
-    {true, 2, {EDIT(CN1, 3, 1, 0), EDIT(DS, 3, 0, 0)}},
-    {false, 2, {EDIT(CN1, 1, 3, 0), EDIT(DS, 1, 0, 0)}},
-    {true, 3, {EDIT(CN2, 3, 1, 4), EDIT(DS, 3, 0, 0), EDIT(AT, 4, 1, 2)}},
-    {false, 3, {EDIT(CN2, 3, 1, 4), EDIT(DS, 3, 0, 0), EDIT(DS, 3, 0, 0)}},
-    {false, 2, {EDIT(DS, 1, 0, 0), EDIT(AT, 0, 1, 2)}},
-    {true, 2, {EDIT(DS, 1, 0, 0), EDIT(AS, 3, 2, 0)}},
-    {false, 2, {EDIT(AS, 3, 4, 0), EDIT(AS, 5, 4, 0)}},
-    {true, 3, {EDIT(AS, 3, 4, 0), EDIT(DS, 3, 0, 0), EDIT(AS, 5, 4, 0)}},
-    {true, 2, {EDIT(AS, 3, 4, 0), EDIT(AT, 4, 3, 1)}},
+    {ALWAYS, 1, {EDIT(AT, 4, 2, 1)}},
+    {ALWAYS, 1, {EDIT(AT, 5, 1, 2)}},
+    {DESK_EDITION_2, 1, {EDIT(AT, 4, 1, 2)}},
+    {DESK_EDITION_2, 1, {EDIT(AT, 4, 1, 1)}},
+    {NEVER, 1, {EDIT(AT, 0, 0, 1)}},
+    {NEVER, 1, {EDIT(AT, 0, 1, 0)}},
+    {NEVER, 1, {EDIT(AT, 4, 0, 1)}},
+    {NEVER, 1, {EDIT(AT, 4, 1, 0)}},
+    {NEVER, 1, {EDIT(AT, 5, 3, 1)}},
+    {NEVER, 1, {EDIT(AT, 5, 1, 3)}},
+    {NEVER, 1, {EDIT(AT, 7, 3, 3)}},
+    {NEVER, 1, {EDIT(AS, 3, 0, 0)}},
+    {ALWAYS, 1, {EDIT(AS, 3, 255, 0)}},
+    {NEVER, 1, {EDIT(DS, 0, 0, 0)}},
+    {NEVER, 1, {EDIT(DS, 3, 0, 0)}},
+    {ALWAYS, 2, {EDIT(DT2, 4, 1, 0), EDIT(AT, 4, 1, 2)}},
+    {ALWAYS, 2, {EDIT(DT1, 4, 2, 1), EDIT(AT, 4, 2, 2)}},
+    {DESK_EDITION_2, 2, {EDIT(DT1, 4, 1, 2), EDIT(AT, 4, 1, 2)}},
+    {ALWAYS, 2, {EDIT(AT, 5, 1, 2), EDIT(AT, 5, 1, 2)}},
+    {DESK_EDITION_2, 2, {EDIT(AT, 5, 1, 2), EDIT(AT, 5, 1, 1)}},
+    {DESK_EDITION_2, 3, {EDIT(AT, 4, 1, 2), EDIT(AT, 4, 1, 1), EDIT(AT, 4, 1, 2)}},
+    {DESK_EDITION_2, 3, {EDIT(AT, 4, 1, 2), EDIT(CN2, 3, 1, 4), EDIT(DS, 3, 0, 0)}},
+    {NEVER, 3, {EDIT(AT, 4, 1, 2), EDIT(CN2, 3, 3, 4), EDIT(DS, 3, 0, 0)}},
+    {DESK_EDITION_2, 3, {EDIT(AT, 4, 1, 2), EDIT(DS, 2, 0, 0), EDIT(AT, 4, 1, 1)}},
+    {NEVER, 3, {EDIT(AT, 4, 1, 2), EDIT(DS, 2, 0, 0), EDIT(AT, 4, 1, 2)}},
+    {ALWAYS, 2, {EDIT(CN1, 3, 1, 0), EDIT(DS, 3, 0, 0)}},
+    {NEVER, 2, {EDIT(CN1, 1, 3, 0), EDIT(DS, 1, 0, 0)}},
+    {ALWAYS, 3, {EDIT(CN2, 3, 1, 4), EDIT(DS, 3, 0, 0), EDIT(AT, 4, 1, 2)}},
+    {NEVER, 3, {EDIT(CN2, 3, 1, 4), EDIT(DS, 3, 0, 0), EDIT(DS, 3, 0, 0)}},
+    {NEVER, 2, {EDIT(DS, 1, 0, 0), EDIT(AT, 0, 1, 2)}},
+    {NEVER, 2, {EDIT(DS, 1, 0, 0), EDIT(AT, 4, 1, 2)}},
+    {ALWAYS, 2, {EDIT(DS, 1, 0, 0), EDIT(AS, 3, 2, 0)}},
+    {NEVER, 2, {EDIT(AS, 3, 4, 0), EDIT(AS, 5, 4, 0)}},
+    {ALWAYS, 3, {EDIT(AS, 3, 4, 0), EDIT(DS, 3, 0, 0), EDIT(AS, 5, 4, 0)}},
+    {ALWAYS, 2, {EDIT(AS, 3, 4, 0), EDIT(AT, 4, 3, 1)}},
 };
 
 static void try_through_on_a(void)
@@ -1059,31 +1182,33 @@ static void try_through_on_a(void)
     for (size_t k = 0; k < sizeof on_a / sizeof *on_a; k++) {
         sheet.length = 0;
         append(&sheet, on_a[k].sheet, (size_t)(DESK_EDIT_BYTES * on_a[k].edits));
-        expect_works(on_a[k].works, "a sheet that works on site A, or does not");
+        expect_works(on_a[k].from != NEVER && on_a[k].from <= edition, "a sheet that works on site A, or does not");
         try_entry(THROUGH, entries[THROUGH].lengths);
     }
 }
 
-/* Edits of a kind that fit 64 times, and others up to the last that fits. With k AT of one functional link there are 1 + 25 k + 6 k (k - 1)
- * nodes: each has two diamonds, and makes seven nodes of every diamond of those behind it. With k AS there are 1 + 6 k + k (k - 1): each has a
- * here, and makes three nodes of it. Each DS makes eleven nodes of every name but nil, and four of these are such names again. */
+/* Edits of a kind that fit 64 times, and others up to the last that fits. With k AT of one functional link there are in edition 1
+ * 1 + 25 k + 6 k (k - 1) nodes: each has two diamonds, and makes seven nodes of every diamond of those behind it. In edition 2, and for a general
+ * link, there are 1 + 12 k, without a diamond. With k AS there are 1 + 6 k + k (k - 1): each has a here, and makes three nodes of it. Each DS makes
+ * eleven nodes of every name but nil, and four of these are such names again. */
 static void try_through_runs(void)
 {
     static const struct {
         int times, op, x, y, z;
-        uint32_t nodes; /* 0: too many */
+        uint32_t nodes[2]; /* in each edition; 0: too many */
     } runs[] = {
-        {64, CN1, 1, 2, 0, 1},   {64, CN2, 1, 2, 4, 1},   {64, AP, 1, 0, 0, 1},      {64, DP, 1, 0, 0, 1},
-        {64, DT1, 4, 1, 2, 1},   {64, DT2, 4, 1, 0, 1},   {64, AT, 0, 1, 2, 769},    {64, DS, 0, 0, 0, 385},
-        {16, AT, 4, 2, 1, 1841}, {17, AT, 4, 2, 1, 0},    {64, AT, 7, 2, 1, 0},      {42, AS, 3, 4, 0, 1975},
-        {43, AS, 3, 4, 0, 0},    {64, AS, 3, 4, 0, 0},    {5, DS, 1, 0, 0, 1151},    {6, DS, 1, 0, 0, 0},
-        {64, DS, 1, 0, 0, 0},
+        {64, CN1, 1, 2, 0, {1, 1}},      {64, CN2, 1, 2, 4, {1, 1}},   {64, AP, 1, 0, 0, {1, 1}},       {64, DP, 1, 0, 0, {1, 1}},
+        {64, DT1, 4, 1, 2, {1, 1}},      {64, DT2, 4, 1, 0, {1, 1}},   {64, AT, 0, 1, 2, {769, 769}},   {64, DS, 0, 0, 0, {385, 385}},
+        {16, AT, 4, 2, 1, {1841, 193}},  {17, AT, 4, 2, 1, {0, 205}},  {64, AT, 7, 2, 1, {0, 769}},     {42, AS, 3, 4, 0, {1975, 1975}},
+        {43, AS, 3, 4, 0, {0, 0}},       {64, AS, 3, 4, 0, {0, 0}},    {5, DS, 1, 0, 0, {1151, 1151}},  {6, DS, 1, 0, 0, {0, 0}},
+        {64, DS, 1, 0, 0, {0, 0}},
     };
     build_a();
     for (size_t k = 0; k < sizeof runs / sizeof *runs; k++) {
+        const uint32_t nodes = runs[k].nodes[edition - DESK_EDITION_1];
         sheet.length = 0;
         add_edits(runs[k].times, runs[k].op, runs[k].x, runs[k].y, runs[k].z);
-        expect_through(runs[k].nodes ? DESK_OK : DESK_TABLE_FULL, runs[k].nodes, "edits of one kind");
+        expect_through(nodes ? DESK_OK : DESK_TABLE_FULL, nodes, "edits of one kind");
         try_works();
     }
 }
@@ -1110,6 +1235,25 @@ static void try_full_through(void)
     sheet.length = 0;
     add_links(8, 16, 2);
     expect_through(DESK_TABLE_FULL, 0, "through to a node more than a table has");
+}
+
+/* Edition 2. DS 0 makes 1 + 6 nodes, 39 AS 6 * 39 + 39 * 38 more, DS 1 in front of them 3 * 39 + 6, and an AT behind CN2 12 + 10; with 15 AT more these
+ * are 2,048. The last own condition fits exactly, and there is no room for another one. */
+static void try_full_second(void)
+{
+    for (int more = 0; more <= 1; more++) {
+        sheet.length = 0;
+        add_edits(15 + more, AT, 4, 1, 2);
+        add_edits(1, CN2, 3, 1, 5);
+        add_edits(1, AT, 4, 3, 2);
+        add_edits(1, DS, 1, 0, 0);
+        add_edits(39, AS, 3, 4, 0);
+        add_edits(1, DS, 0, 0, 0);
+        expect_through(more ? DESK_TABLE_FULL : DESK_OK, more ? 0 : DESK_NODES_MAX, "through to a full table in edition 2");
+    }
+    sheet.length = 0;
+    add_links(11, 16, 1);
+    expect_through(DESK_OK, 1 + 12 * 30, "edition 2 of the sheet that fills a table in edition 1");
 }
 
 /* In front of the edits of a full table: one that adds nothing, one that adds only its own condition, and one that only rewrites diamonds. */
@@ -1141,14 +1285,79 @@ static void try_refused_through(void)
     expect_through(DESK_EDIT, 1, "an unused operand that is not 0");
 }
 
-/* A file too short for a trailer, and a trailer alone: its three pieces are empty. */
+/* The reason of the file at hand, also beside the oracle. */
+static void expect_file(uint32_t reason, uint32_t count, const char *what)
+{
+    expect_job(reason, count, what);
+    expect(try_entry(JOB, entries[JOB].lengths) == reason, what);
+}
+
+/* Files of up to 17 zeros, with an edition as the last number: too short for a trailer; a trailer alone, with three empty pieces; and a byte that is in
+ * no piece. */
 static void try_short_files(void)
 {
-    memset(file.at, 0, DESK_TRAILER_BYTES);
-    for (int less = 0; less <= 1; less++) {
-        file.length = (size_t)(DESK_TRAILER_BYTES - less);
-        expect_job(less ? DESK_FILE : DESK_SITE_LENGTH, 0, "the shortest file");
-        try_entry(JOB, entries[JOB].lengths);
+    for (uint32_t number = 0; number <= 3; number++)
+        for (int length = 0; length <= 17; length++) {
+            const bool known = number == DESK_EDITION_1 || number == DESK_EDITION_2;
+            file.length = (size_t)length;
+            memset(file.at, 0, file.length);
+            if (length >= DESK_NUMBER_BYTES)
+                put_number(file.at + length - DESK_NUMBER_BYTES, number);
+            expect_file(length != 16 ? DESK_FILE : known ? DESK_SITE_LENGTH : DESK_EDITION, 0, "the shortest files");
+        }
+}
+
+/* The job of the specification with a trailer of 12 to 17 bytes: without the edition, and with more or less of it. */
+static void try_trailers(void)
+{
+    build_j();
+    for (int bytes = 12; bytes <= 17; bytes++) {
+        build_file();
+        expect(file.length == 34434, "the length of the job of the specification");
+        file.at[file.length] = 0;
+        file.length = (size_t)(34418 + bytes);
+        expect_file(bytes == 16 ? DESK_OK : DESK_FILE, bytes == 16 ? 1 : 0, "a trailer of so many bytes");
+    }
+}
+
+/* Its trailer with other numbers: the edition is the fourth, and is compared with no distance. */
+static void try_trailer_numbers(void)
+{
+    static const struct {
+        uint32_t numbers[4], reason;
+    } trailers[] = {
+        {{4, 34, 34418, 1}, DESK_OK},            {{4, 34, 34418, 2}, DESK_OK},            {{4, 34, 34418, 34418}, DESK_EDITION},
+        {{4, 34, 34418, 34434}, DESK_EDITION},   {{4, 34, 34418, 4}, DESK_EDITION},       {{4, 34, 34418, 1 << 24}, DESK_EDITION},
+        {{4, 34, 1, 34418}, DESK_FILE},          {{4, 34, 34, 34418}, DESK_FILE},         {{4, 34, 34422, 1}, DESK_FILE},
+        {{4, 34, 34417, 1}, DESK_FILE},          {{4, 34, 34419, 2}, DESK_FILE},          {{4, 34, 34419, 3}, DESK_FILE},
+        {{35, 34, 34418, 1}, DESK_FILE},         {{35, 34, 34418, 0}, DESK_FILE},         {{4, 34419, 34418, 3}, DESK_FILE},
+        {{34, 34, 34418, 3}, DESK_EDITION},      {{34, 34, 34418, 1}, DESK_CONDITION_LENGTH},
+        {{4, 34418, 34418, 0}, DESK_EDITION},    {{4, 34418, 34418, 2}, DESK_SITE_LENGTH},
+        {{0, 0, 34418, 256}, DESK_EDITION},      {{1, 4, 34, 34418}, DESK_FILE},          {{2, 4, 34, 34418}, DESK_FILE},
+        {{4, 34, 34418, 0}, DESK_EDITION},       {{4, 34, 34418, 3}, DESK_EDITION},       {{4, 34, 34418, UINT32_MAX}, DESK_EDITION},
+    };
+    build_j();
+    for (size_t k = 0; k < sizeof trailers / sizeof *trailers; k++) {
+        build_file();
+        for (int n = 0; n < 4; n++)
+            put_number(file.at + 34418 + DESK_NUMBER_BYTES * n, trailers[k].numbers[n]);
+        expect_file(trailers[k].reason, trailers[k].reason == DESK_OK ? 1 : 0, "a trailer with other numbers");
+    }
+}
+
+/* The longest file, and one that is a byte longer: the pieces have at most 65,520 bytes. */
+static void try_long_files(void)
+{
+    for (int k = 0; k < 6; k++) {
+        const uint32_t number = (uint32_t)k / 2 + 1;
+        const size_t room = 65520 + (size_t)k % 2;
+        memset(file.at, 0, room);
+        put_number(file.at + room, 0);
+        put_number(file.at + room + 4, 0);
+        put_number(file.at + room + 8, room);
+        put_number(file.at + room + 12, number);
+        file.length = room + 16;
+        expect_file(k % 2 ? DESK_FILE : number == 3 ? DESK_EDITION : DESK_SITE_LENGTH, 0, "the longest file");
     }
 }
 
@@ -1269,7 +1478,7 @@ static void try_link(int link, int from, int to, int at)
     for (int back = 0; back <= 1; back++) {
         add_edits(back, AT, link, from, to);
         build_file();
-        desk_apply(site.at, site.length, sheet.at, sheet.length, result, sizeof result);
+        desk_apply(site.at, site.length, sheet.at, sheet.length, edition, result, sizeof result);
         expect(site.at[at] != 0 && (back ? memcmp(result, site.at, sizeof result) == 0 : result[at] == 0), "a link that goes, and comes back");
         try_all();
     }
@@ -1356,7 +1565,7 @@ static void try_old_site(void)
     build_r();
     build_sheet(DT2, 4, 1, 0);
     expect_site(DESK_SITE_LENGTH, "a site of the length that 16 names give");
-    expect(file.length == 34398, "the length of the job with it");
+    expect(file.length == 34402, "the length of the job with it");
     expect_rewrite(DESK_OK, 8, "the condition beside such a site");
 }
 
@@ -1368,7 +1577,7 @@ static void try_crowd(void)
     memset(site.at + NAMES_AT + 8, 1, 40);
     for (int n = 8; n < NAMES; n++) {
         build_sheet(DS, n, 0, 0);
-        desk_apply(site.at, site.length, sheet.at, sheet.length, result, sizeof result);
+        desk_apply(site.at, site.length, sheet.at, sheet.length, edition, result, sizeof result);
         expect(result[NAMES_AT + 1] == 2 && result[NAMES_AT + 2] == 3 && all_zero(result + NAMES_AT + 3, NAMES - 3), "forty names at nil");
         build_names(n % 2 ? OR : AND, 8);
         build_file();
@@ -1407,7 +1616,7 @@ static void try_largest_job(void)
     for (int k = 0; k < DESK_EDITS_MAX; k++)
         add_edits(1, CN1, HIGH + k % high, HIGH + (k + 1) % high, 0);
     build_file();
-    expect(file.length == 46940, "the length of the longest job");
+    expect(file.length == 46944, "the length of the longest job");
     expect_rewrite(DESK_OK, DESK_NODES_MAX, "the table of the longest job");
     expect_job(DESK_OK, 31, "the longest job");
     try_all();
@@ -1734,7 +1943,7 @@ static void try_label_order(void)
 static const uint8_t *applied(void)
 {
     static uint8_t result[DESK_SITE_BYTES];
-    struct desk_applied r = desk_apply(site.at, site.length, sheet.at, sheet.length, result, sizeof result);
+    struct desk_applied r = desk_apply(site.at, site.length, sheet.at, sheet.length, edition, result, sizeof result);
     expect(r.reason == DESK_OK && r.where == 0, "a sheet that goes through");
     return result;
 }
@@ -1761,7 +1970,7 @@ static void try_label_of_a_gone_name(void)
         add_edits(1, AP, 1, 7, 0);
         build_file();
         expect_rewrite(DESK_OK, 7, "some slot has a label, through AP");
-        desk_rewrite(cond.at, cond.length, sheet.at, sheet.length, table, sizeof table);
+        desk_rewrite(cond.at, cond.length, sheet.at, sheet.length, edition, table, sizeof table);
         expect(memcmp(table, wanted, sizeof wanted) == 0, "the nodes of a label through AP");
         expect(all_zero(applied() + label_at(7), DESK_SET_BYTES) == (name == 0), "the label of a name at nil, or not");
         expect_job(DESK_OK, name ? SLOTS : 0, "a job with the label of a name at nil, or not");
@@ -2241,15 +2450,13 @@ static void build_sheet_fault(uint32_t reason)
 /* A job that makes rounds, with one fault. */
 static void build_fault(uint32_t reason)
 {
-    build_a();
-    build_r();
-    build_sheet(DT2, 4, 1, 0);
+    build_j();
     build_site_fault(reason);
     build_condition_fault(reason);
     build_sheet_fault(reason);
     build_file();
     if (reason == DESK_FILE)
-        file.at[file.length - 1] = 1;
+        file.at[file.length - DESK_TRAILER_BYTES + DESK_EDITION_AT - 1] = 1;
 }
 
 /* Items 2 to 14 each beside a limit that is too low, and beside one that is too high; and item 1. */
@@ -2764,6 +2971,344 @@ static void try_known_chains(void)
     chain_start = 1;
 }
 
+/* ---- editions */
+
+/* Names 1 to 4 at slots 1 to 4, label 0 on 1 and 3. By each link 2, 3 and 4 lead to 1, but by this functional one the slot has another target, or
+ * none. */
+static void build_homes(int link, int from, int old)
+{
+    site.length = DESK_SITE_BYTES;
+    memset(site.at, 0, site.length);
+    put_slot(site.at, DESK_NIL);
+    for (int s = 1; s <= 4; s++) {
+        put_slot(site.at, s);
+        site.at[NAMES_AT + s] = (uint8_t)s;
+        for (int m = 0; m < GENERAL && s > 1; m++)
+            put_slot(site.at + row_at(m, s), 1);
+        for (int f = GENERAL; f < LINKS && s > 1; f++)
+            site.at[target_at(f, s)] = 1;
+    }
+    put_slot(site.at + LABELS_AT, 1);
+    put_slot(site.at + LABELS_AT, 3);
+    site.at[target_at(link, from)] = (uint8_t)old;
+}
+
+/* Label 0 below a diamond or a box. */
+static void build_over(int kind, int way)
+{
+    build_label(0);
+    add_node(kind, way, 0, 0);
+}
+
+/* Whether such a condition, of a functional link's way, holds at a slot of the site, by the bytes of the site. */
+static bool holds(const uint8_t *at, int kind, int way, int slot)
+{
+    const uint8_t *targets = at + target_at(way % LINKS, 0), *labelled = at + LABELS_AT;
+    bool some = false, all = true;
+    for (int s = 1; s < SLOTS; s++) {
+        const bool near = way < LINKS ? targets[slot] == s : slot != DESK_NIL && targets[s] == slot;
+        some |= near && has_slot(labelled, s);
+        all &= !near || has_slot(labelled, s);
+    }
+    return kind == DIAMOND ? some : all;
+}
+
+/* AT of the link from one slot to another, with the condition at hand over it: the site that it leaves differs in one target alone, and both lists of
+ * the job are what that site says. */
+static void try_homing(int link, int from, int to, int kind, int way)
+{
+    static struct answers a;
+    static uint8_t wanted[DESK_SITE_BYTES], set[DESK_SET_BYTES];
+    const int old = site.at[target_at(link, from)];
+    const bool goes = old == DESK_NIL || old == to || edition == DESK_EDITION_2;
+    memset(wanted, 0, sizeof wanted);
+    memset(set, 0, sizeof set);
+    if (goes) {
+        memcpy(wanted, site.at, sizeof wanted);
+        wanted[target_at(link, from)] = (uint8_t)to;
+    }
+    for (int s = 0; goes && s < SLOTS; s++)
+        if (holds(wanted, kind, way, s))
+            put_slot(set, s);
+    build_sheet(AT, link, from, to);
+    ask(&a, edition);
+    expect(a.applied.reason == (goes ? DESK_OK : DESK_NOT_THROUGH) && a.applied.where == 0 && a.done.reason == a.applied.reason,
+           "AT over a target, or not");
+    expect(memcmp(a.to.site, wanted, sizeof wanted) == 0 && memcmp(a.to.job_site, wanted, sizeof wanted) == 0, "the target that AT leaves");
+    expect(memcmp(a.to.after, set, sizeof set) == 0 && memcmp(a.to.today, set, sizeof set) == 0, "a list over the target that AT leaves");
+    try_entry(JOB, entries[JOB].lengths);
+}
+
+/* From each of three slots, without a target and with each, to each of four. */
+static void try_homings(void)
+{
+    for (int k = 0; k < 3 * 5 * 4 * 4 * FUNCTIONAL; k++) {
+        const int from = 1 + k % 3, old = k / 3 % 5, to = 1 + k / 15 % 4, form = k / 60 % 4, link = GENERAL + k / 240;
+        const int kind = form % 2 ? BOX : DIAMOND, way = form / 2 ? link + LINKS : link;
+        build_homes(link, from, old);
+        build_over(kind, way);
+        try_homing(link, from, to, kind, way);
+    }
+}
+
+/* A general link has both targets, in each edition. */
+static void try_second_targets(void)
+{
+    for (int link = 0; link < GENERAL; link++) {
+        build_homes(GENERAL, 2, 1);
+        build_sheet(AT, link, 2, 3);
+        expect(applied()[row_at(link, 2)] == (1 << 1 | 1 << 3), "two targets by a general link");
+        try_entry(APPLY, entries[APPLY].lengths);
+    }
+}
+
+/* Label 0 below a diamond or a box, through AT m 1 2: the nodes behind the label, as the specification has them. */
+enum { WAY = 255 }; /* for a parameter: the way of the old node */
+
+static const struct block {
+    bool replaces; /* AT of edition 2 on links 4 to 7 */
+    int kind, back, count;
+    uint8_t nodes[11][4];
+} blocks[] = {
+    {false, DIAMOND, 0, 7,
+     {{DIAMOND, WAY, 0, 0}, {NAME, 1, 0, 0}, {NAME, 2, 0, 0}, {AND, 0, 3, 0}, {DIAMOND, 16, 4, 0}, {AND, 0, 2, 5}, {OR, 0, 1, 6}}},
+    {false, BOX, 0, 9,
+     {{BOX, WAY, 0, 0}, {NAME, 1, 0, 0}, {NOT, 0, 2, 0}, {NAME, 2, 0, 0}, {NOT, 0, 4, 0}, {OR, 0, 5, 0}, {BOX, 16, 6, 0}, {OR, 0, 3, 7},
+      {AND, 0, 1, 8}}},
+    {false, DIAMOND, 1, 7,
+     {{DIAMOND, WAY, 0, 0}, {NAME, 2, 0, 0}, {NAME, 1, 0, 0}, {AND, 0, 3, 0}, {DIAMOND, 16, 4, 0}, {AND, 0, 2, 5}, {OR, 0, 1, 6}}},
+    {false, BOX, 1, 9,
+     {{BOX, WAY, 0, 0}, {NAME, 2, 0, 0}, {NOT, 0, 2, 0}, {NAME, 1, 0, 0}, {NOT, 0, 4, 0}, {OR, 0, 5, 0}, {BOX, 16, 6, 0}, {OR, 0, 3, 7},
+      {AND, 0, 1, 8}}},
+    {true, DIAMOND, 0, 10,
+     {{NAME, 1, 0, 0}, {NOT, 0, 1, 0}, {DIAMOND, WAY, 0, 0}, {AND, 0, 2, 3}, {NAME, 1, 0, 0}, {NAME, 2, 0, 0}, {AND, 0, 6, 0},
+      {DIAMOND, 16, 7, 0}, {AND, 0, 5, 8}, {OR, 0, 4, 9}}},
+    {true, BOX, 0, 11,
+     {{NAME, 1, 0, 0}, {BOX, WAY, 0, 0}, {OR, 0, 1, 2}, {NAME, 1, 0, 0}, {NOT, 0, 4, 0}, {NAME, 2, 0, 0}, {NOT, 0, 6, 0}, {OR, 0, 7, 0},
+      {BOX, 16, 8, 0}, {OR, 0, 5, 9}, {AND, 0, 3, 10}}},
+    {true, DIAMOND, 1, 10,
+     {{NAME, 1, 0, 0}, {NOT, 0, 1, 0}, {AND, 0, 2, 0}, {DIAMOND, WAY, 3, 0}, {NAME, 2, 0, 0}, {NAME, 1, 0, 0}, {AND, 0, 6, 0},
+      {DIAMOND, 16, 7, 0}, {AND, 0, 5, 8}, {OR, 0, 4, 9}}},
+    {true, BOX, 1, 11,
+     {{NAME, 1, 0, 0}, {OR, 0, 1, 0}, {BOX, WAY, 2, 0}, {NAME, 2, 0, 0}, {NOT, 0, 4, 0}, {NAME, 1, 0, 0}, {NOT, 0, 6, 0}, {OR, 0, 7, 0},
+      {BOX, 16, 8, 0}, {OR, 0, 5, 9}, {AND, 0, 3, 10}}},
+};
+
+/* The block through AT of this link, byte for byte; a node over it has the block's last node as its child. Then full tables of nots over it. */
+static void try_block(const struct block *b, int link)
+{
+    static uint8_t table[DESK_TABLE_BYTES], wanted[DESK_TABLE_BYTES];
+    const int way = b->back ? link + LINKS : link, grown = b->count - 1;
+    build_label(0);
+    for (int k = 0; k < b->count; k++)
+        add_node(b->nodes[k][0], b->nodes[k][1] == WAY ? way : b->nodes[k][1], b->nodes[k][2], b->nodes[k][3]);
+    add_node(NOT, 0, b->count, 0);
+    memset(wanted, 0, sizeof wanted);
+    memcpy(wanted, cond.at, cond.length);
+    build_over(b->kind, way);
+    add_node(NOT, 0, 1, 0);
+    build_sheet(AT, link, 1, 2);
+    expect_rewrite(DESK_OK, (uint32_t)b->count + 2, "the nodes of a block through AT");
+    desk_rewrite(cond.at, cond.length, sheet.at, sheet.length, edition, table, sizeof table);
+    expect(memcmp(table, wanted, sizeof wanted) == 0, "a block through AT");
+    for (int times = 1; times <= DESK_EDITS_MAX; times *= 8) {
+        sheet.length = 0;
+        add_edits(times, AT, link, 1, 2);
+        build_over(b->kind, way);
+        for (int last = 1; last < DESK_NODES_MAX - grown * times; last++) {
+            if (last == DESK_NODES_MAX - grown * times - 1)
+                expect_rewrite(DESK_OK, DESK_NODES_MAX, "a full table through AT");
+            add_node(NOT, 0, last, 0);
+        }
+        expect_rewrite(DESK_TABLE_FULL, 0, "a node more than a table has, through AT");
+        try_entry(REWRITE, entries[REWRITE].lengths);
+    }
+}
+
+static void try_blocks(void)
+{
+    for (size_t k = 0; k < sizeof blocks / sizeof *blocks; k++)
+        for (int link = 0; link < LINKS; link++)
+            if (blocks[k].replaces == (edition == DESK_EDITION_2 && link >= GENERAL))
+                try_block(&blocks[k], link);
+}
+
+/* One node of this kind over a label, or alone; a variable is bound. */
+static void build_kind(int kind, int param)
+{
+    build_label(1);
+    if (kind == VARIABLE)
+        param = 0;
+    add_node(kind, param, 0, 0);
+    if (kind == VARIABLE)
+        add_node(MU, 0, 1, 0);
+}
+
+/* The edit at hand and a node of each kind, with each way and with the parameters 0 and 1. */
+static void try_kinds(void)
+{
+    static const int with_sheet[] = {APPLY, THROUGH, REWRITE, JOB};
+    for (int kind = 0; kind < KINDS; kind++) {
+        const bool over = kind == DIAMOND || kind == BOX, leaf = LABEL <= kind && kind <= NAME;
+        for (int param = 0; param < (over ? WAYS : leaf ? 2 : 1); param++) {
+            build_kind(kind, param);
+            build_file();
+            for (size_t k = kind == 0 ? 0 : 2; k < sizeof with_sheet / sizeof *with_sheet; k++)
+                try_entry(with_sheet[k], entries[with_sheet[k]].lengths);
+        }
+    }
+}
+
+/* Each operation, by each link that it takes, from a slot that has a target by all functional links. */
+static void try_every_edit(void)
+{
+    build_homes(GENERAL, 2, 1);
+    for (int op = 0; op < OPERATIONS; op++)
+        for (int link = 0; link < LINKS; link++) {
+            const char *kinds = operands[op];
+            const bool with_link = strchr(kinds, 'm') || strchr(kinds, 'f'), functional = strchr(kinds, 'f');
+            if (with_link ? functional && link < GENERAL : link > 0)
+                continue;
+            int values[3];
+            for (int k = 0; k < 3; k++)
+                values[k] = kinds[k] == 'm' || kinds[k] == 'f' ? link : kinds[k] == 'k' ? 9 : kinds[k] == '-' ? 0 : kinds[k] == 'p' ? 1 : 2 + k % 2;
+            build_sheet(op, values[0], values[1], values[2]);
+            try_kinds();
+        }
+}
+
+/* A slot that takes one target after another, 64 times. In edition 1 the second edit is stuck. */
+static void try_many_homings(void)
+{
+    static struct answers a;
+    build_homes(4, 4, DESK_NIL);
+    build_r();
+    sheet.length = 0;
+    for (int k = 0; k < DESK_EDITS_MAX; k++)
+        add_edits(1, AT, 4, 4, 1 + k % 4);
+    ask(&a, edition);
+    if (edition == DESK_EDITION_1) {
+        expect(a.applied.reason == DESK_NOT_THROUGH && a.applied.where == 1 && a.done.reason == DESK_NOT_THROUGH && a.done.where == 1,
+               "a second target in edition 1");
+    } else {
+        expect(a.applied.reason == DESK_OK && a.to.site[target_at(4, 4)] == 4, "the last of 64 targets");
+        expect(a.done.reason == DESK_OK && a.done.nodes == 5 + 9 * DESK_EDITS_MAX && a.done.after == 3 && a.done.today == 3, "R through 64 targets");
+        expect(a.to.after[0] == 0x0e && a.to.today[0] == 0x0e, "R behind 64 targets");
+    }
+    try_all();
+}
+
+/* A gateway, 1, with label 0. Relay 2 leads to it by link 4, relay 3 nowhere. Probe 4 leads to one of them, and probe 5 to probe 4. Names 2 to 4 are
+ * at their slots. */
+static void build_probes(int uplink)
+{
+    site.length = DESK_SITE_BYTES;
+    memset(site.at, 0, site.length);
+    site.at[0] = 0x3f;
+    put_slot(site.at + LABELS_AT, 1);
+    for (int n = 2; n <= 4; n++)
+        site.at[NAMES_AT + n] = (uint8_t)n;
+    site.at[target_at(4, 2)] = 1;
+    site.at[target_at(4, 4)] = (uint8_t)uplink;
+    site.at[target_at(4, 5)] = 4;
+}
+
+/* Probe 4 takes a second uplink while the first is live. An uplink chain leads to the gateway from {1, 2}, and with the probes from {1, 2, 4, 5}. */
+static void try_probe(int uplink, int second)
+{
+    static struct answers a;
+    static const uint8_t chains[2] = {0x06, 0x36}, slots[] = {5, 4, 2, 1};
+    const uint8_t before = chains[uplink == 2], after = chains[second == 2];
+    uint8_t set[DESK_SET_BYTES] = {0x38};
+    build_probes(uplink);
+    build_r();
+    build_sheet(AT, 4, 4, second);
+    expect_works(edition == DESK_EDITION_2, "a second uplink works in edition 2 alone");
+    ask(&a, edition);
+    if (edition == DESK_EDITION_1) {
+        expect(a.applied.reason == DESK_NOT_THROUGH && a.done.reason == DESK_NOT_THROUGH && a.done.where == 0, "a second uplink in edition 1");
+    } else {
+        expect(a.done.reason == DESK_OK && a.done.nodes == 14 && a.to.after[0] == after && a.to.today[0] == after, "the gateway behind a second uplink");
+        expect(memcmp(a.to.site, a.to.job_site, DESK_SITE_BYTES) == 0 && a.to.site[target_at(4, 4)] == second, "a second uplink");
+        memcpy(site.at, a.to.site, DESK_SITE_BYTES);
+    }
+    const bool connected = (edition == DESK_EDITION_2 ? after : before) == chains[1];
+    expect_list(DESK_OK, connected ? 4 : 2, "the places with an uplink chain to the gateway");
+    build_label(0);
+    chain_way = 4;
+    chain_start = 5;
+    if (connected)
+        expect_steps(3, slots, "the uplink chain of the probe behind");
+    else
+        expect_enclosed(set, "the uplinks of the probe behind");
+}
+
+/* No edition but 1 and 2, whatever else is wrong behind item 2: the four that take a sheet refuse it, and give nothing. */
+static void expect_unknown(uint32_t number, const char *what)
+{
+    static struct answers a;
+    ask(&a, number);
+    expect(a.applied.reason == DESK_EDITION && a.applied.where == 0, what);
+    expect(a.rewritten.reason == DESK_EDITION && a.rewritten.where == 0 && a.rewritten.nodes == 0, what);
+    expect(a.through.reason == DESK_EDITION && a.through.where == 0 && a.through.nodes == 0, what);
+    const struct desk_done none = {.reason = DESK_EDITION};
+    expect(memcmp(&a.done, &none, sizeof none) == 0 && all_zero((const uint8_t *)&a.to, sizeof a.to), what);
+}
+
+/* The reason of each function for the job at hand, which has one fault beside its edition. */
+static void try_fault_beside(uint32_t fault)
+{
+    for (int e = 0; e < ENTRIES; e++) {
+        const bool with_sheet = e == APPLY || e == REWRITE || e == THROUGH || e == JOB;
+        const uint32_t reason = try_entry(e, entries[e].lengths);
+        const uint32_t wanted = e == JOB && limit > DESK_LIMIT_MAX ? DESK_LIMIT : e == JOB && fault == DESK_FILE ? DESK_FILE : DESK_EDITION;
+        expect(with_sheet ? reason == wanted : reason != DESK_EDITION, "a fault beside an unknown edition");
+    }
+}
+
+/* Unknown editions beside each other item: 1, 16 and 2 come before 18, and all others behind it. */
+static void try_edition_order(void)
+{
+    static const uint32_t limits[] = {0, DESK_LIMIT_MAX, DESK_LIMIT_MAX + 1};
+    for (int k = 0; k < UNKNOWN_EDITIONS; k++)
+        for (uint32_t fault = DESK_OK; fault <= DESK_TABLE_FULL; fault++)
+            for (int l = 0; l < 3; l++) {
+                edition = unknown_editions[k];
+                limit = larger = limits[l];
+                build_fault(fault);
+                try_fault_beside(fault);
+                try_off_by_one((int)(fault + (uint32_t)k) % BUFFERS, l % 2);
+                if (limit <= DESK_LIMIT_MAX && fault != DESK_FILE)
+                    expect_unknown(edition, "an unknown edition");
+            }
+    limit = larger = DESK_LIMIT_MAX;
+}
+
+/* What edition 2 changes, or might have, in both. */
+static void try_known_editions(void)
+{
+    for (edition = DESK_EDITION_1; edition <= DESK_EDITION_2; edition++) {
+        try_through_tables();
+        try_through_on_a();
+        try_through_runs();
+        try_homings();
+        try_second_targets();
+        try_blocks();
+        try_every_edit();
+        try_many_homings();
+        try_probe(3, 2);
+        try_probe(2, 3);
+        try_link_ends();
+        try_rewritten_paths();
+    }
+    edition = DESK_EDITION_2;
+    try_full_second();
+    try_edition_order();
+    edition = DESK_EDITION_1;
+    chain_way = 4;
+    chain_start = 1;
+}
+
 static void *try_known_answers(void *unused)
 {
     try_chains();
@@ -2771,20 +3316,20 @@ static void *try_known_answers(void *unused)
     try_class_numbers();
     try_doubles();
     try_full_tables();
-    try_links();
-    try_through_tables();
-    try_through_on_a();
-    try_through_runs();
     try_full_through();
     try_before_full_through();
     try_refused_through();
     try_short_files();
+    try_trailers();
+    try_trailer_numbers();
+    try_long_files();
     try_large_sites();
     try_many_names();
     try_every_slot();
     try_nil();
     try_rounds();
     try_known_chains();
+    try_known_editions();
     return unused;
 }
 
@@ -2824,11 +3369,11 @@ static const struct row {
     unsigned wanted; /* weight 2 to the power n: column n is met, and no other */
 } rows[] = {
     {"list: reason", met.reasons[LIST], REASONS, 0x187fb},
-    {"apply: reason", met.reasons[APPLY], REASONS, 0x387b},
-    {"rewrite: reason", met.reasons[REWRITE], REASONS, 0x5f83},
+    {"apply: reason", met.reasons[APPLY], REASONS, 0x4387b},
+    {"rewrite: reason", met.reasons[REWRITE], REASONS, 0x45f83},
     {"classes: reason", met.reasons[CLASSES], REASONS, 0x7b},
-    {"job: reason", met.reasons[JOB], REASONS, 0x1ffff},
-    {"through: reason", met.reasons[THROUGH], REASONS, 0x5803},
+    {"job: reason", met.reasons[JOB], REASONS, 0x5ffff},
+    {"through: reason", met.reasons[THROUGH], REASONS, 0x45803},
     {"chain: reason", met.reasons[CHAIN], REASONS, 0x207fb},
     {"through: works", met.works, 2, ALL(2)},
     {"kind", met.kinds, KINDS, ALL(KINDS)},
@@ -2845,6 +3390,10 @@ static const struct row {
     {"edit, through", met.through, OPERATIONS, ALL(OPERATIONS)},
     {"edit, not through", met.stuck, OPERATIONS, 1u << AT | 1u << AS | 1u << DS},
     {"AP, effect", met.effects, EFFECTS, ALL(EFFECTS)},
+    {"AT 2, target", met.homings, HOMINGS, ALL(HOMINGS)},
+    {"AT 2, diamond", met.moved[0], BOTH_WAYS, ALL(BOTH_WAYS)},
+    {"AT 2, box", met.moved[1], BOTH_WAYS, ALL(BOTH_WAYS)},
+    {"editions", met.pairs, PAIRS, ALL(PAIRS)},
     {"label refused", met.strays, STRAYS, ALL(STRAYS)},
     {"list, rounds", met.standings, STANDINGS, ALL(STANDINGS)},
     {"job, rounds", met.shareds, SHAREDS, ALL(SHAREDS)},
@@ -2900,6 +3449,7 @@ int main(int argc, char **argv)
         try_all();
         try_off_by_one(job % BUFFERS, job / BUFFERS % 2 == 1);
         try_wrong_lengths();
+        try_editions();
         if (job % 4 == 0)
             try_route();
     }

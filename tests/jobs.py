@@ -17,29 +17,30 @@ import sys
 import changes
 import lists
 import pieces
+from changes import FIRST, SECOND, in_editions
 from layout import *
 from lists import TOO_HIGH
-from pieces import CROWD, HIGH, named, names_joined, sheet, turned, with_bytes
+from pieces import CROWD, HIGH, UNKNOWN, checksum, named, names_joined, sheet, turned, with_bytes
 
 SEED = 65536
 
 
 # ---- the file
 
-def job(site, condition, sheet):
+def job(site, condition, sheet, edition=FIRST):
     near, middle, far = len(sheet), len(condition) + len(sheet), len(site) + len(condition) + len(sheet)
-    return bytes(site) + bytes(condition) + bytes(sheet) + struct.pack("<3I", near, middle, far)
+    return bytes(site) + bytes(condition) + bytes(sheet) + struct.pack("<4I", near, middle, far, edition)
 
 
 def parts(file):
-    """Site, condition and sheet; None where item 2 is met."""
+    """Site, condition, sheet and edition; None where item 2 is met."""
     if not TRAILER_BYTES <= len(file) <= FILE_BYTES:
         return None
     end = len(file) - TRAILER_BYTES
-    near, middle, far = struct.unpack_from("<3I", file, end)
+    near, middle, far, edition = struct.unpack_from("<4I", file, end)
     if middle < near or far < middle or far != end:
         return None
-    return file[end - far:end - middle], file[end - middle:end - near], file[end - near:end]
+    return file[end - far:end - middle], file[end - middle:end - near], file[end - near:end], edition
 
 
 # ---- classes
@@ -70,25 +71,18 @@ def class_numbers(d):
 
 # ---- what is printed
 
-def checksum(d):
-    h = 0
-    for b in d:
-        h = (257 * h + b + 1) % 4294967291
-    return h
-
-
 @functools.lru_cache(maxsize=2)
 def judged(file):
-    """What items 2 to 14 say of the file; where they say nothing, the site, the condition, the site after and the table."""
-    three = parts(file)
-    if not three:
+    """What items 2 to 14 and 18 say of the file; where they say nothing, the site, the condition, the site after and the table."""
+    four = parts(file)
+    if not four:
         return (2, 0), None
-    site, condition, sheet = three
-    verdict = pieces.judge_site(site) or pieces.judge_condition(condition) or pieces.judge_sheet(sheet)
+    site, condition, sheet, edition = four
+    verdict = pieces.judge_edition(edition) or lists.judged(site)[0] or pieces.judge_condition(condition) or pieces.judge_sheet(sheet)
     if not verdict:
-        after, verdict = changes.apply(site, sheet)
+        after, verdict = changes.apply(site, sheet, edition)
     if not verdict:
-        table, verdict = changes.rewrite(condition, sheet)
+        table, verdict = changes.rewrite(condition, sheet, edition)
     return verdict, None if verdict else (site, condition, bytes(after), bytes(table))
 
 
@@ -121,12 +115,13 @@ def answer(file, limit=HIGHEST_LIMIT):
 
 # ---- cases
 
-def with_trailer(file, *numbers):
-    return file[:-TRAILER_BYTES] + struct.pack("<3I", *numbers)
+def with_trailer(file, near, middle, far, edition=FIRST):
+    return file[:-TRAILER_BYTES] + struct.pack("<4I", near, middle, far, edition)
 
 
 A, R = pieces.site_a(), pieces.R
 DT2 = sheet((6, 4, 1))
+REHOMED = sheet((4, 4, 1, 2))  # in edition 1 refused with 13
 J = job(A, R, DT2)
 DOUBLE = [(5, 4, 1, 2)]
 ODD = pieces.table((4, 0, 0, 0), (5, 0, 0, 0), (10, 0, 1, 0))
@@ -165,7 +160,6 @@ def files():
     end = len(J) - TRAILER_BYTES
     yield b""
     yield J[1 - TRAILER_BYTES:]
-    yield bytes(TRAILER_BYTES)
     yield with_trailer(J, 34, 4, end)
     yield with_trailer(J, 35, 34, end)
     yield with_trailer(J, 4, end, 34)
@@ -185,8 +179,18 @@ def files():
         yield with_trailer(J, 4, 34, end + high)
         yield with_trailer(J, 4 + high, 34 + high, end)
     yield J[1:]
-    yield J[:-1]
     yield J + b"\0"
+    # a trailer without its edition, and parts of one, with a site of 4 bytes too, whose distances then pass; the last distance as it would be
+    # then; and four numbers in other orders
+    for n in range(12, TRAILER_BYTES):
+        yield J[:end + n]
+        yield J[:end] + J[-n:]
+        yield bytes(n)
+    yield job(A, R, b"")[:-NUMBER_BYTES]
+    yield job(A[:4], R, sheet((4,)))[:-NUMBER_BYTES]
+    yield with_trailer(J, 4, 34, end + NUMBER_BYTES)
+    for numbers in (1, 4, 34, end), (4, 34, 1, end), (4, 34, end, end), (34, 34, 34, 2), (0, 0, 1, 1):
+        yield with_trailer(J, *numbers)
     # equal distances: empty pieces
     yield job(A, R, b"")
     yield job(A, b"", DT2)
@@ -403,13 +407,53 @@ def by_copies():
         yield with_bytes(site, (NAMES_AT + 1, 40 + LEAVES), (NAMES_AT + 2, leaves[1])), one, sheet((5, 1, 1, 2), (0, 1, 0), (0, 2, 0))
 
 
+def first_met(item, file):
+    """The file, of which this is said to be the first item."""
+    assert judged(bytes(file))[0] == (item, 0), (item, file[-TRAILER_BYTES:].hex())
+    return file
+
+
+def editions():
+    """Item 18: each of its numbers in files that are accepted in edition 1, in edition 2 or in both; beside what item 2 refuses just so, and
+    beside each fault of the pieces."""
+    end = len(J) - TRAILER_BYTES
+    for edition in UNKNOWN:
+        yield first_met(18, with_trailer(J, 4, 34, end, edition))
+        yield first_met(18, job(A, R, REHOMED, edition))
+    for numbers in (34, 4, end), (4, 34, end - 1), (4, 34, end + 1), (4, end + 1, end), (0xFFFFFFFF, 34, end), (4, 34, 0xFFFFFFFF):
+        for edition in (0, 3):
+            yield first_met(2, with_trailer(J, *numbers, edition))
+    yield first_met(18, J[:-1] + b"\1")
+    yield first_met(18, bytes(TRAILER_BYTES - 1) + b"\1")
+    yield first_met(18, bytes(TRAILER_BYTES))
+    yield first_met(2, bytes(TRAILER_BYTES - 1))
+    for edition in EDITIONS:
+        yield first_met(3, with_trailer(bytes(TRAILER_BYTES), 0, 0, 0, edition))
+    for k, case in enumerate((*refusals(), *collisions())):
+        if len(case[1]) <= TABLE_BYTES // 2:
+            yield first_met(18, job(*case, UNKNOWN[k % 5]))
+
+
+def rehomings():
+    """What changes.py has, as jobs, with the tables that come to their limit; both loops for each single edit."""
+    yield from changes.second_uplink()
+    yield from changes.between_relays()
+    for k, (x, y) in enumerate(changes.single_rehomings()):
+        f = GENERAL + (k + 1) % FUNCTIONAL
+        for condition in changes.loops_of(f):
+            yield changes.homes(f), condition, sheet((4, f, x, y))
+    for k, edits in enumerate(changes.several_rehomings(GENERAL)):
+        yield changes.homes(GENERAL), list(changes.ways_of(GENERAL))[k % 4], sheet(*edits)
+    yield from changes.rewritten_full()
+
+
 def largest():
     """The longest job that is not refused: as many nodes as a table has, before and after, and as many edits as a sheet has."""
     nodes = [(3, n, 0, 0) for n in HIGH]
     nodes += [(6, 0, i, (7 * i) % len(HIGH)) for i in range(len(HIGH) - 1, NODES - 1)]
     edits = [(0, n, turned(n, 1)) for n in HIGH] + [(4, n % GENERAL, n, turned(n, 3)) for n in HIGH[:16]] + [(2, n, n % 7) for n in HIGH[16:]]
     file = job(pieces.spread_site(), pieces.table(*nodes), sheet(*edits))
-    assert len(file) == 46940, len(file)
+    assert len(file) == 46944, len(file)
     return file
 
 
@@ -461,7 +505,7 @@ def random_limited(rng):
         site = lists.random_chain(rng)
         nodes = pieces.nodes_of(lists.random_shared(rng))
         condition = way_to(nodes, rng.choice((8, 9))) if k % 2 else pieces.table(*nodes)
-        edits = changes.random_sheet(rng, site, rng.choice((1, 2, 3)), (4, 5, 5, 6, 0, 8))
+        edits = changes.random_sheet(rng, site, rng.choice((1, 2, 3)), SECOND, (4, 5, 5, 6, 0, 8))
         yield site, condition, edits + sheet(*[DT1] * rng.randrange(3))
 
 
@@ -477,13 +521,17 @@ def around(file):
 
 
 def with_limits(rng):
-    """All that items 2 to 14 refuse once more under other limits, and then jobs with limits about their rounds."""
-    for file in (*files(), *(job(*three) for make in (refusals, collisions) for three in make())):
+    """All that items 2 to 14 and 18 refuse once more under other limits, and then jobs with limits about their rounds."""
+    for file in (*files(), *(job(*four) for make in (refusals, collisions) for four in in_editions(make()))):
         yield file, (0, *TOO_HIGH)
-    for three in [(A, R, DT2), (A, R, sheet()), (A, named(1), DT2), *many_paths(), *most_paths(), *limits_and_faults(), *random_limited(rng)]:
-        yield job(*three), around(job(*three))
-    for site, condition in lists.never_ending():
-        yield job(site, condition, sheet((2, 1, 0), (7, 3, 200))), lists.SHORT
+    for file in editions():
+        assert answer(bytes(file), TOO_HIGH[0]) == ["refused 16 0"]
+        yield file, (0, TOO_HIGH[0])
+    some = (A, R, DT2), (A, R, sheet()), (A, named(1), DT2), (A, R, REHOMED)
+    for four in in_editions((*some, *many_paths(), *most_paths(), *limits_and_faults(), *random_limited(rng))):
+        yield job(*four), around(job(*four))
+    for edition, (site, condition) in zip((*EDITIONS, 3), itertools.cycle(lists.never_ending())):
+        yield job(site, condition, sheet((2, 1, 0), (7, 3, 200)), edition), lists.SHORT
 
 
 def cases(rng):
@@ -491,20 +539,22 @@ def cases(rng):
     yield J
     yield largest()
     yield from files()
-    for make in (by_hand, refusals, limits, collisions, labels_and_nil, classing, many_names, at_edges, by_copies):
-        for three in make():
-            yield job(*three)
-    for three in changes.random_marks(rng):
-        yield job(*three)
-    for _ in range(60):
+    yield from editions()
+    for make in (by_hand, refusals, limits, collisions, labels_and_nil, classing, many_names, at_edges, by_copies, rehomings):
+        for four in in_editions(make()):
+            yield job(*four)
+    for four in in_editions(changes.random_marks(rng)):
+        yield job(*four)
+    for k in range(60):
+        edition = EDITIONS[k % 2]
         site = lists.random_site(rng, rng.choice((0, 5, 30, 120)))
         condition = lists.random_condition(rng)
-        edits = changes.random_sheet(rng, site, rng.choice((1, 2, 3, 4, 6)))
+        edits = changes.random_sheet(rng, site, rng.choice((1, 2, 3, 4, 6)), edition)
         three = [site, condition, edits]
         part = rng.randrange(12)
         if part < 3:
             three[part] = changes.damaged(rng, three[part])
-        file = bytearray(job(*three))
+        file = bytearray(job(*three, edition))
         if part == 3:
             file[rng.randrange(-TRAILER_BYTES, 0)] ^= 1 << rng.randrange(8)
         yield file

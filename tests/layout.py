@@ -26,7 +26,9 @@ EDIT_BYTES = 4
 EDITS = 64
 SHEET_BYTES = EDITS * EDIT_BYTES
 OPERATIONS = 9
-TRAILER_BYTES = 12
+EDITIONS = (1, 2)  # of sheets
+NUMBER_BYTES = 4  # a distance, an edition, a limit
+TRAILER_BYTES = 4 * NUMBER_BYTES  # three distances and the edition
 FILE_BYTES = 65536
 HIGHEST_LIMIT = 1000000  # on the rounds of a list
 

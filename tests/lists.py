@@ -753,7 +753,7 @@ def cases(rng):
 
 
 def encode_limits(limits):
-    return bytes([len(limits)]) + b"".join(limit.to_bytes(4, "little") for limit in limits)
+    return bytes([len(limits)]) + b"".join(map(pieces.encode_number, limits))
 
 
 def main():

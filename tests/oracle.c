@@ -526,13 +526,18 @@ static void drop_arc(struct arcs *arcs, int number)
         arcs->at[number] = arcs->at[--arcs->count];
 }
 
-/* The target of a functional link, 0 for none. */
-static int target(const struct arcs *arcs, int from)
+int model_target(const struct model *model, int link, int from)
 {
+    const struct arcs *arcs = &model->link[link];
     for (size_t k = 0; k < arcs->count; k++)
         if (arcs->at[k].from == from)
             return arcs->at[k].to;
     return 0;
+}
+
+static void drop_link(struct model *model, int link, int from, int to)
+{
+    drop_arc(&model->link[link], find_arc(&model->link[link], from, to));
 }
 
 static void drop_slot(struct model *model, int slot)
@@ -553,17 +558,30 @@ static void drop_slot(struct model *model, int slot)
     }
 }
 
-static bool add_link(struct model *model, int link, int from, int to)
+/* AT of edition 2 by a functional link: the slot takes a second target while the first is live, and drops the first. */
+static bool replaces(const uint8_t *edit, uint32_t edition)
 {
-    struct arcs *arcs = &model->link[link];
-    if (from == 0 || to == 0 || (link >= GENERAL && target(arcs, from) != 0 && target(arcs, from) != to))
+    return edit[0] == AT && edit[1] >= GENERAL && edition == 2;
+}
+
+/* AT. A functional link from a slot with another target either replaces it or does not go through. */
+static bool add_link(struct model *model, const uint8_t *edit, uint32_t edition)
+{
+    const int link = edit[1], from = model->name[edit[2]], to = model->name[edit[3]];
+    const int old = link < GENERAL ? 0 : model_target(model, link, from);
+    if (from == 0 || to == 0)
         return false;
-    if (find_arc(arcs, from, to) < 0)
-        add_arc(arcs, from, to);
+    if (old != 0 && old != to) {
+        if (!replaces(edit, edition))
+            return false;
+        drop_link(model, link, from, old);
+    }
+    if (find_arc(&model->link[link], from, to) < 0)
+        add_arc(&model->link[link], from, to);
     return true;
 }
 
-bool model_edit(struct model *model, const uint8_t *edit)
+bool model_edit(struct model *model, const uint8_t *edit, uint32_t edition)
 {
     const int x = edit[1], y = edit[2], z = edit[3];
     switch (edit[0]) {
@@ -571,7 +589,7 @@ bool model_edit(struct model *model, const uint8_t *edit)
         model->name[x] = model->name[y];
         return true;
     case CN2:
-        model->name[x] = (uint8_t)target(&model->link[z], model->name[y]);
+        model->name[x] = (uint8_t)model_target(model, z, model->name[y]);
         return true;
     case AP: /* nil gets no label */
         model->label[y][model->name[x]] |= model->name[x] != DESK_NIL;
@@ -580,12 +598,12 @@ bool model_edit(struct model *model, const uint8_t *edit)
         model->label[y][model->name[x]] = false;
         return true;
     case AT:
-        return add_link(model, x, model->name[y], model->name[z]);
+        return add_link(model, edit, edition);
     case DT1:
-        drop_arc(&model->link[x], find_arc(&model->link[x], model->name[y], model->name[z]));
+        drop_link(model, x, model->name[y], model->name[z]);
         return true;
     case DT2:
-        drop_arc(&model->link[x], find_arc(&model->link[x], model->name[y], target(&model->link[x], model->name[y])));
+        drop_link(model, x, model->name[y], model_target(model, x, model->name[y]));
         return true;
     case AS:
         if (model->present[y])
@@ -608,12 +626,24 @@ struct words {
     int n, n1, n2, p, y, k, way, f;
 };
 
-static struct words link_words(const uint8_t *edit, const struct node *node)
+/* AT of edition 2 over a functional link. */
+static const char *replace_text(bool diamond, bool back)
+{
+    if (diamond)
+        return back ? "n1 ! T & <f-> n2 n1 T & <E> & |" : "n1 ! T <f> & n1 n2 T & <E> & |";
+    return back ? "n1 T | [f-] n2 ! n1 ! T | [E] | &" : "n1 T [f] | n1 ! n2 ! T | [E] | &";
+}
+
+static struct words link_words(const uint8_t *edit, uint32_t edition, const struct node *node)
 {
     struct words w = {.way = node->param, .f = edit[1], .n = edit[2], .n1 = edit[2], .n2 = edit[3]};
     bool diamond = node->kind == DIAMOND, back = node->param >= LINKS;
     if (node->param % LINKS != edit[1])
         return w;
+    if (replaces(edit, edition)) {
+        w.text = replace_text(diamond, back);
+        return w;
+    }
     if (back) {
         w.n1 = edit[3];
         w.n2 = edit[2];
@@ -652,14 +682,14 @@ static struct words delete_words(const uint8_t *edit, const struct node *node)
     return w;
 }
 
-static struct words block_words(const uint8_t *edit, const struct node *node)
+static struct words block_words(const uint8_t *edit, uint32_t edition, const struct node *node)
 {
     const int op = edit[0];
     const bool over = node->kind == DIAMOND || node->kind == BOX;
     if (over && node->param == EVERYWHERE)
         return (struct words){.text = NULL};
     if (over && (op == AT || op == DT1 || op == DT2))
-        return link_words(edit, node);
+        return link_words(edit, edition, node);
     if (op == DS)
         return delete_words(edit, node);
     if (op == CN1 && node->kind == NAME && node->param == edit[1])
@@ -734,12 +764,12 @@ static int put_words(const struct words *w, int image, struct node *table, int *
 }
 
 /* One edit: each old node becomes its block. The table has room for the longest blocks. */
-static int rewrite_edit(const uint8_t *edit, const struct node *old, int old_count, struct node *table)
+static int rewrite_edit(const uint8_t *edit, uint32_t edition, const struct node *old, int old_count, struct node *table)
 {
     static int images[DESK_NODES_MAX];
     int count = 0;
     for (int i = 0; i < old_count; i++) {
-        struct words w = block_words(edit, &old[i]);
+        struct words w = block_words(edit, edition, &old[i]);
         if (w.text) {
             images[i] = put_words(&w, images[old[i].left], table, &count);
             continue;
@@ -755,12 +785,13 @@ static int rewrite_edit(const uint8_t *edit, const struct node *old, int old_cou
 }
 
 /* What has to hold on a site for the edit to go through there, in the words of the specification; no text: it always does. */
-static struct words own_words(const uint8_t *edit)
+static struct words own_words(const uint8_t *edit, uint32_t edition)
 {
+    const bool any_target = edit[1] < GENERAL || replaces(edit, edition);
     switch (edit[0]) {
     case AT:
-        return (struct words){.text = edit[1] < GENERAL ? "n1 nil & <E> ! n2 nil & <E> ! &"
-                                                        : "n1 nil & <E> ! n2 nil & <E> ! & n1 t <m> & <E> ! n1 n2 <m> & <E> | &",
+        return (struct words){.text = any_target ? "n1 nil & <E> ! n2 nil & <E> ! &"
+                                                 : "n1 nil & <E> ! n2 nil & <E> ! & n1 t <m> & <E> ! n1 n2 <m> & <E> | &",
                               .way = edit[1], .n1 = edit[2], .n2 = edit[3]};
     case AS:
         return (struct words){.text = "h k & <E> !", .k = edit[2]};
@@ -771,9 +802,9 @@ static struct words own_words(const uint8_t *edit)
 }
 
 /* The edit's own condition and an "and" behind the table, which is the left operand. */
-static int put_own(const uint8_t *edit, struct node *table, int count)
+static int put_own(const uint8_t *edit, uint32_t edition, struct node *table, int count)
 {
-    struct words w = own_words(edit);
+    struct words w = own_words(edit, edition);
     if (!w.text)
         return count;
     int older = count - 1, own = put_words(&w, older, table, &count);
@@ -783,15 +814,15 @@ static int put_own(const uint8_t *edit, struct node *table, int count)
 
 /* The passes over a sheet, its last edit first, which oracle_rewrite and oracle_through share; for the latter each edit's own condition comes
  * behind the table that was rewritten through the edit. 0 where a table is too long. */
-static int rewrite(struct node *table, int count, const uint8_t *sheet, size_t edits, bool with_own)
+static int rewrite(struct node *table, int count, const uint8_t *sheet, size_t edits, uint32_t edition, bool with_own)
 {
     enum { LONGEST_BLOCK = 11, LONGEST_OWN = 25 };
     static struct node longer[DESK_NODES_MAX * LONGEST_BLOCK + LONGEST_OWN];
     for (size_t k = edits; k-- > 0;) {
         const uint8_t *edit = sheet + DESK_EDIT_BYTES * k;
-        count = rewrite_edit(edit, table, count, longer);
+        count = rewrite_edit(edit, edition, table, count, longer);
         if (with_own)
-            count = put_own(edit, longer, count);
+            count = put_own(edit, edition, longer, count);
         if (count > DESK_NODES_MAX)
             return 0;
         memcpy(table, longer, sizeof *table * (size_t)count);
@@ -955,25 +986,24 @@ static void model_copy(struct model *to, const struct model *from)
     }
 }
 
-static void apply(struct read *r, struct piece sheet)
+static void apply(struct read *r, struct piece sheet, uint32_t edition)
 {
     model_copy(&r->after, &r->before);
     for (size_t k = 0; k < sheet.length / DESK_EDIT_BYTES; k++)
-        if (!model_edit(&r->after, sheet.at + DESK_EDIT_BYTES * k)) {
+        if (!model_edit(&r->after, sheet.at + DESK_EDIT_BYTES * k, edition)) {
             r->reason = 13;
             r->where = (uint32_t)k;
             return;
         }
 }
 
-/* Items 3 to 14, those that concern the pieces given. */
-static void judge(struct read *r, struct piece site, struct piece cond, struct piece sheet)
+/* Items 18 and 3 to 14, those that concern the pieces given; an edition goes with a sheet. */
+static void judge(struct read *r, struct piece site, struct piece cond, struct piece sheet, uint32_t edition)
 {
-    r->reason = r->where = 0;
-    if (site.at && site.length != DESK_SITE_BYTES) {
-        r->reason = 3;
+    r->where = 0;
+    r->reason = sheet.at && edition != 1 && edition != 2 ? 18 : site.at && site.length != DESK_SITE_BYTES ? 3 : 0;
+    if (r->reason)
         return;
-    }
     if (site.at) {
         model_read(&r->before, site.at);
         r->reason = site_fault(&r->before);
@@ -990,10 +1020,10 @@ static void judge(struct read *r, struct piece site, struct piece cond, struct p
     if (!r->reason && sheet.at)
         judge_sheet(r, sheet);
     if (!r->reason && sheet.at && site.at)
-        apply(r, sheet);
+        apply(r, sheet, edition);
     if (!r->reason && sheet.at && cond.at) {
         memcpy(r->rewritten, r->table, sizeof r->table);
-        r->rewritten_count = rewrite(r->rewritten, r->count, sheet.at, sheet.length / DESK_EDIT_BYTES, false);
+        r->rewritten_count = rewrite(r->rewritten, r->count, sheet.at, sheet.length / DESK_EDIT_BYTES, edition, false);
         if (r->rewritten_count == 0)
             r->reason = 14;
     }
@@ -1012,7 +1042,7 @@ struct desk_listed oracle_list(const uint8_t *site, size_t site_len, const uint8
         return (struct desk_listed){1, 0, 0, 0};
     if (limit > DESK_LIMIT_MAX)
         return (struct desk_listed){16, 0, 0, 0};
-    judge(r, (struct piece){site, site_len}, (struct piece){cond, cond_len}, none);
+    judge(r, (struct piece){site, site_len}, (struct piece){cond, cond_len}, none, 0);
     if (r->reason)
         return (struct desk_listed){r->reason, r->where, 0, 0};
     struct found found = list(&r->before, r->table, r->count);
@@ -1025,7 +1055,7 @@ bool oracle_walk(const uint8_t *site, const uint8_t *cond, size_t cond_len, uint
 {
     enum { STEPS = 800, DEEPEST = 100 };
     struct read *r = &answer;
-    judge(r, (struct piece){site, DESK_SITE_BYTES}, (struct piece){cond, cond_len}, none);
+    judge(r, (struct piece){site, DESK_SITE_BYTES}, (struct piece){cond, cond_len}, none, 0);
     struct walk w = {.model = &r->before, .table = r->table, .steps = STEPS};
     if (r->reason || r->count > DEEPEST)
         return false;
@@ -1035,43 +1065,43 @@ bool oracle_walk(const uint8_t *site, const uint8_t *cond, size_t cond_len, uint
     return w.steps > 0;
 }
 
-struct desk_applied oracle_apply(const uint8_t *site, size_t site_len, const uint8_t *sheet, size_t sheet_len,
+struct desk_applied oracle_apply(const uint8_t *site, size_t site_len, const uint8_t *sheet, size_t sheet_len, uint32_t edition,
                                  uint8_t *result, size_t result_len)
 {
     struct read *r = &answer;
     memset(result, 0, result_len);
     if (result_len != DESK_SITE_BYTES)
         return (struct desk_applied){1, 0};
-    judge(r, (struct piece){site, site_len}, none, (struct piece){sheet, sheet_len});
+    judge(r, (struct piece){site, site_len}, none, (struct piece){sheet, sheet_len}, edition);
     if (!r->reason)
         model_write(&r->after, result);
     return (struct desk_applied){r->reason, r->where};
 }
 
-struct desk_rewritten oracle_rewrite(const uint8_t *cond, size_t cond_len, const uint8_t *sheet, size_t sheet_len,
+struct desk_rewritten oracle_rewrite(const uint8_t *cond, size_t cond_len, const uint8_t *sheet, size_t sheet_len, uint32_t edition,
                                      uint8_t *result, size_t result_len)
 {
     struct read *r = &answer;
     memset(result, 0, result_len);
     if (result_len != DESK_TABLE_BYTES)
         return (struct desk_rewritten){1, 0, 0};
-    judge(r, none, (struct piece){cond, cond_len}, (struct piece){sheet, sheet_len});
+    judge(r, none, (struct piece){cond, cond_len}, (struct piece){sheet, sheet_len}, edition);
     if (!r->reason)
         table_write(r->rewritten, (size_t)r->rewritten_count, result);
     return (struct desk_rewritten){r->reason, r->where, r->reason ? 0 : (uint32_t)r->rewritten_count};
 }
 
-struct desk_rewritten oracle_through(const uint8_t *sheet, size_t sheet_len, uint8_t *result, size_t result_len)
+struct desk_rewritten oracle_through(const uint8_t *sheet, size_t sheet_len, uint32_t edition, uint8_t *result, size_t result_len)
 {
     struct read *r = &answer;
     memset(result, 0, result_len);
     if (result_len != DESK_TABLE_BYTES)
         return (struct desk_rewritten){1, 0, 0};
-    judge(r, none, none, (struct piece){sheet, sheet_len});
+    judge(r, none, none, (struct piece){sheet, sheet_len}, edition);
     if (r->reason)
         return (struct desk_rewritten){r->reason, r->where, 0};
     r->rewritten[0] = (struct node){TRUE, 0, 0, 0};
-    r->rewritten_count = rewrite(r->rewritten, 1, sheet, sheet_len / DESK_EDIT_BYTES, true);
+    r->rewritten_count = rewrite(r->rewritten, 1, sheet, sheet_len / DESK_EDIT_BYTES, edition, true);
     if (r->rewritten_count == 0)
         return (struct desk_rewritten){14, 0, 0};
     table_write(r->rewritten, (size_t)r->rewritten_count, result);
@@ -1084,7 +1114,7 @@ struct desk_classed oracle_classes(const uint8_t *site, size_t site_len, uint8_t
     memset(classes, 0, classes_len);
     if (classes_len != DESK_CLASSES_BYTES)
         return (struct desk_classed){1, 0, 0};
-    judge(r, (struct piece){site, site_len}, none, none);
+    judge(r, (struct piece){site, site_len}, none, none, 0);
     return (struct desk_classed){r->reason, r->where, r->reason ? 0 : number_classes(&r->before, classes)};
 }
 
@@ -1100,7 +1130,7 @@ struct desk_chained oracle_chain(const uint8_t *site, size_t site_len, const uin
     memset(work, 0, work_len);
     if (chain_len != DESK_CHAIN_BYTES || set_len != DESK_SET_BYTES || work_len != DESK_WORK_BYTES)
         return (struct desk_chained){1, 0, 0, 0};
-    judge(r, (struct piece){site, site_len}, (struct piece){cond, cond_len}, none);
+    judge(r, (struct piece){site, site_len}, (struct piece){cond, cond_len}, none, 0);
     if (r->reason || start_fault(&r->before, way, start))
         return (struct desk_chained){r->reason ? r->reason : 17, r->where, 0, 0};
     const struct arcs *arcs = &r->before.link[way % LINKS];
@@ -1127,7 +1157,7 @@ bool oracle_try_chains(const uint8_t *site, const uint8_t *cond, size_t cond_len
     struct read *r = &answer;
     int present = 0;
     memset(tried, 0, sizeof *tried);
-    judge(r, (struct piece){site, DESK_SITE_BYTES}, (struct piece){cond, cond_len}, none);
+    judge(r, (struct piece){site, DESK_SITE_BYTES}, (struct piece){cond, cond_len}, none, 0);
     if (r->reason || start_fault(&r->before, way, start))
         return false;
     const struct slots goal = list_goal(&r->before, r->table, r->count);
@@ -1146,34 +1176,25 @@ bool oracle_try_chains(const uint8_t *site, const uint8_t *cond, size_t cond_len
     return t.arcs_left > 0;
 }
 
-static uint64_t distance(const uint8_t *at)
+static uint32_t number(const uint8_t *at)
 {
-    return at[0] + 256ull * at[1] + 65536ull * at[2] + 16777216ull * at[3];
+    return (uint32_t)(at[0] + 256ull * at[1] + 65536ull * at[2] + 16777216ull * at[3]);
 }
 
-/* Item 2; the three pieces where it is not met. */
-static bool file_fault(const uint8_t *file, size_t length, struct piece *site, struct piece *cond, struct piece *sheet)
-{
-    if (length < DESK_TRAILER_BYTES || length > DESK_FILE_BYTES_MAX)
-        return true;
-    const uint8_t *trailer = file + length - DESK_TRAILER_BYTES;
-    uint64_t to_sheet = distance(trailer), to_cond = distance(trailer + 4), to_site = distance(trailer + 8);
-    if (to_cond < to_sheet || to_site < to_cond || to_site != length - DESK_TRAILER_BYTES)
-        return true;
-    *site = (struct piece){file, to_site - to_cond};
-    *cond = (struct piece){trailer - to_cond, to_cond - to_sheet};
-    *sheet = (struct piece){trailer - to_sheet, to_sheet};
-    return false;
-}
-
-/* Items 2 to 14. */
+/* Items 2, 18 and 3 to 14. */
 static void judge_file(struct read *r, const uint8_t *file, size_t length)
 {
-    struct piece pieces[3];
+    enum { TRAILER = 16 };
     r->reason = 2;
     r->where = 0;
-    if (!file_fault(file, length, &pieces[0], &pieces[1], &pieces[2]))
-        judge(r, pieces[0], pieces[1], pieces[2]);
+    if (length < TRAILER || length > DESK_FILE_BYTES_MAX)
+        return;
+    const uint8_t *trailer = file + length - TRAILER;
+    const uint32_t to_sheet = number(trailer), to_cond = number(trailer + 4), to_site = number(trailer + 8), edition = number(trailer + 12);
+    if (to_cond < to_sheet || to_site < to_cond || to_site != length - TRAILER)
+        return;
+    judge(r, (struct piece){file, to_site - to_cond}, (struct piece){trailer - to_cond, to_cond - to_sheet},
+          (struct piece){trailer - to_sheet, to_sheet}, edition);
 }
 
 bool oracle_rounds(const uint8_t *file, size_t file_len, uint32_t *after, uint32_t *today)

@@ -17,7 +17,7 @@ enum {
     LINKS = GENERAL + FUNCTIONAL,
     EVERYWHERE = 2 * LINKS, /* the way behind the links and their reverses */
     WAYS = EVERYWHERE + 1,
-    REASONS = DESK_START + 1,
+    REASONS = DESK_EDITION + 1,
     SHEET_BYTES = DESK_EDITS_MAX * DESK_EDIT_BYTES
 };
 
@@ -88,16 +88,19 @@ struct model {
 /* Opens out DESK_SITE_BYTES bytes, whether the site is valid or not. */
 void model_read(struct model *model, const uint8_t *site);
 
-/* Makes one edit; false, and nothing is changed, if it does not go through. */
-bool model_edit(struct model *model, const uint8_t *edit);
+/* Makes one edit of a sheet of this edition; false, and nothing is changed, if it does not go through. */
+bool model_edit(struct model *model, const uint8_t *edit, uint32_t edition);
+
+/* The target of a slot by a functional link, 0 for none. */
+int model_target(const struct model *model, int link, int from);
 
 struct desk_listed oracle_list(const uint8_t *site, size_t site_len, const uint8_t *cond, size_t cond_len, uint32_t limit,
                                uint8_t *set, size_t set_len, uint8_t *work, size_t work_len);
-struct desk_applied oracle_apply(const uint8_t *site, size_t site_len, const uint8_t *sheet, size_t sheet_len,
+struct desk_applied oracle_apply(const uint8_t *site, size_t site_len, const uint8_t *sheet, size_t sheet_len, uint32_t edition,
                                  uint8_t *result, size_t result_len);
-struct desk_rewritten oracle_rewrite(const uint8_t *cond, size_t cond_len, const uint8_t *sheet, size_t sheet_len,
+struct desk_rewritten oracle_rewrite(const uint8_t *cond, size_t cond_len, const uint8_t *sheet, size_t sheet_len, uint32_t edition,
                                      uint8_t *result, size_t result_len);
-struct desk_rewritten oracle_through(const uint8_t *sheet, size_t sheet_len, uint8_t *result, size_t result_len);
+struct desk_rewritten oracle_through(const uint8_t *sheet, size_t sheet_len, uint32_t edition, uint8_t *result, size_t result_len);
 struct desk_classed oracle_classes(const uint8_t *site, size_t site_len, uint8_t *classes, size_t classes_len);
 struct desk_chained oracle_chain(const uint8_t *site, size_t site_len, const uint8_t *cond, size_t cond_len, uint32_t way, uint32_t start,
                                  uint8_t *chain, size_t chain_len, uint8_t *set, size_t set_len, uint8_t *work, size_t work_len);

@@ -7,6 +7,7 @@ The items are written here once more, from docs/SPEC.md alone and in another way
 A piece is a kind (1 site, 2 condition, 3 sheet), its length and how many of its bytes are not 0
 (2 bytes each, low byte first), then each such byte as its offset (2 bytes) and its value.
 """
+import operator
 import os
 import random
 import sys
@@ -22,7 +23,8 @@ PRINTED_MOST = 1 << 20  # `rt try` ends a program that prints more
 # ---- the items, as docs/SPEC.md, "Reasons" words them
 
 def members(data, at):
-    return {8 * i + k for i in range(SET_BYTES) if data[at + i] for k in range(8) if data[at + i] >> k & 1}
+    part = data[at:at + SET_BYTES]
+    return {8 * i + k for i, b in enumerate(part) if b for k in range(8) if b >> k & 1} if any(part) else set()
 
 
 def judge_site(d):
@@ -135,6 +137,11 @@ def judge_sheet(d):
 
 
 JUDGES = {SITE: judge_site, CONDITION: judge_condition, SHEET: judge_sheet}
+
+
+def judge_edition(edition):
+    """Of a number that stands beside a sheet or in a trailer."""
+    return None if edition in EDITIONS else (18, 0)
 
 
 # ---- pieces
@@ -306,6 +313,9 @@ def label_first(p, nodes):
 
 
 R = table((2, 0, 0, 0), (4, 0, 0, 0), (8, 4, 1, 0), (6, 0, 0, 2), (10, 0, 3, 0))
+
+# editions that there are not; of some the low byte, or the low two, are one that there is
+UNKNOWN = 0, 3, 255, 256, (1 << 32) - 1, 257, 258, 0x10001, 0x1000002, 0x80000001, (1 << 32) - 2, 4
 
 
 def site_with(*changed):
@@ -513,6 +523,19 @@ def sheets(rng):
         if rng.random() < 0.5:
             d[rng.randrange(len(d))] = rng.choice((0, 1, OPERATIONS, LABELS, NAMES, 255))
         yield d
+
+
+PRIME = 4294967291
+POWERS = [pow(257, k, PRIME) for k in range(SITE_BYTES)]
+
+
+def checksum(d):
+    """The sum, below a prime, of each byte and 1, times a power of 257; the last byte's is 1."""
+    return (sum(map(operator.mul, POWERS, reversed(d))) + sum(POWERS[:len(d)])) % PRIME
+
+
+def encode_number(n):
+    return n.to_bytes(NUMBER_BYTES, "little")
 
 
 def encode(kind, d):

@@ -33,6 +33,11 @@ static int between(int low, int high)
 /* ---- the job at hand */
 
 struct bytes site, cond, sheet, file;
+uint32_t edition = DESK_EDITION_1;
+
+const uint32_t unknown_editions[UNKNOWN_EDITIONS] = {
+    0, 3, 255, 256, 256 + 1, 256 + 2, 65536 + 1, (1u << 24) + 1, (1u << 24) + 2, 1u << 31, UINT32_MAX - 1, UINT32_MAX,
+};
 
 static struct model model; /* the site, as the edits made so far leave it */
 
@@ -103,6 +108,14 @@ static void random_arcs(const struct shape *shape)
     }
 }
 
+/* Each slot has a target by a functional link. */
+static void random_targets(const struct shape *shape)
+{
+    const int link = between(GENERAL, LINKS - 1);
+    for (int k = 0; k < shape->count; k++)
+        site.at[target_at(link, shape->slots[k])] = (uint8_t)random_slot(shape);
+}
+
 /* Few names, some or all of them. Some share a place, and some are at nil. */
 static void random_names(const struct shape *shape)
 {
@@ -128,6 +141,8 @@ static void random_site(void)
     random_names(&shape);
     for (int l = 0; l < shape.links && shape.count > 0; l++)
         random_arcs(&shape);
+    if (one_in(3))
+        random_targets(&shape);
 }
 
 /* ---- random conditions */
@@ -197,12 +212,18 @@ static void add_leaf(void)
     }
 }
 
-/* A way, of a link that the site has for the most part. */
+/* A link from this one on, which the site has for the most part. */
+static int some_link(int first)
+{
+    int link = between(first, LINKS - 1);
+    for (int tries = 0; tries < 6 && model.link[link].count == 0; tries++)
+        link = between(first, LINKS - 1);
+    return link;
+}
+
 static int some_way(void)
 {
-    int link = below(LINKS);
-    for (int tries = 0; tries < 6 && model.link[link].count == 0; tries++)
-        link = below(LINKS);
+    const int link = some_link(0);
     return one_in(8) ? EVERYWHERE : one_in(3) ? link + LINKS : link;
 }
 
@@ -269,6 +290,8 @@ static void random_condition(void)
         random_nest();
     else
         random_table();
+    if (one_in(3)) /* a link that an edit may move */
+        add_node(one_in(2) ? DIAMOND : BOX, some_link(GENERAL) + (one_in(2) ? LINKS : 0), node_count() - 1, 0);
     for (int v = 0; v < VARIABLES && !one_in(60); v++) {
         int last = node_count() - 1;
         if (variables[last].odd >> v & 1 && !(variables[last].even >> v & 1))
@@ -294,18 +317,60 @@ static void random_edit(uint8_t *edit, int operation)
         edit[k + 1] = (uint8_t)forms[edit[0]][k];
 }
 
-/* Edits that go through, for the most part. Some sheets have more of those that may not, and some have more that do not. */
+/* A name that is at the slot, or name 0. */
+static int some_name_at(int slot)
+{
+    const int first = below(NAMES);
+    for (int k = 0; k < NAMES; k++)
+        if (model.name[(first + k) % NAMES] == slot)
+            return (first + k) % NAMES;
+    return 0;
+}
+
+/* A functional link over which the condition looks, if one is found soon. */
+static int some_seen_link(void)
+{
+    for (int tries = 0; tries < 12; tries++) {
+        const uint8_t *node = cond.at + DESK_NODE_BYTES * below(node_count());
+        if ((node[0] == DIAMOND || node[0] == BOX) && node[1] != EVERYWHERE && node[1] % LINKS >= GENERAL)
+            return node[1] % LINKS;
+    }
+    return some_link(GENERAL);
+}
+
+/* AT from a slot that has a target by a functional link, if the site has such a link: to another place for the most part, also to the same one and
+ * to itself. */
+static void random_homing(uint8_t *edit)
+{
+    const int link = one_in(4) ? some_link(GENERAL) : some_seen_link();
+    const struct arcs *arcs = &model.link[link];
+    random_edit(edit, AT);
+    if (arcs->count == 0)
+        return;
+    const struct arc a = arcs->at[below((int)arcs->count)];
+    const int from = some_name_at(a.from), to = one_in(6) ? from : one_in(6) ? some_name_at(a.to) : some_name();
+    edit[1] = (uint8_t)link;
+    edit[2] = (uint8_t)from;
+    edit[3] = (uint8_t)to;
+}
+
+/* Edits that go through, for the most part. Some sheets have more of those that may not, some have more that do not, and some have many links that
+ * move. Some of edition 1 were meant for edition 2. */
 static void random_sheet(void)
 {
     static const int asking[] = {AT, AT, AT, AS, DS, CN1};
-    const bool asks = one_in(4);
+    const bool asks = one_in(4), homes = one_in(2);
+    const uint32_t meant = one_in(4) ? DESK_EDITION_2 : edition;
     const int stray = one_in(8) ? 5 : 100;
     int wanted = one_in(30) ? between(7, DESK_EDITS_MAX) : one_in(3) ? between(0, 6) : between(0, 3);
     uint8_t edit[DESK_EDIT_BYTES];
     sheet.length = 0;
     for (int tries = 0; tries < 20 * wanted && (int)sheet.length / DESK_EDIT_BYTES < wanted; tries++) {
-        random_edit(edit, asks && !one_in(4) ? asking[below(sizeof asking / sizeof *asking)] : below(OPERATIONS));
-        if (model_edit(&model, edit) || one_in(stray))
+        if (homes && !one_in(3))
+            random_homing(edit);
+        else
+            random_edit(edit, asks && !one_in(4) ? asking[below(sizeof asking / sizeof *asking)] : below(OPERATIONS));
+        if (model_edit(&model, edit, meant) || one_in(stray))
             append(&sheet, edit, sizeof edit);
     }
 }
@@ -435,12 +500,19 @@ static void damage_sheet(void)
         damage_bit(&sheet);
 }
 
+static uint32_t some_unknown_edition(void)
+{
+    return one_in(4) ? 3 + (uint32_t)below(1 << 30) * 3 : unknown_editions[below(UNKNOWN_EDITIONS)];
+}
+
 /* Before the pieces are put together. */
 static void damage_pieces(void)
 {
     for (int k = one_in(2) ? between(2, 4) : 1; k > 0; k--) {
-        int part = below(10);
-        if (part == 0)
+        int part = below(11);
+        if (part == 10)
+            edition = some_unknown_edition();
+        else if (part == 0)
             damage_length(one_in(3) ? &site : one_in(2) ? &cond : &sheet, one_in(2) ? DESK_NODE_BYTES : DESK_EDIT_BYTES);
         else if (part <= 3)
             damage_site();
@@ -453,10 +525,18 @@ static void damage_pieces(void)
 
 /* ---- the file, and damage to it */
 
-static void put_distance(uint8_t *at, size_t distance)
+void put_number(uint8_t *at, size_t number)
 {
-    for (int k = 0; k < 4; k++)
-        at[k] = (uint8_t)(distance >> 8 * k);
+    for (int k = 0; k < DESK_NUMBER_BYTES; k++)
+        at[k] = (uint8_t)(number >> 8 * k);
+}
+
+static void put_trailer(uint8_t *at, size_t to_sheet, size_t to_cond, size_t to_site)
+{
+    put_number(at + DESK_TO_SHEET_AT, to_sheet);
+    put_number(at + DESK_TO_CONDITION_AT, to_cond);
+    put_number(at + DESK_TO_SITE_AT, to_site);
+    put_number(at + DESK_EDITION_AT, edition);
 }
 
 /* A length at the bounds, with pieces that fill it. */
@@ -467,41 +547,50 @@ static void bound_file(void)
     if (file.length < DESK_TRAILER_BYTES)
         return;
     size_t room = file.length - DESK_TRAILER_BYTES, back = (size_t)below((int)room + 1);
-    put_distance(file.at + room, one_in(2) ? back : (size_t)below((int)back + 1));
-    put_distance(file.at + room + 4, back);
-    put_distance(file.at + room + 8, room);
+    put_trailer(file.at + room, one_in(2) ? back : (size_t)below((int)back + 1), back, room);
 }
 
-static void damage_file(void)
+static void damage_file_length(void)
 {
-    uint8_t *trailer = file.at + file.length - DESK_TRAILER_BYTES, keep[4];
-    int which = below(3);
-    switch (below(9)) {
+    switch (below(4)) {
     case 0:
         file.length = (size_t)below(one_in(2) ? DESK_TRAILER_BYTES + 4 : (int)file.length);
         break;
     case 1:
         file.length = (size_t)between((int)file.length, PIECE_MAX);
         break;
-    case 2: /* two distances exchanged */
-        memcpy(keep, trailer, 4);
-        memcpy(trailer, trailer + 4 + 4 * below(2), 4);
-        memcpy(trailer + 4, keep, 4);
+    case 2: /* a trailer without its end, or without the edition */
+        file.length -= (size_t)between(1, DESK_NUMBER_BYTES);
         break;
-    case 3:
-        memset(trailer + 4 * which, 0xff, 4);
+    default:
+        bound_file();
+    }
+}
+
+static void damage_trailer(void)
+{
+    uint8_t *trailer = file.at + file.length - DESK_TRAILER_BYTES, *number = trailer + DESK_NUMBER_BYTES * below(4);
+    uint8_t keep[DESK_NUMBER_BYTES];
+    switch (below(7)) {
+    case 0: /* the first number and another exchanged */
+        memcpy(keep, trailer, sizeof keep);
+        memmove(trailer, number, sizeof keep);
+        memcpy(number, keep, sizeof keep);
+        break;
+    case 1:
+        memset(number, 0xff, DESK_NUMBER_BYTES);
+        break;
+    case 2:
+        ++*number;
+        break;
+    case 3: /* the pieces meet elsewhere */
+        put_number(trailer, (size_t)below(300));
         break;
     case 4:
-        trailer[4 * which]++;
+        memset(trailer, 0, (size_t)(number - trailer) + DESK_NUMBER_BYTES);
         break;
-    case 5: /* the pieces meet elsewhere */
-        put_distance(trailer, (size_t)below(300));
-        break;
-    case 6:
-        memset(trailer, 0, 4 + 4 * (size_t)which);
-        break;
-    case 7:
-        bound_file();
+    case 5:
+        put_number(trailer + DESK_EDITION_AT, some_unknown_edition());
         break;
     default:
         trailer[below(DESK_TRAILER_BYTES)] ^= (uint8_t)(1 << below(8));
@@ -515,9 +604,7 @@ void build_file(void)
     append(&file, site.at, site.length);
     append(&file, cond.at, cond.length);
     append(&file, sheet.at, sheet.length);
-    put_distance(trailer, sheet.length);
-    put_distance(trailer + 4, sheet.length + cond.length);
-    put_distance(trailer + 8, file.length);
+    put_trailer(trailer, sheet.length, sheet.length + cond.length, file.length);
     append(&file, trailer, sizeof trailer);
 }
 
@@ -525,6 +612,7 @@ void build_job(uint64_t seed, int job)
 {
     state = seed * 0x100000001b3u + (uint64_t)job;
     bool damaged = job % 2 == 1, in_file = one_in(6);
+    edition = one_in(2) ? DESK_EDITION_2 : DESK_EDITION_1;
     random_site();
     model_read(&model, site.at);
     random_condition();
@@ -532,8 +620,10 @@ void build_job(uint64_t seed, int job)
     if (damaged && !in_file)
         damage_pieces();
     build_file();
-    if (damaged && in_file)
-        damage_file();
+    if (damaged && in_file && one_in(3))
+        damage_file_length();
+    else if (damaged && in_file)
+        damage_trailer();
 }
 
 /* ---- sites with long chains: slots in layers, and a link from each layer to the next for the most part */

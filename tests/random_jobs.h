@@ -13,6 +13,12 @@ struct bytes {
 };
 
 extern struct bytes site, cond, sheet, file;
+extern uint32_t edition; /* of the sheet */
+
+/* Editions that are refused: next to the known ones, and with one of them in the low bytes. */
+enum { UNKNOWN_EDITIONS = 12 };
+
+extern const uint32_t unknown_editions[UNKNOWN_EDITIONS];
 
 /* A number below the limit, and true once in so many times. */
 int below(int limit);
@@ -20,6 +26,9 @@ bool one_in(int n);
 
 void append(struct bytes *to, const uint8_t *from, size_t length);
 void add_node(int kind, int param, int left, int right);
+
+/* Puts a number into the trailer of a file. */
+void put_number(uint8_t *at, size_t number);
 
 /* Puts the pieces together, with the trailer. */
 void build_file(void);

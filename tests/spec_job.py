@@ -2,17 +2,21 @@
 """Compares docs/SPEC.md with what is stored and with include/desk.h.
 
 - The worked job: its blocks of bytes against crates/job/stdin and stdout, and against the answers to the same job in crates/test_changes and
-  crates/test_jobs.
+  crates/test_jobs; the print of the second uplink against the latter.
 - The blocks of rewriting and the edits' own conditions: the tables of SPEC are read and carried out on every condition and sheet of
-  crates/test_changes.
-- The offsets of a site's parts and the numbers of kinds, operations and reasons against the header's constants.
+  crates/test_changes, in its edition.
+- The offsets of a site's parts, the length of the trailer and the numbers of kinds, operations and reasons against the header's constants.
 
 Prints what differs, and then exits with 1. Run at the repository's top: tests/spec_job.py
 """
 import re
 import sys
 
-NODE_BYTES, EDIT_BYTES, TABLE_NODES = 6, 4, 2048
+from changes import show_table
+from pieces import table as as_bytes
+
+NODE_BYTES, EDIT_BYTES, TABLE_NODES, NUMBER_BYTES, TRAILER_BYTES = 6, 4, 2048, 4, 16
+FUNCTIONAL = range(4, 8)  # the links that are written f
 faults = []
 
 
@@ -58,10 +62,10 @@ def worked_job(spec, cases):
     file = put_bytes(block(spec, "job-file"), bytearray(len(stored)))
     compare("the job file", file.hex(), stored.hex())
     compare("the print", block(spec, "print"), read("crates/job/stdout"))
-    end = len(file) - 12
-    near, middle, far = (int.from_bytes(file[end + k:end + k + 4], "little") for k in (0, 4, 8))
+    end = len(file) - TRAILER_BYTES
+    near, middle, far, edition = (number_at(file, end + k) for k in range(0, TRAILER_BYTES, NUMBER_BYTES))
     pieces = [bytes(file[end - far:end - middle]), bytes(file[end - middle:end - near]), bytes(file[end - near:end])]
-    answers = [answer for case, answer in cases if case == pieces]
+    answers = [answer for case, answer in cases if case == [*pieces, edition]]
     if not answers:
         faults.append("the worked job is no case of crates/test_changes")
         return
@@ -73,34 +77,49 @@ def worked_job(spec, cases):
     count = len(text.splitlines())
     compare("the rewritten table", f"{count} nodes {put_bytes(text, bytearray(NODE_BYTES * count)).hex()}", table)
     compare("the list after", "after " + listed(block(spec, "after")), after)
-    numbers = put_bytes(block(spec, "classes"), bytearray(256)).hex()
-    compare("the class numbers", numbers, read("crates/test_jobs/stdout").splitlines()[4].split()[-1])
+    numbers, jobs = put_bytes(block(spec, "classes"), bytearray(256)).hex(), read("crates/test_jobs/stdout")
+    compare("the class numbers", numbers, jobs.splitlines()[4].split()[-1])
+    printed = re.search(r"(?m)^    after \d.*\n    today .*\n    nodes .*\n    classes .*\n", spec).group().replace("    ", "")
+    compare("the print of the second uplink is that of a stored job", True, printed in jobs)
 
 
 # ---- the stored cases of crates/test_changes
 
-def stored_pieces():
-    """Each piece is a kind, its length and how many bytes are not 0 (2 bytes each), then each such byte as its place and its value."""
+def number_at(data, at, length=NUMBER_BYTES):
+    return int.from_bytes(data[at:at + length], "little")
+
+
+def stored_piece(data, at):
+    """A piece, and where the next begins: it is a kind, its length and how many bytes are not 0 (2 bytes each), then each such byte as its place and
+    its value."""
+    piece, end = bytearray(number_at(data, at + 1, 2)), at + 5 + 3 * number_at(data, at + 3, 2)
+    for k in range(at + 5, end, 3):
+        piece[number_at(data, k, 2)] = data[k + 2]
+    return bytes(piece), end
+
+
+def stored_inputs():
+    """Site, condition, sheet and edition."""
     with open("crates/test_changes/stdin", "rb") as f:
         data = f.read()
     at = 0
     while at < len(data):
-        length, count = int.from_bytes(data[at + 1:at + 3], "little"), int.from_bytes(data[at + 3:at + 5], "little")
-        piece = bytearray(length)
-        for k in range(at + 5, at + 5 + 3 * count, 3):
-            piece[int.from_bytes(data[k:k + 2], "little")] = data[k + 2]
-        yield bytes(piece)
-        at += 5 + 3 * count
+        four = []
+        for _ in range(3):
+            piece, at = stored_piece(data, at)
+            four.append(piece)
+        yield [*four, number_at(data, at)]
+        at += NUMBER_BYTES
 
 
 def stored_cases():
-    """Site, condition and sheet, with the lines of their answer: applying, rewriting, and both lists where neither was refused; then the condition
-    for going through and, where it was not refused, its list."""
-    pieces, lines, at = list(stored_pieces()), read("crates/test_changes/stdout").splitlines(), 0
-    for k in range(0, len(pieces), 3):
+    """The inputs, with the lines of their answer: applying, rewriting, and both lists where neither was refused; then the condition for going through
+    and, where it was not refused, its list."""
+    lines, at = read("crates/test_changes/stdout").splitlines(), 0
+    for four in stored_inputs():
         end = next(n for n in range(at, len(lines)) if lines[n].startswith("through ")) + 1
         end += end < len(lines) and lines[end].startswith("works ")
-        yield pieces[k:k + 3], lines[at:end]
+        yield four, lines[at:end]
         at = end
 
 
@@ -122,16 +141,43 @@ def operations_of(spec):
     return {row[1].split()[0]: (int(row[0]), row[1].split()[1:]) for row in rows(spec, "The sheet") if row[0].isdigit()}
 
 
+def head_of(cell, operations):
+    """What the first cell of a row on an edit says: the operation, what its operands are called, the links and the edition; None: any."""
+    name, operands, edition, first, last = re.match(r"(\w+) (.*?)(?: in edition (\d+))?(?:, m from (\d) to (\d))?$", cell).groups()
+    links = range(int(first), int(last) + 1) if first else None
+    return operations[name][0], operands.split(), links, edition and int(edition)
+
+
+def letters(head, edit, edition):
+    """What the letters of a row stand for, if it is about such an edit."""
+    number, operands, links, own = head
+    known = dict(zip(operands, edit[1:]))
+    fits = number == edit[0] and own in (None, edition) and known.get("f", FUNCTIONAL[0]) in FUNCTIONAL
+    if not fits or links and known["m"] not in links:
+        return None
+    for link in "mf":
+        if link in known:
+            known[link + "-"] = known[link] + 8
+    return known
+
+
+def rows_for(rows, edit, edition):
+    """The rows about an edit, each with its letters. Those that name the edition stand in the place of the others."""
+    found = [(head, letters(head, edit, edition), *rest) for head, *rest in rows]
+    found = [row for row in found if row[1] is not None]
+    return [row[1:] for row in found if row[0][3]] or [row[1:] for row in found]
+
+
 def blocks_of(spec, operations):
-    """For each operation the pairs of an old node and its block, as words."""
-    blocks, name = {}, None
+    """The rows of an edit, an old node and its block, as words."""
+    blocks, head = [], None
     for row in rows(spec, "Rewriting"):
         if len(row) != 4 or not row[3].isdigit():
             continue
-        name = row[0].split()[0] if row[0] else name
+        head = head_of(row[0], operations) if row[0] else head
         words = row[2].strip("`").split()
         compare(f"the nodes of {row[2]}", row[3], str(sum(word != "T" for word in words)))
-        blocks.setdefault(operations[name][0], []).append((row[1].split(",")[0].split(), words))
+        blocks.append((head, row[1].split(",")[0].split(), words))
     return blocks
 
 
@@ -139,14 +185,9 @@ def number_of(word, known):
     return {"E": 16, "nil": 0}.get(word, known[word[0] + "-"] if word.endswith("-") else known.get(word))
 
 
-def block_for(blocks, operations, edit, node, kinds):
-    """The words of a node's block and what their letters stand for; None where the node is copied."""
-    names = next(operands for number, operands in operations.values() if number == edit[0])
-    known = dict(zip(names, edit[1:]))
-    for link in "mf":
-        if link in known:
-            known[link + "-"] = known[link] + 8
-    for old, words in blocks.get(edit[0], []):
+def block_for(blocks, node, kinds):
+    """Of the rows about an edit, the words of a node's block and what their letters stand for; None where the node is copied."""
+    for known, old, words in blocks:
         if kinds[old[0]] != node[0]:
             continue
         own = old[1] if len(old) > 1 else None
@@ -178,11 +219,11 @@ def put_block(words, known, image, kinds, out):
         out.append(node)
 
 
-def rewritten_once(blocks, operations, kinds, table, edit):
+def rewritten_once(blocks, kinds, table):
     two, one = {kinds["or"], kinds["and"]}, {kinds[k] for k in ("not", "diamond", "box", "mu", "nu")}
     out, images = [], []
     for kind, param, left, right in table:
-        found = block_for(blocks, operations, edit, (kind, param), kinds)
+        found = block_for(blocks, (kind, param), kinds)
         if found:
             put_block(*found, images[left] if kind in one else None, kinds, out)
         else:
@@ -197,32 +238,29 @@ def table_line(table, sheet, step):
         table = step(table, sheet[at:at + EDIT_BYTES])
         if len(table) > TABLE_NODES:
             return "refused 14 0"
-    data = b"".join(bytes((k, p)) + x.to_bytes(2, "little") + y.to_bytes(2, "little") for k, p, x, y in table)
-    return f"{len(table)} nodes {data.hex()}"
+    return show_table(as_bytes(*table))
 
 
 def owns_of(spec, operations):
-    """The operation, the links (of AT) and the words of each edit's own condition: the rows of an edit, its condition and the number of nodes."""
+    """The rows of an edit and its own condition, as words."""
     owns = []
     for row in rows(spec, "The condition for going through"):
-        if len(row) != 3 or not row[2].isdigit() or row[0].split()[0] not in operations:
+        if len(row) != 3 or not row[2].isdigit() or not row[1].startswith("`"):
             continue
-        words, (edit, _, links) = row[1].strip("`").split(), row[0].partition(", m from ")
+        words = row[1].strip("`").split()
         compare(f"the nodes of {row[1]}", row[2], str(len(words)))
-        first, last = map(int, links.split(" to ")) if links else (0, 255)
-        owns.append((operations[edit.split()[0]][0], range(first, last + 1), words))
+        owns.append((head_of(row[0], operations), words))
     if not owns:
         faults.append("docs/SPEC.md has no table of the edits' own conditions")
     return owns
 
 
-def put_own(owns, operations, kinds, table, edit):
+def put_own(owns, kinds, table):
     """The edit's own condition and an "and" behind the table, which becomes the left operand."""
-    older, names = len(table) - 1, next(operands for number, operands in operations.values() if number == edit[0])
-    for number, links, words in owns:
-        if number == edit[0] and edit[1] in links:
-            put_block(words, dict(zip(names, edit[1:])), None, kinds, table)
-            table.append((kinds["and"], 0, older, len(table) - 1))
+    older = len(table) - 1
+    for known, words in owns:
+        put_block(words, known, None, kinds, table)
+        table.append((kinds["and"], 0, older, len(table) - 1))
     return table
 
 
@@ -233,19 +271,19 @@ def refused_before(line):
 def rewriting(spec, cases):
     kinds, operations = kinds_of(spec), operations_of(spec)
     blocks, owns = blocks_of(spec, operations), owns_of(spec, operations)
+    for number, ((_, condition, sheet, edition), answer) in enumerate(cases):
+        def rewrite(table, edit):
+            return rewritten_once(rows_for(blocks, edit, edition), kinds, table)
 
-    def rewrite(table, edit):
-        return rewritten_once(blocks, operations, kinds, table, edit)
+        def through(table, edit):
+            return put_own(rows_for(owns, edit, edition), kinds, rewrite(table, edit))
 
-    for number, ((_, condition, sheet), answer) in enumerate(cases):
-        word = lambda k: int.from_bytes(condition[k:k + 2], "little")
         if not refused_before(answer[1]):
-            table = [(condition[k], condition[k + 1], word(k + 2), word(k + 4)) for k in range(0, len(condition), NODE_BYTES)]
+            table = [(*condition[k:k + 2], number_at(condition, k + 2, 2), number_at(condition, k + 4, 2)) for k in range(0, len(condition), NODE_BYTES)]
             compare(f"case {number} of crates/test_changes, rewritten", table_line(table, sheet, rewrite), answer[1])
-        through = next(line for line in answer if line.startswith("through "))[len("through "):]
-        if not refused_before(through):
-            line = table_line([(kinds["true"], 0, 0, 0)], sheet, lambda t, e: put_own(owns, operations, kinds, rewrite(t, e), e))
-            compare(f"case {number} of crates/test_changes, through", line, through)
+        own = next(line for line in answer if line.startswith("through "))[len("through "):]
+        if not refused_before(own):
+            compare(f"case {number} of crates/test_changes, through", table_line([(kinds["true"], 0, 0, 0)], sheet, through), own)
 
 
 # ---- the header
@@ -267,6 +305,7 @@ def header(spec):
         if found:
             compare(f"{found.group(1)} in include/desk.h", plain(row[0]), value(found.group(1), macros))
             compare(f"the sum {found.group(2)}", plain(row[0]), eval(found.group(2).replace(",", "").replace("·", "*")))
+    compare("the trailer in include/desk.h", re.search(r"The trailer is (\d+) bytes", spec).group(1), str(value("DESK_TRAILER_BYTES", macros)))
     constants = dict(re.findall(r"(?m)^ +(DESK_\w+) = (\d+)", read("include/desk.h")))
     for name, number in kinds_of(spec).items():
         compare(f"kind {name} in include/desk.h", str(number), constants.get("DESK_KIND_" + name.upper()))

@@ -8,6 +8,6 @@ use Rattle.apply_entry.specs.Refusal.{applyVerdict}
 use Rattle.apply_entry.specs.Applying.{SiteAfter}
 
 -- applying answers the verdict v
-pub record ApplyAnswered (site sheet result result′ : List ℕ) (v : Verdict) : Type 0 where
-  pub verdict : v ≡ applyVerdict (length result) site sheet
-  pub left : SiteAfter v site sheet result result′
+pub record ApplyAnswered (edition : ℕ) (site sheet result result′ : List ℕ) (v : Verdict) : Type 0 where
+  pub verdict : v ≡ applyVerdict edition (length result) site sheet
+  pub left : SiteAfter edition v site sheet result result′

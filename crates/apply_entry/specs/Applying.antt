@@ -11,13 +11,13 @@ use Rattle.site.specs.Layout.{siteBytes}
 use Rattle.site.specs.Site.{siteOf}
 use Rattle.sheet.specs.Bytes.{editsOf}
 
--- the result has the bytes of the site that the whole sheet leaves
-pub record SiteWritten (site sheet result′ : List ℕ) : Type 0 where
+-- the result has the bytes of the site that the whole sheet, of an edition, leaves
+pub record SiteWritten (edition : ℕ) (site sheet result′ : List ℕ) : Type 0 where
   pub size : length result′ ≡ siteBytes
   pub bytes : Bytes result′
-  pub effects : siteOf result′ ≡ edits.sheet (editsOf sheet) (siteOf site)
+  pub effects : siteOf result′ ≡ edits.sheet (editsOf edition sheet) (siteOf site)
 
 -- the result after a verdict: the site that the whole sheet leaves; zeros where an input is refused
-unfoldable pub SiteAfter : Verdict → (site sheet result result′ : List ℕ) → Type 0
-SiteAfter Accepted site sheet result result′ = SiteWritten site sheet result′
-SiteAfter (Refused item w) site sheet result result′ = result′ ≡ replicate (length result) 0
+unfoldable pub SiteAfter : (edition : ℕ) → Verdict → (site sheet result result′ : List ℕ) → Type 0
+SiteAfter edition Accepted site sheet result result′ = SiteWritten edition site sheet result′
+SiteAfter edition (Refused item w) site sheet result result′ = result′ ≡ replicate (length result) 0

@@ -6,12 +6,14 @@ use Rattle.verdict.specs.declared.Verdict.{Verdict}
 use Rattle.site.specs.Layout.{siteBytes}
 use Rattle.site.specs.Site.{siteOf}
 use Rattle.site.specs.Refusal.{siteVerdict}
+use Rattle.editions.specs.Edition.{editionVerdict}
 use Rattle.sheet.specs.Bytes.{editsOf}
 use Rattle.sheet.specs.Refusal.{sheetVerdict}
 use Rattle.applying.specs.Refusal.{goesVerdict}
 use Rattle.refusals.specs.Refusal.{bufferVerdict}
 
--- applying: 1, then 3 to 6, then 11 and 12, then 13
-unfoldable pub applyVerdict : (resultLen : ℕ) (site sheet : List ℕ) → Verdict
-applyVerdict resultLen site sheet =
-    bufferVerdict resultLen siteBytes then siteVerdict site then sheetVerdict sheet then goesVerdict (editsOf sheet) (siteOf site)
+-- applying: 1, then 18, then 3 to 6, then 11 and 12, then 13
+unfoldable pub applyVerdict : (edition resultLen : ℕ) (site sheet : List ℕ) → Verdict
+applyVerdict edition resultLen site sheet =
+    bufferVerdict resultLen siteBytes
+    then editionVerdict edition then siteVerdict site then sheetVerdict sheet then goesVerdict (editsOf edition sheet) (siteOf site)

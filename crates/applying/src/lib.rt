@@ -9,14 +9,14 @@ ghost use Rattle.sheet.specs.Refusal.{sheetVerdict};
 ghost use Rattle.applying.specs.Applies.{Ran, Applies};
 
 // Applies the edits in order, up to the first that does not go through, and returns how many there were.
-fn run(site: &mut [u8], sheet: &[u8]) -> usize
+fn run(site: &mut [u8], sheet: &[u8], edition: u32) -> usize
     requires { ⌜ (length (now site) ≡ siteBytes) × (sheetVerdict (now sheet) ≡ Accepted) ⌝ }
-    ensures { λ r. ⌜ Ran (now (site .entry)) (now (sheet .entry)) (now (site .exit)) r ⌝ }
+    ensures { λ r. ⌜ Ran edition (now (site .entry)) (now (sheet .entry)) (now (site .exit)) r ⌝ }
 {
     let n = sheet.len() / 4;
     let mut k = 0;
     while k < n {
-        let e = sheet::edit_at(sheet, k);
+        let e = sheet::edit_at(sheet, edition, k);
         if !going::goes_through(site, e) {
             return k;
         }
@@ -27,12 +27,12 @@ fn run(site: &mut [u8], sheet: &[u8]) -> usize
 }
 
 // Writes the site that the sheet leaves, and zeros where an edit does not go through.
-pub fn apply(site: &[u8], sheet: &[u8], result: &mut [u8]) -> Verdict
+pub fn apply(site: &[u8], sheet: &[u8], edition: u32, result: &mut [u8]) -> Verdict
     requires { ⌜ (siteVerdict (now site) ≡ Accepted) × ((sheetVerdict (now sheet) ≡ Accepted) × (length (now result) ≡ siteBytes)) ⌝ }
-    ensures { λ r. ⌜ Applies (now (site .entry)) (now (sheet .entry)) (now (result .exit)) r ⌝ }
+    ensures { λ r. ⌜ Applies edition (now (site .entry)) (now (sheet .entry)) (now (result .exit)) r ⌝ }
 {
     buffer::copy(result, site, site.len());
-    let w = run(result, sheet);
+    let w = run(result, sheet, edition);
     if w < sheet.len() / 4 {
         buffer::zero(result);
         return Verdict::Refused(13, w as u16);

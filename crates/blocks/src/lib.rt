@@ -264,6 +264,70 @@ const TEXT_34: [u16; TEXT_GROUPS] = [
     0,
 ];
 
+// RT <f>: a ! T <w> & a b T & <E> & |
+const TEXT_35: [u16; TEXT_GROUPS] = [
+    0x000a,
+    0x3200,
+    0x5010,
+    0x81e0,
+    0x7023,
+    0x3200,
+    0x3300,
+    0x706e,
+    0x8570,
+    0x7058,
+    0x6049,
+    0,
+];
+
+// RT [f]: a T [w] | a ! b ! T | [E] | &
+const TEXT_36: [u16; TEXT_GROUPS] = [
+    0x000b,
+    0x3200,
+    0x91e0,
+    0x6012,
+    0x3200,
+    0x5040,
+    0x3300,
+    0x5060,
+    0x607e,
+    0x9580,
+    0x6059,
+    0x703a,
+];
+
+// RT <f->: a ! T & <w> b a T & <E> & |
+const TEXT_37: [u16; TEXT_GROUPS] = [
+    0x000a,
+    0x3200,
+    0x5010,
+    0x702e,
+    0x8130,
+    0x3300,
+    0x3200,
+    0x706e,
+    0x8570,
+    0x7058,
+    0x6049,
+    0,
+];
+
+// RT [f-]: a T | [w] b ! a ! T | [E] | &
+const TEXT_38: [u16; TEXT_GROUPS] = [
+    0x000b,
+    0x3200,
+    0x601e,
+    0x9120,
+    0x3300,
+    0x5040,
+    0x3200,
+    0x5060,
+    0x607e,
+    0x9580,
+    0x6059,
+    0x703a,
+];
+
 fn text(row: u8) -> [u16; TEXT_GROUPS]
     requires { ⌜ (copyCount ≤ row) × (row < rowCount) ⌝ }
     ensures { λ r. ⌜ r ≡ textAt row ⌝ }
@@ -290,7 +354,11 @@ fn text(row: u8) -> [u16; TEXT_GROUPS]
         31 => TEXT_31,
         32 => TEXT_32,
         33 => TEXT_33,
-        _ => TEXT_34,
+        34 => TEXT_34,
+        35 => TEXT_35,
+        36 => TEXT_36,
+        37 => TEXT_37,
+        _ => TEXT_38,
     }
 }
 

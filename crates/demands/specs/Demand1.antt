@@ -17,6 +17,7 @@ use Rattle.through.specs.Through.{through}
 use Rattle.sheet.specs.Bytes.{editsOf}
 use Rattle.rewriting.specs.Rewriting.{TableAfter, rewritten}
 use Rattle.classes_entry.specs.Classing.{ClassesAfter}
+use Rattle.trailer.specs.Refusal.{editionIn}
 use Rattle.trailer.specs.Pieces.{siteIn, conditionIn, sheetIn}
 use Rattle.job_run.specs.Buffers.{Buffers}
 use Rattle.job_run.specs.Job.{JobAfter}
@@ -36,7 +37,7 @@ Zeroed b b′ = b′ ≡ replicate (length b) 0
 
 -- the site after, the rewritten table, both lists and the classes after, with their counts and rounds, from the three pieces of the file
 abbrev pub FullJob : (file : List ℕ) (b b′ : Buffers) (after today : Found) (nodes classes : ℕ) → Type 0
-FullJob file b b′ after today nodes classes = JobAfter Accepted (siteIn file) (conditionIn file) (sheetIn file) b b′ after today nodes classes
+FullJob file b b′ after today nodes classes = JobAfter (editionIn file) Accepted (siteIn file) (conditionIn file) (sheetIn file) b b′ after today nodes classes
 
 -- the five result buffers and the work buffer are zeros, and the four counts and the rounds of both lists are 0
 pub record ZeroJob (b b′ : Buffers) (after today : Found) (nodes classes : ℕ) : Type 0 where
@@ -69,18 +70,18 @@ Demand1List =
 
 unfoldable pub Demand1Apply : Type 0
 Demand1Apply =
-    (site sheet result result′ : List ℕ) (reason fault : ℕ) → ReturnedApply site sheet result result′ reason fault
-    → Answers reason fault (SiteAfter Accepted site sheet result result′) (Zeroed result result′)
+    (edition : ℕ) (site sheet result result′ : List ℕ) (reason fault : ℕ) → ReturnedApply edition site sheet result result′ reason fault
+    → Answers reason fault (SiteAfter edition Accepted site sheet result result′) (Zeroed result result′)
 
 unfoldable pub Demand1Rewrite : Type 0
 Demand1Rewrite =
-    (table sheet result result′ : List ℕ) (reason fault n : ℕ) → ReturnedRewrite table sheet result result′ reason fault n
-    → Answers reason fault (TableAfter Accepted (rewritten table sheet) result result′ n) (Zeroed result result′ × (n ≡ 0))
+    (edition : ℕ) (table sheet result result′ : List ℕ) (reason fault n : ℕ) → ReturnedRewrite edition table sheet result result′ reason fault n
+    → Answers reason fault (TableAfter Accepted (rewritten edition table sheet) result result′ n) (Zeroed result result′ × (n ≡ 0))
 
 unfoldable pub Demand1Through : Type 0
 Demand1Through =
-    (sheet result result′ : List ℕ) (reason fault n : ℕ) → ReturnedThrough sheet result result′ reason fault n
-    → Answers reason fault (TableAfter Accepted (through (editsOf sheet)) result result′ n) (Zeroed result result′ × (n ≡ 0))
+    (edition : ℕ) (sheet result result′ : List ℕ) (reason fault n : ℕ) → ReturnedThrough edition sheet result result′ reason fault n
+    → Answers reason fault (TableAfter Accepted (through (editsOf edition sheet)) result result′ n) (Zeroed result result′ × (n ≡ 0))
 
 unfoldable pub Demand1Classes : Type 0
 Demand1Classes =

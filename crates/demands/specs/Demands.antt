@@ -16,6 +16,7 @@ use Rattle.semantics.specs.Edit as edits
 use Rattle.semantics.specs.Block.{rewriteSheet}
 use Rattle.site.specs.Layout.{siteBytes}
 use Rattle.site.specs.Site.{siteOf}
+use Rattle.editions.specs.Edition.{editionVerdict}
 use Rattle.site.specs.Refusal.{siteVerdict}
 use Rattle.condition.specs.Bytes.{tableOf}
 use Rattle.condition.specs.Refusal.{conditionVerdict}
@@ -29,22 +30,22 @@ use Rattle.desk.specs.Returned.{ReturnedList, ReturnedApply, ReturnedRewrite, R
 -- ---- a call of each entry point: buffers of the stated lengths, a limit up to the highest, and whatever it returns and leaves in them (′). That
 -- each call returns so is the contract of its export, which holds for all inputs
 
-pub record ApplyCall (site sheet : List ℕ) : Type 0 where
+pub record ApplyCall (edition : ℕ) (site sheet : List ℕ) : Type 0 where
   pub result : List ℕ
   pub result′ : List ℕ
   pub reason : ℕ
   pub fault : ℕ
   pub result-size : length result ≡ siteBytes
-  pub returned : ReturnedApply site sheet result result′ reason fault
+  pub returned : ReturnedApply edition site sheet result result′ reason fault
 
-pub record RewriteCall (table sheet : List ℕ) : Type 0 where
+pub record RewriteCall (edition : ℕ) (table sheet : List ℕ) : Type 0 where
   pub result : List ℕ
   pub result′ : List ℕ
   pub reason : ℕ
   pub fault : ℕ
   pub nodes : ℕ
   pub result-size : length result ≡ tableBytes
-  pub returned : ReturnedRewrite table sheet result result′ reason fault nodes
+  pub returned : ReturnedRewrite edition table sheet result result′ reason fault nodes
 
 pub record ListCall (site table : List ℕ) : Type 0 where
   pub limit : ℕ
@@ -71,27 +72,28 @@ pub record ClassCall (site : List ℕ) : Type 0 where
   pub returned : ReturnedClasses site classes classes′ reason fault count
 
 -- the table that rewriting gives: as many nodes as it counts, from the start of the result
-abbrev pub rewrittenTable : {table sheet : List ℕ} → RewriteCall table sheet → List ℕ
+abbrev pub rewrittenTable : {edition : ℕ} {table sheet : List ℕ} → RewriteCall edition table sheet → List ℕ
 rewrittenTable r = take (6 * r .nodes) (r .result′)
 
 -- ---- demand 2
 
--- an accepted site, and an accepted sheet that goes through on it
-pub record Going (site sheet : List ℕ) : Type 0 where
+-- an accepted site, and an accepted sheet of a known edition that goes through on it
+pub record Going (edition : ℕ) (site sheet : List ℕ) : Type 0 where
+  pub edition-accepted : editionVerdict edition ≡ Accepted
   pub site-accepted : siteVerdict site ≡ Accepted
   pub sheet-accepted : sheetVerdict sheet ≡ Accepted
-  pub goes-through : edits.sheetGoes (editsOf sheet) (siteOf site) ≡ true
+  pub goes-through : edits.sheetGoes (editsOf edition sheet) (siteOf site) ≡ true
 
 -- a site and a sheet that goes through on it, and an accepted condition whose rewritten table has at most 2,048 nodes. A table never gets
 -- shorter, so that item 14 is then met after no edit
-pub record Runnable (site table sheet : List ℕ) : Type 0 where
-  pub going : Going site sheet
+pub record Runnable (edition : ℕ) (site table sheet : List ℕ) : Type 0 where
+  pub going : Going edition site sheet
   pub table-accepted : conditionVerdict table ≡ Accepted
-  pub table-fits : length (rewritten table sheet) ≤ tableNodes
+  pub table-fits : length (rewritten edition table sheet) ≤ tableNodes
 
 -- what is to hold of the bytes: the site `changed` that the sheet leaves, the table `newTable` that rewriting through the sheet gives, and the
 -- two lists, of that table on the site today, with t slots, and of the condition on the site after, with a slots
-pub record ListsAgree (site table sheet changed newTable today after : List ℕ) (t a : ℕ) : Type 0 where
+pub record ListsAgree (edition : ℕ) (site table sheet changed newTable today after : List ℕ) (t a : ℕ) : Type 0 where
   -- the two lists are the same 32 bytes, with the same count
   pub same-set : today ≡ after
   pub same-count : t ≡ a
@@ -99,24 +101,24 @@ pub record ListsAgree (site table sheet changed newTable today after : List ℕ)
   pub today-listed : Listed (siteOf site) (formOf (tableOf newTable)) today t
   pub after-listed : Listed (siteOf changed) (formOf (tableOf table)) after a
   -- the rewritten table is the one of the blocks, and the site after has the effects of the whole sheet
-  pub blocks : tableOf newTable ≡ rewritten table sheet
-  pub effects : siteOf changed ≡ edits.sheet (editsOf sheet) (siteOf site)
+  pub blocks : tableOf newTable ≡ rewritten edition table sheet
+  pub effects : siteOf changed ≡ edits.sheet (editsOf edition sheet) (siteOf site)
 
 -- what is to hold of the four calls: the sheet applied to the site, the condition rewritten through it, the rewritten table listed on the
 -- site today, and the condition listed on the site after
-pub record SameLists {site table sheet : List ℕ} (applied : ApplyCall site sheet) (rewrote : RewriteCall table sheet)
+pub record SameLists {edition : ℕ} {site table sheet : List ℕ} (applied : ApplyCall edition site sheet) (rewrote : RewriteCall edition table sheet)
     (today : ListCall site (rewrittenTable rewrote)) (after : ListCall (applied .result′) table) : Type 0 where
   -- no call refuses: listing accepts the rewritten table, and the site after. Their limits need not be the same
   pub applies : applied .reason ≡ 0
   pub rewrites : rewrote .reason ≡ 0
   pub lists-today : today .reason ≡ 0
   pub lists-after : after .reason ≡ 0
-  pub agree : ListsAgree site table sheet (applied .result′) (rewrittenTable rewrote) (today .set′) (after .set′) (today .count) (after .count)
+  pub agree : ListsAgree edition site table sheet (applied .result′) (rewrittenTable rewrote) (today .set′) (after .set′) (today .count) (after .count)
 
 unfoldable pub Demand2 : Type 0
 Demand2 =
-    (site table sheet : List ℕ) → Runnable site table sheet
-    → (applied : ApplyCall site sheet) (rewrote : RewriteCall table sheet)
+    (edition : ℕ) (site table sheet : List ℕ) → Runnable edition site table sheet
+    → (applied : ApplyCall edition site sheet) (rewrote : RewriteCall edition table sheet)
     → (today : ListCall site (rewrittenTable rewrote)) (after : ListCall (applied .result′) table) → today .reason ≢ 15 → after .reason ≢ 15
     → SameLists applied rewrote today after
 
@@ -125,24 +127,24 @@ Demand2 =
 -- some table of any length that has at least one node, meets neither item 8 nor item 9, is closed and has no node of kind 12
 -- (`ClosedTable`), rewritten through the whole sheet, holds on the site before at one of the slots s and t and not at the other.
 -- It is closed, so the valuation ρ does not matter
-pub record Distinguished (site sheet : List ℕ) (ρ : Env) (s t : ℕ) : Type 0 where
+pub record Distinguished (edition : ℕ) (site sheet : List ℕ) (ρ : Env) (s t : ℕ) : Type 0 where
   pub table : List Node
   pub is-closed : ClosedTable table
-  pub tells : Distinguishes (siteOf site) ρ (formOf (rewriteSheet (editsOf sheet) table)) s t
+  pub tells : Distinguishes (siteOf site) ρ (formOf (rewriteSheet (editsOf edition sheet) table)) s t
 
 -- what is to hold of the class numbers after the sheet: two slots have one number exactly if they are not `Distinguished`
-abbrev pub SameNumbers : (site sheet classes : List ℕ) → Type 0
-SameNumbers site sheet classes =
-    (ρ : Env) (s t : ℕ) → s < slots → t < slots → (getD classes s 0 ≡ getD classes t 0) ↔ ¬ Distinguished site sheet ρ s t
+abbrev pub SameNumbers : (edition : ℕ) (site sheet classes : List ℕ) → Type 0
+SameNumbers edition site sheet classes =
+    (ρ : Env) (s t : ℕ) → s < slots → t < slots → (getD classes s 0 ≡ getD classes t 0) ↔ ¬ Distinguished edition site sheet ρ s t
 
 -- what is to hold of the two calls: the sheet applied to the site, and the slots of the site that it leaves numbered
-pub record SameClasses {site sheet : List ℕ} (applied : ApplyCall site sheet) (numbered : ClassCall (applied .result′)) : Type 0 where
+pub record SameClasses {edition : ℕ} {site sheet : List ℕ} (applied : ApplyCall edition site sheet) (numbered : ClassCall (applied .result′)) : Type 0 where
   -- no call refuses
   pub applies : applied .reason ≡ 0
   pub numbers : numbered .reason ≡ 0
-  pub same-numbers : SameNumbers site sheet (numbered .classes′)
+  pub same-numbers : SameNumbers edition site sheet (numbered .classes′)
 
 unfoldable pub Demand3 : Type 0
 Demand3 =
-    (site sheet : List ℕ) → Going site sheet
-    → (applied : ApplyCall site sheet) (numbered : ClassCall (applied .result′)) → SameClasses applied numbered
+    (edition : ℕ) (site sheet : List ℕ) → Going edition site sheet
+    → (applied : ApplyCall edition site sheet) (numbered : ClassCall (applied .result′)) → SameClasses applied numbered

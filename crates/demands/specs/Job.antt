@@ -7,7 +7,7 @@ use Prim.Native.Nat.{ℕ, _*_, _≤_}
 use lib.ListN.{take}
 use Rattle.verdict.specs.declared.Verdict.the-variants.{Accepted}
 use Rattle.limits.specs.Limits.{highestLimit}
-use Rattle.trailer.specs.Refusal.{trailerVerdict}
+use Rattle.trailer.specs.Refusal.{editionIn, trailerVerdict}
 use Rattle.trailer.specs.Pieces.{siteIn, conditionIn, sheetIn}
 use Rattle.listing.specs.Listed.{foundOf}
 use Rattle.job_run.specs.Buffers.{Buffers, Sized}
@@ -36,24 +36,24 @@ pub record JobCall (file : List ℕ) : Type 0 where
 abbrev pub jobTable : {file : List ℕ} → JobCall file → List ℕ
 jobTable c = take (6 * c .nodes) (c .lent′ .table)
 
--- a file that does not meet item 2, and whose pieces meet none of the items 3 to 14
+-- a file that meets neither item 2 nor item 18, and whose pieces meet none of the items 3 to 14
 pub record RunnableFile (file : List ℕ) : Type 0 where
   pub trailer-accepted : trailerVerdict file ≡ Accepted
-  pub pieces : Runnable (siteIn file) (conditionIn file) (sheetIn file)
+  pub pieces : Runnable (editionIn file) (siteIn file) (conditionIn file) (sheetIn file)
 
 -- each of the two lists of a file makes at most `limit` rounds
 pub record RoundsFit (limit : ℕ) (file : List ℕ) : Type 0 where
   pub after : ℕ
   pub today : ℕ
-  pub makes : JobMakes (siteIn file) (conditionIn file) (sheetIn file) after today
+  pub makes : JobMakes (editionIn file) (siteIn file) (conditionIn file) (sheetIn file) after today
   pub after-fits : after ≤ limit
   pub today-fits : today ≤ limit
 
 -- what is to hold of a job that is not refused: demand 2 of its two lists, and demand 3 of its class numbers
 pub record JobAgrees {file : List ℕ} (c : JobCall file) : Type 0 where
-  pub lists : ListsAgree (siteIn file) (conditionIn file) (sheetIn file) (c .lent′ .changed) (jobTable c) (c .lent′ .today) (c .lent′ .after)
+  pub lists : ListsAgree (editionIn file) (siteIn file) (conditionIn file) (sheetIn file) (c .lent′ .changed) (jobTable c) (c .lent′ .today) (c .lent′ .after)
       (c .today) (c .after)
-  pub numbers : SameNumbers (siteIn file) (sheetIn file) (c .lent′ .classes)
+  pub numbers : SameNumbers (editionIn file) (siteIn file) (sheetIn file) (c .lent′ .classes)
 
 -- the reason is 0 exactly where no item is met, 15 included, and the job then agrees
 unfoldable pub DemandJob : Type 0

@@ -11,6 +11,7 @@ use Rattle.limits.specs.Limits.{highestLimit}
 use Rattle.verdict.specs.declared.Verdict.the-variants.{Accepted}
 use Rattle.site.specs.Refusal.{siteVerdict}
 use Rattle.condition.specs.Refusal.{conditionVerdict}
+use Rattle.trailer.specs.Refusal.{editionIn}
 use Rattle.trailer.specs.Pieces.{siteIn, conditionIn, sheetIn}
 use Rattle.listing.specs.declared.Found.{Found}
 use Rattle.listing.specs.Listed.{workBytes}
@@ -49,7 +50,7 @@ DemandLimitList = (site table : List ℕ) → ListLimit site table
 
 -- the lists of a job, on the site after and today, make a and t rounds
 abbrev pub FileMakes : (file : List ℕ) (a t : ℕ) → Type 0
-FileMakes file a t = JobMakes (siteIn file) (conditionIn file) (sheetIn file) a t
+FileMakes file a t = JobMakes (editionIn file) (siteIn file) (conditionIn file) (sheetIn file) a t
 
 -- no other item is met, and one of the lists makes more rounds than the limit, which is that of each list
 pub record JobOver (limit : ℕ) (file : List ℕ) : Type 0 where

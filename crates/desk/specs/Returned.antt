@@ -20,6 +20,7 @@ use Rattle.rewrite_entry.specs.Refusal.{rewriteVerdict, throughVerdict}
 use Rattle.rewriting.specs.Rewriting.{TableAfter, rewritten}
 use Rattle.classes_entry.specs.Refusal.{classesVerdict}
 use Rattle.classes_entry.specs.Classing.{ClassesAfter}
+use Rattle.trailer.specs.Refusal.{editionIn}
 use Rattle.trailer.specs.Pieces.{siteIn, conditionIn, sheetIn}
 use Rattle.job_run.specs.Buffers.{Buffers}
 use Rattle.job_run.specs.Job.{JobMakes, JobAfter}
@@ -40,19 +41,19 @@ pub record ReturnedList (limit : ℕ) (site table set set′ work work′ : List
   pub returned : Returned (listVerdict (length set) (length work) limit site table made) (λ v. ListAfter v site table set set′ work work′ f) reason fault
 
 -- applying, with no count
-abbrev pub ReturnedApply : (site sheet result result′ : List ℕ) (reason fault : ℕ) → Type 0
-ReturnedApply site sheet result result′ reason fault =
-    Returned (applyVerdict (length result) site sheet) (λ v. SiteAfter v site sheet result result′) reason fault
+abbrev pub ReturnedApply : (edition : ℕ) (site sheet result result′ : List ℕ) (reason fault : ℕ) → Type 0
+ReturnedApply edition site sheet result result′ reason fault =
+    Returned (applyVerdict edition (length result) site sheet) (λ v. SiteAfter edition v site sheet result result′) reason fault
 
 -- rewriting, with the node count
-abbrev pub ReturnedRewrite : (table sheet result result′ : List ℕ) (reason fault n : ℕ) → Type 0
-ReturnedRewrite table sheet result result′ reason fault n =
-    Returned (rewriteVerdict (length result) table sheet) (λ v. TableAfter v (rewritten table sheet) result result′ n) reason fault
+abbrev pub ReturnedRewrite : (edition : ℕ) (table sheet result result′ : List ℕ) (reason fault n : ℕ) → Type 0
+ReturnedRewrite edition table sheet result result′ reason fault n =
+    Returned (rewriteVerdict edition (length result) table sheet) (λ v. TableAfter v (rewritten edition table sheet) result result′ n) reason fault
 
 -- the condition for going through, with the node count
-abbrev pub ReturnedThrough : (sheet result result′ : List ℕ) (reason fault n : ℕ) → Type 0
-ReturnedThrough sheet result result′ reason fault n =
-    Returned (throughVerdict (length result) sheet) (λ v. TableAfter v (through (editsOf sheet)) result result′ n) reason fault
+abbrev pub ReturnedThrough : (edition : ℕ) (sheet result result′ : List ℕ) (reason fault n : ℕ) → Type 0
+ReturnedThrough edition sheet result result′ reason fault n =
+    Returned (throughVerdict edition (length result) sheet) (λ v. TableAfter v (through (editsOf edition sheet)) result result′ n) reason fault
 
 -- class numbers, with how many different ones there are
 abbrev pub ReturnedClasses : (site classes classes′ : List ℕ) (reason fault n : ℕ) → Type 0
@@ -70,6 +71,6 @@ ReturnedChain site table way start chain chain′ set set′ work work′ reason
 pub record ReturnedJob (limit : ℕ) (file : List ℕ) (b b′ : Buffers) (reason fault : ℕ) (after today : Found) (nodes classes : ℕ) : Type 0 where
   pub after-made : ℕ
   pub today-made : ℕ
-  pub makes : jobInputs b limit file ≡ Accepted → JobMakes (siteIn file) (conditionIn file) (sheetIn file) after-made today-made
+  pub makes : jobInputs b limit file ≡ Accepted → JobMakes (editionIn file) (siteIn file) (conditionIn file) (sheetIn file) after-made today-made
   pub returned : Returned (jobVerdict b limit file after-made today-made)
-      (λ v. JobAfter v (siteIn file) (conditionIn file) (sheetIn file) b b′ after today nodes classes) reason fault
+      (λ v. JobAfter (editionIn file) v (siteIn file) (conditionIn file) (sheetIn file) b b′ after today nodes classes) reason fault

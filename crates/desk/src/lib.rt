@@ -86,10 +86,15 @@ pub extern "C" fn desk_list(
 }
 
 #[no_mangle]
-pub extern "C" fn desk_apply(site: &[u8], sheet: &[u8], result: &mut [u8]) -> ApplyAnswer
-    ensures { λ r. ⌜ ReturnedApply (now (site .entry)) (now (sheet .entry)) (now (result .entry)) (now (result .exit)) (r .reason) (r .fault) ⌝ }
+pub extern "C" fn desk_apply(
+    site: &[u8],
+    sheet: &[u8],
+    edition: u32,
+    result: &mut [u8],
+) -> ApplyAnswer
+    ensures { λ r. ⌜ ReturnedApply edition (now (site .entry)) (now (sheet .entry)) (now (result .entry)) (now (result .exit)) (r .reason) (r .fault) ⌝ }
 {
-    let v = apply_entry::apply(site, sheet, result);
+    let v = apply_entry::apply(site, sheet, edition, result);
     let reason = verdict::reason(v);
     let fault = verdict::fault(v);
     ApplyAnswer {
@@ -114,17 +119,22 @@ fn table_in_numbers(answer: Rewriting) -> RewriteAnswer
 }
 
 #[no_mangle]
-pub extern "C" fn desk_rewrite(table: &[u8], sheet: &[u8], result: &mut [u8]) -> RewriteAnswer
-    ensures { λ r. ⌜ ReturnedRewrite (now (table .entry)) (now (sheet .entry)) (now (result .entry)) (now (result .exit)) (r .reason) (r .fault) (r .nodes) ⌝ }
+pub extern "C" fn desk_rewrite(
+    table: &[u8],
+    sheet: &[u8],
+    edition: u32,
+    result: &mut [u8],
+) -> RewriteAnswer
+    ensures { λ r. ⌜ ReturnedRewrite edition (now (table .entry)) (now (sheet .entry)) (now (result .entry)) (now (result .exit)) (r .reason) (r .fault) (r .nodes) ⌝ }
 {
-    table_in_numbers(rewrite_entry::rewrite(table, sheet, result))
+    table_in_numbers(rewrite_entry::rewrite(table, sheet, edition, result))
 }
 
 #[no_mangle]
-pub extern "C" fn desk_through(sheet: &[u8], result: &mut [u8]) -> RewriteAnswer
-    ensures { λ r. ⌜ ReturnedThrough (now (sheet .entry)) (now (result .entry)) (now (result .exit)) (r .reason) (r .fault) (r .nodes) ⌝ }
+pub extern "C" fn desk_through(sheet: &[u8], edition: u32, result: &mut [u8]) -> RewriteAnswer
+    ensures { λ r. ⌜ ReturnedThrough edition (now (sheet .entry)) (now (result .entry)) (now (result .exit)) (r .reason) (r .fault) (r .nodes) ⌝ }
 {
-    table_in_numbers(rewrite_entry::through(sheet, result))
+    table_in_numbers(rewrite_entry::through(sheet, edition, result))
 }
 
 #[no_mangle]

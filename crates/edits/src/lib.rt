@@ -1,4 +1,4 @@
-// The nine edits on a site's bytes, in place: those of names, labels and slots, and the choice among all nine.
+// The edits on a site's bytes, in place: those of names, labels and slots, and the choice among all.
 ghost use mathlib.Core.Path.{_≡_};
 ghost use mathlib.Core.Bool.{true, cond};
 ghost use Prim.Native.Nat.{_<_};
@@ -157,5 +157,6 @@ pub fn apply_edit(site: &mut [u8], e: Op)
         Op::Dt2(f, n) => link_edits::delete_target(site, f, n),
         Op::As(n, k) => add_slot(site, n, k),
         Op::Ds(n) => delete_slot(site, n),
+        Op::Rt(f, n1, n2) => link_edits::replace_target(site, f, n1, n2),
     }
 }

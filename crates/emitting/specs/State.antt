@@ -7,7 +7,7 @@ use Prim.Native.Nat.{ℕ, zero, suc, _+_, _*_, _≤_, _<_}
 use lib.ListN.{length, getD}
 use lib.Dec.{ltb}
 use Rattle.semantics.specs.Table.{Node, kindOf, nodeFits}
-use Rattle.semantics.specs.Edit.{Edit, CN1, CN2, AP, DP, AT, DT1, DT2, AS, DS}
+use Rattle.semantics.specs.Edit.{Edit, CN1, CN2, AP, DP, AT, RT, DT1, DT2, AS, DS}
 use Rattle.semantics.specs.Block.{Block, old, block, root, emit}
 use Rattle.condition.specs.Bytes.{nodeAt, bytesOf}
 use Rattle.limits.specs.Limits.{tableNodes, tableBytes, hereNo, labelNo, nameNo, varNo, notNo, orNo, diaNo, muNo, slotNo}
@@ -90,6 +90,7 @@ firstKind (CN2 n1 n2 f) = nameNo
 firstKind (AP n p) = labelNo
 firstKind (DP n p) = labelNo
 firstKind (AT m n1 n2) = diaNo
+firstKind (RT f n1 n2) = diaNo
 firstKind (DT1 m n1 n2) = diaNo
 firstKind (DT2 f n) = diaNo
 firstKind (AS n k) = hereNo
@@ -101,6 +102,7 @@ endKind (CN2 n1 n2 f) = varNo
 endKind (AP n p) = nameNo
 endKind (DP n p) = nameNo
 endKind (AT m n1 n2) = muNo
+endKind (RT f n1 n2) = muNo
 endKind (DT1 m n1 n2) = muNo
 endKind (DT2 f n) = muNo
 endKind (AS n k) = varNo

@@ -91,6 +91,7 @@ fn first_kind(e: Op) -> u8
         Op::Dt2(_, _) => DIA,
         Op::As(_, _) => HERE,
         Op::Ds(_) => HERE,
+        Op::Rt(_, _, _) => DIA,
     }
 }
 
@@ -107,6 +108,7 @@ fn end_kind(e: Op) -> u8
         Op::Dt2(_, _) => MU,
         Op::As(_, _) => VAR,
         Op::Ds(_) => MU,
+        Op::Rt(_, _, _) => MU,
     }
 }
 

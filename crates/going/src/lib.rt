@@ -5,23 +5,27 @@ ghost use Prim.Native.Nat.{_<_};
 ghost use lib.ListN.{length};
 ghost use Rattle.bitset.specs.Set.{setSlots};
 ghost use Rattle.limits.specs.Limits.{links};
-ghost use Rattle.semantics.specs.Edit.{AT, AS, DS, legal, goes};
+ghost use Rattle.semantics.specs.Edit.{AT, AS, DS, RT, legal, goes};
 ghost use Rattle.site.specs.Layout.{siteBytes};
 ghost use Rattle.site.specs.Site.{siteOf};
 ghost use Rattle.sheet.specs.Bytes.{editOf};
-ghost use Rattle.going.specs.Joins.{joins};
+ghost use Rattle.going.specs.Joins.{neitherNil, joins};
 use sheet::Op;
 use site::GENERAL_LINKS;
+
+// Is neither end of a link nil?
+fn neither_nil(s: usize, t: usize) -> bool
+    ensures { λ r. ⌜ r ≡ neitherNil s t ⌝ }
+{
+    (s != 0) & (t != 0)
+}
 
 // Can link m be added from slot s to slot t?
 fn can_join(site: &[u8], m: usize, s: usize, t: usize) -> bool
     requires { ⌜ (length (now site) ≡ siteBytes) × ((m < links) × ((s < setSlots) × (t < setSlots))) ⌝ }
     ensures { λ r. ⌜ r ≡ joins (siteOf (now (site .entry))) m s t ⌝ }
 {
-    if s == 0 {
-        return false;
-    }
-    if t == 0 {
+    if !neither_nil(s, t) {
         return false;
     }
     if m < GENERAL_LINKS {
@@ -57,6 +61,16 @@ fn is_on_site(site: &[u8], n: u8) -> bool
     site::place(site, n as usize) != 0
 }
 
+// RT goes through.
+fn both_on_site(site: &[u8], f: u8, n1: u8, n2: u8) -> bool
+    requires { ⌜ (length (now site) ≡ siteBytes) × (legal (RT f n1 n2) ≡ true) ⌝ }
+    ensures { λ r. ⌜ r ≡ goes (RT f n1 n2) (siteOf (now (site .entry))) ⌝ }
+{
+    let s = site::place(site, n1 as usize);
+    let t = site::place(site, n2 as usize);
+    neither_nil(s, t)
+}
+
 // The edit goes through on the site.
 pub fn goes_through(site: &[u8], e: Op) -> bool
     requires { ⌜ (length (now site) ≡ siteBytes) × (legal (editOf e) ≡ true) ⌝ }
@@ -72,5 +86,6 @@ pub fn goes_through(site: &[u8], e: Op) -> bool
         Op::Dt2(_, _) => true,
         Op::As(n, k) => slot_is_absent(site, n, k),
         Op::Ds(n) => is_on_site(site, n),
+        Op::Rt(f, n1, n2) => both_on_site(site, f, n1, n2),
     }
 }

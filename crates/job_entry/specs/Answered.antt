@@ -5,6 +5,7 @@ use mathlib.Core.List.{List}
 use Prim.Native.Nat.{ℕ}
 use Rattle.verdict.specs.declared.Verdict.{Verdict}
 use Rattle.verdict.specs.declared.Verdict.the-variants.{Accepted}
+use Rattle.trailer.specs.Refusal.{editionIn}
 use Rattle.trailer.specs.Pieces.{siteIn, conditionIn, sheetIn}
 use Rattle.listing.specs.declared.Found.{Found}
 use Rattle.job_run.specs.Buffers.{Buffers}
@@ -16,6 +17,6 @@ use Rattle.job_entry.specs.Refusal.{jobInputs, jobVerdict}
 pub record JobAnswered (limit : ℕ) (file : List ℕ) (b b′ : Buffers) (v : Verdict) (a t : Found) (n c : ℕ) : Type 0 where
   pub after-made : ℕ
   pub today-made : ℕ
-  pub makes : jobInputs b limit file ≡ Accepted → JobMakes (siteIn file) (conditionIn file) (sheetIn file) after-made today-made
+  pub makes : jobInputs b limit file ≡ Accepted → JobMakes (editionIn file) (siteIn file) (conditionIn file) (sheetIn file) after-made today-made
   pub verdict : v ≡ jobVerdict b limit file after-made today-made
-  pub left : JobAfter v (siteIn file) (conditionIn file) (sheetIn file) b b′ a t n c
+  pub left : JobAfter (editionIn file) v (siteIn file) (conditionIn file) (sheetIn file) b b′ a t n c

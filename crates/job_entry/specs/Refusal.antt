@@ -7,7 +7,7 @@ use Rattle.verdict.specs.Verdict.{_then_}
 use Rattle.verdict.specs.declared.Verdict.{Verdict}
 use Rattle.site.specs.Layout.{siteBytes}
 use Rattle.limits.specs.Limits.{tableBytes}
-use Rattle.trailer.specs.Refusal.{trailerVerdict}
+use Rattle.trailer.specs.Refusal.{editionIn, trailerVerdict}
 use Rattle.trailer.specs.Pieces.{siteIn, conditionIn, sheetIn}
 use Rattle.listing.specs.Listed.{workBytes}
 use Rattle.refusals.specs.Refusal.{bufferVerdict, limitVerdict}
@@ -25,13 +25,13 @@ buffersVerdict b =
     then bufferVerdict (length (b .classes)) classesBytes
     then bufferVerdict (length (b .work)) workBytes
 
--- the job, all items but 15: 1, then 16, then 2 of the file, then 3 to 14 of its pieces
+-- the job, all items but 15: 1, then 16, then 2 and 18 of the file, then 3 to 14 of its pieces
 unfoldable pub jobInputs : Buffers → (limit : ℕ) (file : List ℕ) → Verdict
 jobInputs b limit file =
     buffersVerdict b
     then limitVerdict limit
     then trailerVerdict file
-    then piecesVerdict (siteIn file) (conditionIn file) (sheetIn file)
+    then piecesVerdict (editionIn file) (siteIn file) (conditionIn file) (sheetIn file)
 
 -- the job, where its lists make a rounds on the site after and t today: 15 of each, under the whole limit, comes last
 unfoldable pub jobVerdict : Buffers → (limit : ℕ) (file : List ℕ) (a t : ℕ) → Verdict

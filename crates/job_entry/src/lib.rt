@@ -1,4 +1,4 @@
-// The job of a file, for every input: items 1, 16 and 2 are tested, then the pieces are taken from the file and run.
+// The job of a file, for every input: items 1, 16, 2 and 18 are tested, then the pieces are taken from the file and run.
 use bitset::SET_BYTES;
 use bitset::SET_SLOTS;
 use job_run::Job;
@@ -10,7 +10,7 @@ use trailer::Cuts;
 use verdict::Verdict;
 ghost use mathlib.Core.Path.{_≡_};
 ghost use Rattle.verdict.specs.Verdict.{_then_};
-ghost use Rattle.trailer.specs.Refusal.{metVerdict};
+ghost use Rattle.trailer.specs.Refusal.{fileVerdict};
 ghost use Rattle.refusals.specs.Refusal.{limitVerdict};
 ghost use Rattle.job_run.specs.Buffers.{buffersOf};
 ghost use Rattle.job_run.specs.Answer.{verdictOf, afterOf, todayOf, nodesOf, classesOf};
@@ -36,9 +36,9 @@ fn sizes_fit(
         & (work.len() == WORK_BYTES)
 }
 
-// Item 1, then item 16, then item 2.
+// Item 1, then item 16, then items 2 and 18.
 fn judge(fits: bool, limit: u32, cuts: Cuts) -> Verdict
-    ensures { λ r. ⌜ r ≡ sizesVerdict fits then limitVerdict limit then metVerdict (cuts .met) ⌝ }
+    ensures { λ r. ⌜ r ≡ sizesVerdict fits then limitVerdict limit then fileVerdict (cuts .met) (cuts .edition) ⌝ }
 {
     if !fits {
         return Verdict::Refused(1, 0);
@@ -74,6 +74,7 @@ pub fn run(
         site,
         cond,
         sheet,
+        cuts.edition,
         changed,
         table,
         after,

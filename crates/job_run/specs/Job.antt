@@ -21,16 +21,16 @@ use Rattle.job_run.specs.Buffers.{Buffers}
 
 -- listing the condition on the site after the sheet makes a rounds, and listing the rewritten table on the site today makes t, under every
 -- valuation
-pub record JobMakes (site cond sheet : List ℕ) (a t : ℕ) : Type 0 where
-  pub after : (ρ : Env) → Makes (edits.sheet (editsOf sheet) (siteOf site)) ρ (formOf (tableOf cond)) a
-  pub today : (ρ : Env) → Makes (siteOf site) ρ (formOf (rewritten cond sheet)) t
+pub record JobMakes (edition : ℕ) (site cond sheet : List ℕ) (a t : ℕ) : Type 0 where
+  pub after : (ρ : Env) → Makes (edits.sheet (editsOf edition sheet) (siteOf site)) ρ (formOf (tableOf cond)) a
+  pub today : (ρ : Env) → Makes (siteOf site) ρ (formOf (rewritten edition cond sheet)) t
 
 -- what is left after a verdict, from the pieces: the site after the sheet, the rewritten table with its n nodes, the slots that the
 -- condition lists on the site after, with the count and the rounds of a, the slots that the rewritten table lists on the site today, with
 -- those of t, the class numbers of the site after, c of them different; each is zeros where the job is refused
-pub record JobAfter (v : Verdict) (site cond sheet : List ℕ) (b b′ : Buffers) (a t : Found) (n c : ℕ) : Type 0 where
-  pub site-after : SiteAfter v site sheet (b .changed) (b′ .changed)
-  pub table-after : TableAfter v (rewritten cond sheet) (b .table) (b′ .table) n
+pub record JobAfter (edition : ℕ) (v : Verdict) (site cond sheet : List ℕ) (b b′ : Buffers) (a t : Found) (n c : ℕ) : Type 0 where
+  pub site-after : SiteAfter edition v site sheet (b .changed) (b′ .changed)
+  pub table-after : TableAfter v (rewritten edition cond sheet) (b .table) (b′ .table) n
   pub list-after : SetAfter v (b′ .changed) cond (b .after) (b′ .after) a
   pub list-today : SetAfter v site (take (6 * n) (b′ .table)) (b .today) (b′ .today) t
   pub classes-after : ClassesAfter v (b′ .changed) (b .classes) (b′ .classes) c

@@ -15,13 +15,13 @@ use Rattle.rewriting.specs.Refusal.{lengthVerdict}
 use Rattle.refusals.specs.Refusal.{roundsVerdict}
 
 -- 3 to 6 of the site, 7 to 10 of the condition, 11 and 12 of the sheet, then 13, then 14
-unfoldable pub piecesVerdict : (site cond sheet : List ℕ) → Verdict
-piecesVerdict site cond sheet =
+unfoldable pub piecesVerdict : (edition : ℕ) (site cond sheet : List ℕ) → Verdict
+piecesVerdict edition site cond sheet =
     siteVerdict site
     then conditionVerdict cond
     then sheetVerdict sheet
-    then goesVerdict (editsOf sheet) (siteOf site)
-    then lengthVerdict rewriteTable (editsOf sheet) (tableOf cond)
+    then goesVerdict (editsOf edition sheet) (siteOf site)
+    then lengthVerdict rewriteTable (editsOf edition sheet) (tableOf cond)
 
 -- then 15, where the lists make a rounds on the site after and t today: each has the whole limit
 abbrev pub listsVerdict : (limit a t : ℕ) → Verdict

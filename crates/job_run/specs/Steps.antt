@@ -55,15 +55,15 @@ pub record Listable (site cond free changed table : List ℕ) (n : ℕ) : Type 0
   pub part-accepted : conditionVerdict (take (6 * n) table) ≡ Accepted
 
 -- the sheet has gone through and the rewritten table has n nodes; both can be listed
-pub record Made (site cond sheet free′ changed changed′ table table′ : List ℕ) (n : ℕ) : Type 0 where
-  pub site-after : SiteAfter Accepted site sheet changed changed′
-  pub table-after : TableAfter Accepted (rewritten cond sheet) table table′ n
+pub record Made (edition : ℕ) (site cond sheet free′ changed changed′ table table′ : List ℕ) (n : ℕ) : Type 0 where
+  pub site-after : SiteAfter edition Accepted site sheet changed changed′
+  pub table-after : TableAfter Accepted (rewritten edition cond sheet) table table′ n
   pub listable : Listable site cond free′ changed′ table′ n
 
 -- after the verdict `first` the pieces are judged, applied and rewritten with the answer r
-pub record Prepared (first : Verdict) (site cond sheet free′ changed changed′ table table′ : List ℕ) (r : Rewriting) : Type 0 where
-  pub verdict : rewriting.verdictOf r ≡ first then piecesVerdict site cond sheet
-  pub made : (n : ℕ) → r ≡ Rewritten n → Made site cond sheet free′ changed changed′ table table′ n
+pub record Prepared (edition : ℕ) (first : Verdict) (site cond sheet free′ changed changed′ table table′ : List ℕ) (r : Rewriting) : Type 0 where
+  pub verdict : rewriting.verdictOf r ≡ first then piecesVerdict edition site cond sheet
+  pub made : (n : ℕ) → r ≡ Rewritten n → Made edition site cond sheet free′ changed changed′ table table′ n
 
 -- the condition is listed on the changed site, and the first n nodes of the table on the site, with the counts and the rounds of r
 pub record BothListed (site cond changed table : List ℕ) (n : ℕ) (after′ today′ work′ : List ℕ) (r : Job) : Type 0 where
@@ -84,24 +84,24 @@ pub record BothTried (limit : ℕ) (site cond changed table : List ℕ) (n : ℕ
   pub both : verdictOf r ≡ Accepted → BothListed site cond changed table n after′ today′ work′ r
 
 -- the site and the table are changed, and both lists are there
-pub record Lists (site cond sheet changed changed′ table table′ after′ today′ work′ : List ℕ) (r : Job) : Type 0 where
-  pub site-after : SiteAfter Accepted site sheet changed changed′
-  pub table-after : TableAfter Accepted (rewritten cond sheet) table table′ (nodesOf r)
+pub record Lists (edition : ℕ) (site cond sheet changed changed′ table table′ after′ today′ work′ : List ℕ) (r : Job) : Type 0 where
+  pub site-after : SiteAfter edition Accepted site sheet changed changed′
+  pub table-after : TableAfter Accepted (rewritten edition cond sheet) table table′ (nodesOf r)
   pub both : BothListed site cond changed′ table′ (nodesOf r) after′ today′ work′ r
 
 -- the verdict of a job on these pieces, after the verdict `first` on all that is tested before them, is v, where its lists make so many rounds
-pub record Judged (first : Verdict) (limit : ℕ) (site cond sheet : List ℕ) (v : Verdict) : Type 0 where
+pub record Judged (edition : ℕ) (first : Verdict) (limit : ℕ) (site cond sheet : List ℕ) (v : Verdict) : Type 0 where
   pub after-made : ℕ
   pub today-made : ℕ
-  pub makes : first then piecesVerdict site cond sheet ≡ Accepted → JobMakes site cond sheet after-made today-made
-  pub verdict : v ≡ (first then piecesVerdict site cond sheet) then listsVerdict limit after-made today-made
+  pub makes : first then piecesVerdict edition site cond sheet ≡ Accepted → JobMakes edition site cond sheet after-made today-made
+  pub verdict : v ≡ (first then piecesVerdict edition site cond sheet) then listsVerdict limit after-made today-made
 
 -- all but the class numbers is done, with the answer r
-pub record Tried (first : Verdict) (limit : ℕ) (site cond sheet changed changed′ table table′ after′ today′ work′ : List ℕ) (r : Job) : Type 0 where
-  pub judged : Judged first limit site cond sheet (verdictOf r)
-  pub lists : verdictOf r ≡ Accepted → Lists site cond sheet changed changed′ table table′ after′ today′ work′ r
+pub record Tried (edition : ℕ) (first : Verdict) (limit : ℕ) (site cond sheet changed changed′ table table′ after′ today′ work′ : List ℕ) (r : Job) : Type 0 where
+  pub judged : Judged edition first limit site cond sheet (verdictOf r)
+  pub lists : verdictOf r ≡ Accepted → Lists edition site cond sheet changed changed′ table table′ after′ today′ work′ r
 
 -- the job answers r
-pub record Ran (first : Verdict) (limit : ℕ) (site cond sheet : List ℕ) (b b′ : Buffers) (r : Job) : Type 0 where
-  pub judged : Judged first limit site cond sheet (verdictOf r)
-  pub left : JobAfter (verdictOf r) site cond sheet b b′ (afterOf r) (todayOf r) (nodesOf r) (classesOf r)
+pub record Ran (edition : ℕ) (first : Verdict) (limit : ℕ) (site cond sheet : List ℕ) (b b′ : Buffers) (r : Job) : Type 0 where
+  pub judged : Judged edition first limit site cond sheet (verdictOf r)
+  pub left : JobAfter edition (verdictOf r) site cond sheet b b′ (afterOf r) (todayOf r) (nodesOf r) (classesOf r)

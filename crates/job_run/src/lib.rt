@@ -1,4 +1,4 @@
-// A job on the pieces `site`, `cond` and `sheet` of its file. The caller's buffers are `changed` for the site after, `table` for the
+// A job on the pieces `site`, `cond` and `sheet` of its file, with the edition of the sheet. The caller's buffers are `changed` for the site after, `table` for the
 // rewritten table, `after` and `today` for the lists on the site after and on the site, `classes` for the class numbers, and `work`.
 use listing::Found;
 use rewriting::Rewriting;
@@ -71,17 +71,18 @@ fn prepare(
     site: &[u8],
     cond: &[u8],
     sheet: &[u8],
+    edition: u32,
     free: &mut [u16],
     changed: &mut [u8],
     table: &mut [u8],
 ) -> Rewriting
     requires { ⌜ now free ≡ noMasks ⌝ }
     requires { ⌜ (first ≡ Accepted → (length (now changed) ≡ siteBytes) × (length (now table) ≡ tableBytes)) ⌝ }
-    ensures { λ r. ⌜ Prepared first (now (site .entry)) (now (cond .entry)) (now (sheet .entry)) (now (free .exit)) (now (changed .entry)) (now (changed .exit)) (now (table .entry)) (now (table .exit)) r ⌝ }
+    ensures { λ r. ⌜ Prepared edition first (now (site .entry)) (now (cond .entry)) (now (sheet .entry)) (now (free .exit)) (now (changed .entry)) (now (changed .exit)) (now (table .entry)) (now (table .exit)) r ⌝ }
 {
     let v = judge(first, site, cond, sheet, free);
     match v {
-        Verdict::Accepted => job_steps::change(site, cond, sheet, changed, table),
+        Verdict::Accepted => job_steps::change(site, cond, sheet, edition, changed, table),
         Verdict::Refused(item, fault) => Rewriting::Refused(item, fault),
     }
 }
@@ -122,6 +123,7 @@ fn list_pieces(
     site: &[u8],
     cond: &[u8],
     sheet: &[u8],
+    edition: u32,
     changed: &mut [u8],
     table: &mut [u8],
     after: &mut [u8],
@@ -129,10 +131,10 @@ fn list_pieces(
     work: &mut [u8],
 ) -> Job
     requires { ⌜ (first ≡ Accepted → ((length (now changed) ≡ siteBytes) × (length (now table) ≡ tableBytes)) × Sets limit (now after) (now today) (now work)) ⌝ }
-    ensures { λ r. ⌜ Tried first limit (now (site .entry)) (now (cond .entry)) (now (sheet .entry)) (now (changed .entry)) (now (changed .exit)) (now (table .entry)) (now (table .exit)) (now (after .exit)) (now (today .exit)) (now (work .exit)) r ⌝ }
+    ensures { λ r. ⌜ Tried edition first limit (now (site .entry)) (now (cond .entry)) (now (sheet .entry)) (now (changed .entry)) (now (changed .exit)) (now (table .entry)) (now (table .exit)) (now (after .exit)) (now (today .exit)) (now (work .exit)) r ⌝ }
 {
     let mut free = even_rule::no_masks();
-    let r = prepare(first, site, cond, sheet, &mut free, changed, table);
+    let r = prepare(first, site, cond, sheet, edition, &mut free, changed, table);
     match r {
         Rewriting::Rewritten(n) => list_both(
             site,
@@ -158,6 +160,7 @@ pub fn run(
     site: &[u8],
     cond: &[u8],
     sheet: &[u8],
+    edition: u32,
     changed: &mut [u8],
     table: &mut [u8],
     after: &mut [u8],
@@ -166,7 +169,7 @@ pub fn run(
     work: &mut [u8],
 ) -> Job
     requires { ⌜ (first ≡ Accepted → (limit ≤ highestLimit) × Sized (buffersOf (now changed) (now table) (now after) (now today) (now classes) (now work))) ⌝ }
-    ensures { λ r. ⌜ Ran first limit (now (site .entry)) (now (cond .entry)) (now (sheet .entry)) (buffersOf (now (changed .entry)) (now (table .entry)) (now (after .entry)) (now (today .entry)) (now (classes .entry)) (now (work .entry))) (buffersOf (now (changed .exit)) (now (table .exit)) (now (after .exit)) (now (today .exit)) (now (classes .exit)) (now (work .exit))) r ⌝ }
+    ensures { λ r. ⌜ Ran edition first limit (now (site .entry)) (now (cond .entry)) (now (sheet .entry)) (buffersOf (now (changed .entry)) (now (table .entry)) (now (after .entry)) (now (today .entry)) (now (classes .entry)) (now (work .entry))) (buffersOf (now (changed .exit)) (now (table .exit)) (now (after .exit)) (now (today .exit)) (now (classes .exit)) (now (work .exit))) r ⌝ }
 {
     let r = list_pieces(
         first,
@@ -174,6 +177,7 @@ pub fn run(
         site,
         cond,
         sheet,
+        edition,
         changed,
         table,
         after,

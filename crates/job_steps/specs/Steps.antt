@@ -18,11 +18,11 @@ use Rattle.rewriting.specs.Rewriting.{TableAfter, rewritten}
 use Rattle.apply_entry.specs.Applying.{SiteAfter}
 
 -- items 13 and 14, in this order
-unfoldable pub changeVerdict : (site cond sheet : List ℕ) → Verdict
-changeVerdict site cond sheet = goesVerdict (editsOf sheet) (siteOf site) then lengthVerdict rewriteTable (editsOf sheet) (tableOf cond)
+unfoldable pub changeVerdict : (edition : ℕ) (site cond sheet : List ℕ) → Verdict
+changeVerdict edition site cond sheet = goesVerdict (editsOf edition sheet) (siteOf site) then lengthVerdict rewriteTable (editsOf edition sheet) (tableOf cond)
 
 -- applying and rewriting answer r
-pub record Changed (site cond sheet changed changed′ table table′ : List ℕ) (r : Rewriting) : Type 0 where
-  pub verdict : verdictOf r ≡ changeVerdict site cond sheet
-  pub site-after : (n : ℕ) → r ≡ Rewritten n → SiteAfter Accepted site sheet changed changed′
-  pub table-after : (n : ℕ) → r ≡ Rewritten n → TableAfter Accepted (rewritten cond sheet) table table′ n
+pub record Changed (edition : ℕ) (site cond sheet changed changed′ table table′ : List ℕ) (r : Rewriting) : Type 0 where
+  pub verdict : verdictOf r ≡ changeVerdict edition site cond sheet
+  pub site-after : (n : ℕ) → r ≡ Rewritten n → SiteAfter edition Accepted site sheet changed changed′
+  pub table-after : (n : ℕ) → r ≡ Rewritten n → TableAfter Accepted (rewritten edition cond sheet) table table′ n

@@ -52,16 +52,17 @@ pub fn change(
     site: &[u8],
     cond: &[u8],
     sheet: &[u8],
+    edition: u32,
     changed: &mut [u8],
     table: &mut [u8],
 ) -> Rewriting
     requires { ⌜ (siteVerdict (now site) ≡ Accepted) × ((conditionVerdict (now cond) ≡ Accepted) × (sheetVerdict (now sheet) ≡ Accepted)) ⌝ }
     requires { ⌜ (length (now changed) ≡ siteBytes) × (length (now table) ≡ tableBytes) ⌝ }
-    ensures { λ r. ⌜ Changed (now (site .entry)) (now (cond .entry)) (now (sheet .entry)) (now (changed .entry)) (now (changed .exit)) (now (table .entry)) (now (table .exit)) r ⌝ }
+    ensures { λ r. ⌜ Changed edition (now (site .entry)) (now (cond .entry)) (now (sheet .entry)) (now (changed .entry)) (now (changed .exit)) (now (table .entry)) (now (table .exit)) r ⌝ }
 {
-    let v = applying::apply(site, sheet, changed);
+    let v = applying::apply(site, sheet, edition, changed);
     match v {
-        Verdict::Accepted => rewriting::rewrite_sheet(cond, sheet, table),
+        Verdict::Accepted => rewriting::rewrite_sheet(cond, sheet, edition, table),
         Verdict::Refused(item, fault) => Rewriting::Refused(item, fault),
     }
 }

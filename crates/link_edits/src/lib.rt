@@ -5,7 +5,7 @@ ghost use Prim.Native.Nat.{_≤_, _<_};
 ghost use lib.ListN.{length, set};
 ghost use Rattle.bitset.specs.Set.{setSlots};
 ghost use Rattle.limits.specs.Limits.{links, generalLinks};
-ghost use Rattle.semantics.specs.Edit.{AT, DT1, DT2, edit, legal, goes};
+ghost use Rattle.semantics.specs.Edit.{AT, DT1, DT2, RT, edit, legal, goes};
 ghost use Rattle.site.specs.Layout.{siteBytes, targetAt};
 ghost use Rattle.site.specs.Site.{siteOf};
 ghost use Rattle.going.specs.Joins.{joins};
@@ -138,4 +138,14 @@ pub fn delete_target(site: &mut [u8], f: u8, n: u8)
 {
     let s = site::place(site, n as usize);
     put_target(site, f as usize, s, 0);
+}
+
+// RT, where it goes through: the functional link f leads from name n1 to name n2, wherever it led before.
+pub fn replace_target(site: &mut [u8], f: u8, n1: u8, n2: u8)
+    requires { ⌜ (length (now site) ≡ siteBytes) × ((legal (RT f n1 n2) ≡ true) × (goes (RT f n1 n2) (siteOf (now site)) ≡ true)) ⌝ }
+    ensures { λ _. ⌜ siteOf (now (site .exit)) ≡ edit (RT f n1 n2) (siteOf (now (site .entry))) ⌝ }
+{
+    let s = site::place(site, n1 as usize);
+    let t = site::place(site, n2 as usize);
+    put_target(site, f as usize, s, t);
 }

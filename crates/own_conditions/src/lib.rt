@@ -106,6 +106,7 @@ fn own_size(e: Op) -> usize
         Op::Dt2(_, _) => 0,
         Op::As(_, _) => 5,
         Op::Ds(_) => 5,
+        Op::Rt(_, _, _) => 11,
     }
 }
 
@@ -124,6 +125,7 @@ fn put_own(out: &mut [u8], at: usize, e: Op)
         Op::Dt2(_, _) => {}
         Op::As(_, k) => put_nowhere(out, at, HERE, 0, SLOT, k),
         Op::Ds(n) => put_nowhere(out, at, NAME, n, NAME, 0),
+        Op::Rt(_, n1, n2) => put_neither_nil(out, at, n1, n2),
     }
 }
 

@@ -1,4 +1,4 @@
-// For the test programs: pieces of jobs, read on standard input; bytes and refusals, shown. A piece is written as its kind, its length, how
+// For the test programs: pieces of jobs, read on standard input; bytes, checksums and refusals, shown. A piece is written as its kind, its length, how
 // many of its bytes are not 0, and each of these behind its offset (tests/pieces.py).
 use buffer::wide;
 use libc::STDIN_FILENO;
@@ -98,6 +98,25 @@ pub fn say_left(bytes: &[u8], text: &[u8]) {
     say(!all_zero(bytes), text);
 }
 
+// A number below 4,294,967,291, a prime.
+fn mixed(h: u64, x: u8) -> u64
+    requires { ⌜ h < 4294967291 ⌝ }
+    ensures { λ r. ⌜ r < 4294967291 ⌝ }
+{
+    (257 * h + x as u64 + 1) % 4294967291
+}
+
+// Stands for bytes that are too many to be shown.
+pub fn checksum(bytes: &[u8]) -> u64 {
+    let mut h = 0;
+    let mut k = 0;
+    while k < bytes.len() {
+        h = mixed(h, bytes[k]);
+        k += 1;
+    }
+    h
+}
+
 // The item that is met and its W, as `refused N W`.
 pub fn print_refusal(item: u8, w: u16) {
     io::write_all(STDOUT_FILENO, b"refused ");
@@ -118,7 +137,7 @@ fn quad(b0: u8, b1: u8, b2: u8, b3: u8) -> u32 {
     b0 as u32 + 256 * (b1 as u32) + 65536 * (b2 as u32) + 16777216 * (b3 as u32)
 }
 
-// A number of four bytes: a limit on rounds, a way or a start.
+// A number of four bytes: a limit on rounds, an edition, a way or a start.
 pub fn read_number() -> u32 {
     let mut bytes = [0u8; 4];
     io::read_full(STDIN_FILENO, &mut bytes);

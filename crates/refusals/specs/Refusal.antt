@@ -9,7 +9,7 @@ use Rattle.verdict.specs.declared.Verdict.the-variants.{Accepted, Refused}
 
 -- the items have the numbers 1 to this one
 abbrev pub lastItem : ℕ
-lastItem = 17
+lastItem = 18
 
 -- item 1: a result or work buffer has another length than stated
 unfoldable pub bufferVerdict : (len stated : ℕ) → Verdict

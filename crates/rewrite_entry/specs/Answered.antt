@@ -16,8 +16,10 @@ pub record TableAnswered (due : Verdict) (xs : List Node) (result result′ : Li
   pub verdict : v ≡ due
   pub left : TableAfter v xs result result′ n
 
-abbrev pub RewriteAnswered : (table sheet result result′ : List ℕ) (v : Verdict) (n : ℕ) → Type 0
-RewriteAnswered table sheet result result′ v n = TableAnswered (rewriteVerdict (length result) table sheet) (rewritten table sheet) result result′ v n
+abbrev pub RewriteAnswered : (edition : ℕ) (table sheet result result′ : List ℕ) (v : Verdict) (n : ℕ) → Type 0
+RewriteAnswered edition table sheet result result′ v n =
+    TableAnswered (rewriteVerdict edition (length result) table sheet) (rewritten edition table sheet) result result′ v n
 
-abbrev pub ThroughAnswered : (sheet result result′ : List ℕ) (v : Verdict) (n : ℕ) → Type 0
-ThroughAnswered sheet result result′ v n = TableAnswered (throughVerdict (length result) sheet) (through (editsOf sheet)) result result′ v n
+abbrev pub ThroughAnswered : (edition : ℕ) (sheet result result′ : List ℕ) (v : Verdict) (n : ℕ) → Type 0
+ThroughAnswered edition sheet result result′ v n =
+    TableAnswered (throughVerdict edition (length result) sheet) (through (editsOf edition sheet)) result result′ v n

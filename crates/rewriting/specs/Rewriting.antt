@@ -12,8 +12,8 @@ use Rattle.sheet.specs.Bytes.{editsOf}
 use Rattle.limits.specs.Limits.{tableBytes}
 
 -- the rewritten table
-abbrev pub rewritten : (table sheet : List ℕ) → List Node
-rewritten table sheet = rewriteSheet (editsOf sheet) (tableOf table)
+abbrev pub rewritten : (edition : ℕ) (table sheet : List ℕ) → List Node
+rewritten edition table sheet = rewriteSheet (editsOf edition sheet) (tableOf table)
 
 -- the result and the node count after a verdict: the bytes of the table xs, the one to be made, and then zeros; zeros where an input is refused
 unfoldable pub TableAfter : Verdict → (xs : List Node) (result result′ : List ℕ) (n : ℕ) → Type 0

@@ -58,6 +58,7 @@ fn pass(
 // over 2,048, it was so after some edit.
 fn passes(
     sheet: &[u8],
+    edition: u32,
     n: usize,
     own: bool,
     table: &mut [u8; TABLE_BYTES],
@@ -67,8 +68,8 @@ fn passes(
 ) -> usize
     requires { ⌜ (n ≤ tableNodes) × (0 < n) × (length (now table) ≡ tableBytes) × (length (now spare) ≡ tableBytes) × (length (now images) ≡ tableNodes) × (length (now rows) ≡ tableNodes) ⌝ }
     requires { ⌜ Bytes (now table) × (nodesFit 0 (nodes (now table) n) ≡ true) ⌝ }
-    requires { ⌜ sheetLegal (editsOf (now sheet)) ≡ true ⌝ }
-    ensures { λ r. ⌜ Passed (passOf own) (editsOf (now (sheet .entry))) (nodes (now (table .entry)) n) (now (table .exit)) r × (length (now (table .exit)) ≡ tableBytes) ⌝ }
+    requires { ⌜ sheetLegal (editsOf edition (now sheet)) ≡ true ⌝ }
+    ensures { λ r. ⌜ Passed (passOf own) (editsOf edition (now (sheet .entry))) (nodes (now (table .entry)) n) (now (table .exit)) r × (length (now (table .exit)) ≡ tableBytes) ⌝ }
 {
     let edits = sheet.len() / 4;
     let mut done = 0;
@@ -76,7 +77,7 @@ fn passes(
     while done < edits {
         let next = done + 1;
         let last = edits - next;
-        let e = sheet::edit_at(sheet, last);
+        let e = sheet::edit_at(sheet, edition, last);
         let made = pass(table, count, e, own, images, rows, spare);
         if TABLE_NODES < made {
             return made;
@@ -127,10 +128,10 @@ fn no_rows() -> [u8; TABLE_NODES]
 }
 
 // The passes of a sheet over a table, and the answer.
-fn rewrite_from(table: &[u8], sheet: &[u8], own: bool, result: &mut [u8]) -> Rewriting
+fn rewrite_from(table: &[u8], sheet: &[u8], edition: u32, own: bool, result: &mut [u8]) -> Rewriting
     requires { ⌜ (6 ≤ length (now table)) × (length (now table) ≤ tableBytes) × (length (now result) ≡ tableBytes) ⌝ }
-    requires { ⌜ (nodesFit 0 (tableOf (now table)) ≡ true) × (sheetLegal (editsOf (now sheet)) ≡ true) ⌝ }
-    ensures { λ r. ⌜ Rewrote (passOf own) (editsOf (now (sheet .entry))) (tableOf (now (table .entry))) (now (result .entry)) (now (result .exit)) (verdictOf r) (nodesOf r) ⌝ }
+    requires { ⌜ (nodesFit 0 (tableOf (now table)) ≡ true) × (sheetLegal (editsOf edition (now sheet)) ≡ true) ⌝ }
+    ensures { λ r. ⌜ Rewrote (passOf own) (editsOf edition (now (sheet .entry))) (tableOf (now (table .entry))) (now (result .entry)) (now (result .exit)) (verdictOf r) (nodesOf r) ⌝ }
 {
     let mut work = no_table();
     let mut spare = no_table();
@@ -138,17 +139,26 @@ fn rewrite_from(table: &[u8], sheet: &[u8], own: bool, result: &mut [u8]) -> Rew
     let mut rows = no_rows();
     copy(&mut work, table, table.len());
     let n = table.len() / NODE_BYTES;
-    let made = passes(sheet, n, own, &mut work, &mut spare, &mut images, &mut rows);
+    let made = passes(
+        sheet,
+        edition,
+        n,
+        own,
+        &mut work,
+        &mut spare,
+        &mut images,
+        &mut rows,
+    );
     finish(result, &work, made)
 }
 
 // A table rewritten for a sheet: its bytes and then zeros in result, and zeros alone where item 14 is met.
-pub fn rewrite_sheet(table: &[u8], sheet: &[u8], result: &mut [u8]) -> Rewriting
+pub fn rewrite_sheet(table: &[u8], sheet: &[u8], edition: u32, result: &mut [u8]) -> Rewriting
     requires { ⌜ (6 ≤ length (now table)) × (length (now table) ≤ tableBytes) × (length (now result) ≡ tableBytes) ⌝ }
-    requires { ⌜ (nodesFit 0 (tableOf (now table)) ≡ true) × (sheetLegal (editsOf (now sheet)) ≡ true) ⌝ }
-    ensures { λ r. ⌜ Rewrote rewriteTable (editsOf (now (sheet .entry))) (tableOf (now (table .entry))) (now (result .entry)) (now (result .exit)) (verdictOf r) (nodesOf r) ⌝ }
+    requires { ⌜ (nodesFit 0 (tableOf (now table)) ≡ true) × (sheetLegal (editsOf edition (now sheet)) ≡ true) ⌝ }
+    ensures { λ r. ⌜ Rewrote rewriteTable (editsOf edition (now (sheet .entry))) (tableOf (now (table .entry))) (now (result .entry)) (now (result .exit)) (verdictOf r) (nodesOf r) ⌝ }
 {
-    rewrite_from(table, sheet, false, result)
+    rewrite_from(table, sheet, edition, false, result)
 }
 
 // The one node true.
@@ -159,12 +169,12 @@ fn one_true() -> [u8; NODE_BYTES]
 }
 
 // The condition for going through: its bytes and then zeros in result, and zeros alone where item 14 is met.
-pub fn through_sheet(sheet: &[u8], result: &mut [u8]) -> Rewriting
-    requires { ⌜ (length (now result) ≡ tableBytes) × (sheetLegal (editsOf (now sheet)) ≡ true) ⌝ }
-    ensures { λ r. ⌜ Rewrote throughEdit (editsOf (now (sheet .entry))) oneTrue (now (result .entry)) (now (result .exit)) (verdictOf r) (nodesOf r) ⌝ }
+pub fn through_sheet(sheet: &[u8], edition: u32, result: &mut [u8]) -> Rewriting
+    requires { ⌜ (length (now result) ≡ tableBytes) × (sheetLegal (editsOf edition (now sheet)) ≡ true) ⌝ }
+    ensures { λ r. ⌜ Rewrote throughEdit (editsOf edition (now (sheet .entry))) oneTrue (now (result .entry)) (now (result .exit)) (verdictOf r) (nodesOf r) ⌝ }
 {
     let start = one_true();
-    rewrite_from(&start, sheet, true, result)
+    rewrite_from(&start, sheet, edition, true, result)
 }
 
 pub fn verdict(r: Rewriting) -> Verdict

@@ -10,6 +10,7 @@ use Rattle.limits.specs.Limits.{labels, names}
 use Rattle.verdict.specs.declared.Verdict.the-variants.{Accepted}
 use Rattle.semantics.specs.Edit.{AP}
 use Rattle.samples.specs.Rows.{tableLabel}
+use Rattle.editions.specs.Edition.{editionVerdict}
 use Rattle.site.specs.Layout.{siteBytes}
 use Rattle.site.specs.Site.{siteOf}
 use Rattle.site.specs.Refusal.{item4, siteVerdict}
@@ -30,12 +31,12 @@ pub record OffSite : Type 0 where
   pub unlabelled : (site : List ℕ) → siteVerdict site ≡ Accepted → (p : ℕ) → siteOf site .marked p 0 ≡ false
   -- a site with a label on slot 0 that meets neither item 3 nor item 4 is refused with 5
   pub label-refused : (site : List ℕ) → length site ≡ siteBytes → item4 (siteOf site) ≡ false → (p : ℕ) → siteOf site .marked p 0 ≡ true → SiteRefused site 5
-  -- AP with a name at nil, alone in its sheet, goes through and leaves each byte of the site
-  pub nothing-marked : (site : List ℕ) → Bytes site → siteVerdict site ≡ Accepted → (n p : ℕ) → n < names → p < labels → siteOf site .place n ≡ 0
-      → (call : ApplyCall site (apBytes n p)) → (call .reason ≡ 0) × (call .result′ ≡ site)
+  -- AP with a name at nil, alone in its sheet of a known edition, goes through and leaves each byte of the site
+  pub nothing-marked : (edition : ℕ) → editionVerdict edition ≡ Accepted → (site : List ℕ) → Bytes site → siteVerdict site ≡ Accepted → (n p : ℕ) → n < names → p < labels → siteOf site .place n ≡ 0
+      → (call : ApplyCall edition site (apBytes n p)) → (call .reason ≡ 0) × (call .result′ ≡ site)
   -- "label p", rewritten through a sheet, lists today what it lists after it, the slots that then have the label; slot 0 is not among
   -- them. It has no loop, so this is under every limit
-  pub listed : (site sheet : List ℕ) (p : ℕ) → Runnable site (labelBytes p) sheet
-      → (applied : ApplyCall site sheet) (rewrote : RewriteCall (labelBytes p) sheet)
+  pub listed : (edition : ℕ) (site sheet : List ℕ) (p : ℕ) → Runnable edition site (labelBytes p) sheet
+      → (applied : ApplyCall edition site sheet) (rewrote : RewriteCall edition (labelBytes p) sheet)
       → (today : ListCall site (rewrittenTable rewrote)) (after : ListCall (applied .result′) (labelBytes p))
       → (today .set′ ≡ after .set′) × Is (today .set′) (siteOf (applied .result′) .marked p) × (has (today .set′) 0 ≡ false)

@@ -7,6 +7,7 @@ use Rattle.bitset.specs.Set.{setBytes}
 use Rattle.site.specs.Layout.{siteBytes}
 use Rattle.limits.specs.Limits.{tableBytes}
 use Rattle.verdict.specs.declared.Verdict.the-variants.{Accepted}
+use Rattle.editions.specs.Edition.{editionVerdict}
 use Rattle.trailer.specs.Refusal.{trailerVerdict}
 use Rattle.trailer.specs.Pieces.{siteIn}
 use Rattle.listing.specs.Listed.{foundOf}
@@ -26,10 +27,10 @@ pub record NoAnswer (reason fault count size : ℕ) (buffer′ : List ℕ) (item
   pub zeros : buffer′ ≡ replicate size 0
 
 -- applying has no count
-abbrev pub NotApplied : {site sheet : List ℕ} → ApplyCall site sheet → (item w : ℕ) → Type 0
+abbrev pub NotApplied : {edition : ℕ} {site sheet : List ℕ} → ApplyCall edition site sheet → (item w : ℕ) → Type 0
 NotApplied call = NoAnswer (call .reason) (call .fault) 0 siteBytes (call .result′)
 
-abbrev pub NotRewritten : {table sheet : List ℕ} → RewriteCall table sheet → (item w : ℕ) → Type 0
+abbrev pub NotRewritten : {edition : ℕ} {table sheet : List ℕ} → RewriteCall edition table sheet → (item w : ℕ) → Type 0
 NotRewritten call = NoAnswer (call .reason) (call .fault) (call .nodes) tableBytes (call .result′)
 
 -- listing has rounds too
@@ -45,9 +46,9 @@ pub record NotRun {file : List ℕ} (call : JobCall file) (item w : ℕ) : Type 
   pub zeros : ZeroJob (call .lent) (call .lent′) (foundOf (call .after) (call .after-rounds)) (foundOf (call .today) (call .today-rounds)) (call .nodes)
       (call .classes)
 
--- each call that is given the site is refused with the item
+-- each call that is given the site, and a known edition beside a sheet, is refused with the item
 pub record SiteRefused (site : List ℕ) (item : ℕ) : Type 0 where
   pub listing : (table : List ℕ) (call : ListCall site table) → NotListed call item 0
-  pub applying : (sheet : List ℕ) (call : ApplyCall site sheet) → NotApplied call item 0
+  pub applying : (edition : ℕ) (sheet : List ℕ) → editionVerdict edition ≡ Accepted → (call : ApplyCall edition site sheet) → NotApplied call item 0
   pub classes : (call : ClassCall site) → NotClassed call item 0
   pub job : (file : List ℕ) → trailerVerdict file ≡ Accepted → siteIn file ≡ site → (call : JobCall file) → NotRun call item 0

@@ -4,8 +4,8 @@ use mathlib.Core.Bool.{Bool, not}
 use Prim.Native.Nat.{ℕ}
 use Rattle.finite.specs.Tests.{same}
 use Rattle.semantics.specs.Table.{Node, node}
-use Rattle.semantics.specs.Edit.{Edit, CN1, CN2, AP, AT, DT1, DT2, AS, DS}
-use Rattle.samples.specs.Site.{some, Small, siteA, ring, crowded}
+use Rattle.semantics.specs.Edit.{Edit, CN1, CN2, AP, AT, RT, DT1, DT2, AS, DS}
+use Rattle.samples.specs.Site.{some, Small, siteA, ring, stranded, crowded}
 
 -- a set of slots: these only, or all but these
 pub data Slots : Type 0 where
@@ -41,6 +41,10 @@ tableR = node 2 0 0 0 ∷ node 4 0 0 0 ∷ node 8 4 1 0 ∷ node 6 0 0 2 ∷ nod
 unfoldable pub tableName : ℕ → List Node
 tableName n = node 3 n 0 0 ∷ []
 
+-- the reverse of link 4: by a diamond (kind 8) to name n, the target of @n; by a box (9)
+unfoldable pub tableReverse : (k n : ℕ) → List Node
+tableReverse k n = node 3 n 0 0 ∷ node k 12 0 0 ∷ []
+
 -- diamond 4 variable 0, under the loop of kind k, which is 10 for mu and 11 for nu
 unfoldable pub tableLoop : ℕ → List Node
 tableLoop k = node 4 0 0 0 ∷ node 8 4 0 0 ∷ node k 0 1 0 ∷ []
@@ -70,6 +74,20 @@ rows =
     -- AT 4 1 2: refused, 13. AT 4 1 1: refused, 13
     ∷ row siteA (AT 4 1 2 ∷ []) tableR (stuckAt 0)
     ∷ row siteA (AT 4 1 1 ∷ []) tableR (stuckAt 0)
+    -- the same bytes in edition 2: slot 2 leads to slot 3 alone, or to itself, and no longer to slot 1
+    ∷ row siteA (RT 4 1 2 ∷ []) tableR (lists (only (1 ∷ [])) 1 14 2 2)
+    ∷ row siteA (RT 4 1 2 ∷ []) (node 2 0 0 0 ∷ node 9 4 0 0 ∷ []) (lists (allBut (2 ∷ 3 ∷ [])) 254 12 0 0)
+    ∷ row siteA (RT 4 1 2 ∷ []) (tableReverse 8 1) (lists (only (3 ∷ [])) 1 11 0 0)
+    ∷ row siteA (RT 4 1 2 ∷ []) (tableReverse 9 1) (lists (allBut (2 ∷ [])) 255 12 0 0)
+    ∷ row siteA (RT 4 1 1 ∷ []) (tableReverse 8 1) (lists (only (2 ∷ [])) 1 11 0 0)
+    -- to nil, or from it: refused, 13
+    ∷ row siteA (RT 4 1 3 ∷ []) tableR (stuckAt 0)
+    ∷ row siteA (RT 4 3 1 ∷ []) tableR (stuckAt 0)
+    -- the uplinks of the probe at slot 3 lead to no gateway: R {1}. It takes a second one, to the gateway, while the first is live. AT: refused,
+    -- 13. RT: R {1, 3}
+    ∷ row stranded [] tableR (lists (only (1 ∷ [])) 1 5 2 2)
+    ∷ row stranded (AT 4 2 1 ∷ []) tableR (stuckAt 0)
+    ∷ row stranded (RT 4 2 1 ∷ []) tableR (lists (only (1 ∷ 3 ∷ [])) 2 14 3 3)
     -- CN2 1 1 4: name 1 at 1. CN2 1 3 4: at 0
     ∷ row siteA (CN2 1 1 4 ∷ []) (tableName 1) (lists (only (1 ∷ [])) 1 11 0 0)
     ∷ row siteA (CN2 1 3 4 ∷ []) (tableName 1) (lists (only (0 ∷ [])) 1 11 0 0)

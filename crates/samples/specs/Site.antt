@@ -54,6 +54,15 @@ ring = record {
   links-of = (4, 1, 3) ∷ siteA .links-of;
 }
 
+-- slots 0 to 3 present; label 0, the gateway's, on 1; name 1 at 1, and name 2 at the probe, slot 3, whose uplink 4 leads to slot 2 and no further
+unfoldable pub stranded : Small
+stranded = record {
+  slots-here = siteA .slots-here;
+  labels-on = siteA .labels-on;
+  names-at = (1, 1) ∷ (2, 3) ∷ [];
+  links-of = (4, 3, 2) ∷ [];
+}
+
 -- k names from n on, all at slot s, and then the rest
 unfoldable pub namesTogether : (n k s : ℕ) → List (ℕ × ℕ) → List (ℕ × ℕ)
 namesTogether n zero s rest = rest

@@ -2,7 +2,7 @@
 use mathlib.Core.List.{List, [], _∷_}
 use mathlib.Core.Bool.{Bool, true, false}
 use Rattle.semantics.specs.Table.{Node, node}
-use Rattle.semantics.specs.Edit.{Edit, CN1, AT, DT2, AS, DS}
+use Rattle.semantics.specs.Edit.{Edit, CN1, AT, RT, DT2, AS, DS}
 
 pub record Foreseen : Type 0 where
   pub edits : List Edit
@@ -11,6 +11,14 @@ pub record Foreseen : Type 0 where
 
 abbrev foreseen : List Edit → List Node → Bool → Foreseen
 foreseen es xs b = record { edits = es; table = xs; works = b }
+
+-- names 1 and 2 are not at nil: n1 nil & <E> ! n2 nil & <E> ! &, and the closing "and"
+unfoldable pub neitherAtNil : List Node
+neitherAtNil =
+    node 0 0 0 0
+    ∷ node 3 1 0 0 ∷ node 3 0 0 0 ∷ node 7 0 1 2 ∷ node 8 16 3 0 ∷ node 5 0 4 0
+    ∷ node 3 2 0 0 ∷ node 3 0 0 0 ∷ node 7 0 6 7 ∷ node 8 16 8 0 ∷ node 5 0 9 0
+    ∷ node 7 0 5 10 ∷ node 7 0 0 11 ∷ []
 
 unfoldable pub foreseens : List Foreseen
 foreseens =
@@ -26,13 +34,10 @@ foreseens =
     -- AS 3 3: slot 3 is present
     ∷ foreseen (AS 3 3 ∷ [])
     (node 0 0 0 0 ∷ node 1 0 0 0 ∷ node 12 3 0 0 ∷ node 7 0 1 2 ∷ node 8 16 3 0 ∷ node 5 0 4 0 ∷ node 7 0 0 5 ∷ []) false
-    -- AT 0 1 2: n1 nil & <E> ! n2 nil & <E> ! &
-    ∷ foreseen (AT 0 1 2 ∷ [])
-    (node 0 0 0 0
-    ∷ node 3 1 0 0 ∷ node 3 0 0 0 ∷ node 7 0 1 2 ∷ node 8 16 3 0 ∷ node 5 0 4 0
-    ∷ node 3 2 0 0 ∷ node 3 0 0 0 ∷ node 7 0 6 7 ∷ node 8 16 8 0 ∷ node 5 0 9 0
-    ∷ node 7 0 5 10 ∷ node 7 0 0 11 ∷ []) true
-    -- AT 4 1 2: the same, followed by n1 t <m> & <E> ! n1 n2 <m> & <E> | &
+    -- AT 0 1 2, and AT 4 1 2 in edition 2
+    ∷ foreseen (AT 0 1 2 ∷ []) neitherAtNil true
+    ∷ foreseen (RT 4 1 2 ∷ []) neitherAtNil true
+    -- AT 4 1 2 in edition 1: the same, followed by n1 t <m> & <E> ! n1 n2 <m> & <E> | &
     ∷ foreseen (AT 4 1 2 ∷ [])
     (node 0 0 0 0
     ∷ node 3 1 0 0 ∷ node 3 0 0 0 ∷ node 7 0 1 2 ∷ node 8 16 3 0 ∷ node 5 0 4 0

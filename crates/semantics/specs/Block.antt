@@ -7,13 +7,16 @@ use lib.ListN.{length, getD}
 use Rattle.finite.specs.Tests.{same}
 use Rattle.limits.specs.Limits.{links, everyWay}
 use Rattle.semantics.specs.Form.{Way, along, against, every}
-use Rattle.semantics.specs.Edit.{Edit, CN1, CN2, AP, DP, AT, DT1, DT2, AS, DS}
+use Rattle.semantics.specs.Edit.{Edit, CN1, CN2, AP, DP, AT, RT, DT1, DT2, AS, DS}
 use Rattle.semantics.specs.Table.{Leaf, kTrue, kHere, kLabel, kName, kVar, kSlot, Unary, kNot, kDia, kBox, kMu, kNu, Binary, kOr, kAnd, Kind, leaf, unary, binary, kindNo, kindOf, wayOf, Node, node}
 
--- what an edit does to the neighbours by a way: nothing; a step from @a to @b is there, or is not; no step leaves @n, or reaches it, or either
+-- what an edit does to the neighbours by a way: nothing; a step from @a to @b is there; it is there, and no other leaves @a, or no other
+-- reaches @b; it is not there; no step leaves @n, or reaches it, or either
 pub data Change : Type 0 where
   keep : Change
   added : (a b : ℕ) → Change
+  onlyFrom : (a b : ℕ) → Change
+  onlyTo : (a b : ℕ) → Change
   cut : (a b : ℕ) → Change
   cutFrom : (n : ℕ) → Change
   cutTo : (n : ℕ) → Change
@@ -27,6 +30,9 @@ change (DP n p) w = keep
 change (AT m n1 n2) (along l) = cond (same l m) (added n1 n2) keep
 change (AT m n1 n2) (against l) = cond (same l m) (added n2 n1) keep
 change (AT m n1 n2) every = keep
+change (RT f n1 n2) (along l) = cond (same l f) (onlyFrom n1 n2) keep
+change (RT f n1 n2) (against l) = cond (same l f) (onlyTo n2 n1) keep
+change (RT f n1 n2) every = keep
 change (DT1 m n1 n2) (along l) = cond (same l m) (cut n1 n2) keep
 change (DT1 m n1 n2) (against l) = cond (same l m) (cut n2 n1) keep
 change (DT1 m n1 n2) every = keep
@@ -90,20 +96,24 @@ abbrev pub ⟦_⟧_ : ℕ → Block → Block
 
 -- the block of a diamond, T being the image of its child. Way `everyWay` is E, and way f + links is f-. In postfix:
 --   added: T <w> a b T & <E> & |     cut: a ! T <w> & b ! T & <w> |     cutFrom: n ! T <w> &     cutTo: n ! T & <w>
---   cutOff: n ! n ! T & <w> &
+--   cutOff: n ! n ! T & <w> &     onlyFrom: a ! T <w> & a b T & <E> & |     onlyTo: b ! T & <w> a b T & <E> & |
 unfoldable pub blockDia : Change → ℕ → Block → Block
 blockDia keep w T = ⟨ w ⟩ T
 blockDia (added a b) w T = (⟨ w ⟩ T) or (nm a & (⟨ everyWay ⟩ (nm b & T)))
+blockDia (onlyFrom a b) w T = (no! (nm a) & (⟨ w ⟩ T)) or (nm a & (⟨ everyWay ⟩ (nm b & T)))
+blockDia (onlyTo a b) w T = (⟨ w ⟩ (no! (nm b) & T)) or (nm a & (⟨ everyWay ⟩ (nm b & T)))
 blockDia (cut a b) w T = (no! (nm a) & (⟨ w ⟩ T)) or (⟨ w ⟩ (no! (nm b) & T))
 blockDia (cutFrom n) w T = no! (nm n) & (⟨ w ⟩ T)
 blockDia (cutTo n) w T = ⟨ w ⟩ (no! (nm n) & T)
 blockDia (cutOff n) w T = no! (nm n) & (⟨ w ⟩ (no! (nm n) & T))
 
 -- the block of a box. added: T [w] a ! b ! T | [E] | &     cut: a T [w] | b T | [w] &     cutFrom: n T [w] |     cutTo: n T | [w]
---   cutOff: n n T | [w] |
+--   cutOff: n n T | [w] |     onlyFrom: a T [w] | a ! b ! T | [E] | &     onlyTo: b T | [w] a ! b ! T | [E] | &
 unfoldable pub blockBox : Change → ℕ → Block → Block
 blockBox keep w T = ⟦ w ⟧ T
 blockBox (added a b) w T = (⟦ w ⟧ T) & (no! (nm a) or (⟦ everyWay ⟧ (no! (nm b) or T)))
+blockBox (onlyFrom a b) w T = (nm a or (⟦ w ⟧ T)) & (no! (nm a) or (⟦ everyWay ⟧ (no! (nm b) or T)))
+blockBox (onlyTo a b) w T = (⟦ w ⟧ (nm b or T)) & (no! (nm a) or (⟦ everyWay ⟧ (no! (nm b) or T)))
 blockBox (cut a b) w T = (nm a or (⟦ w ⟧ T)) & (⟦ w ⟧ (nm b or T))
 blockBox (cutFrom n) w T = nm n or (⟦ w ⟧ T)
 blockBox (cutTo n) w T = ⟦ w ⟧ (nm n or T)
@@ -119,6 +129,7 @@ blockLeaf (CN2 n1 n2 f) kHere p = end kHere p
 blockLeaf (AP n q) kHere p = end kHere p
 blockLeaf (DP n q) kHere p = end kHere p
 blockLeaf (AT m n1 n2) kHere p = end kHere p
+blockLeaf (RT f n1 n2) kHere p = end kHere p
 blockLeaf (DT1 m n1 n2) kHere p = end kHere p
 blockLeaf (DT2 f n) kHere p = end kHere p
 blockLeaf (AS n k) kHere p = end kHere p or end kSlot k
@@ -128,6 +139,7 @@ blockLeaf (CN2 n1 n2 f) kLabel p = end kLabel p
 blockLeaf (AP n q) kLabel p = cond (same p q) (end kLabel p or (nm n & no! (nm 0))) (end kLabel p)
 blockLeaf (DP n q) kLabel p = cond (same p q) (end kLabel p & no! (nm n)) (end kLabel p)
 blockLeaf (AT m n1 n2) kLabel p = end kLabel p
+blockLeaf (RT f n1 n2) kLabel p = end kLabel p
 blockLeaf (DT1 m n1 n2) kLabel p = end kLabel p
 blockLeaf (DT2 f n) kLabel p = end kLabel p
 blockLeaf (AS n k) kLabel p = end kLabel p
@@ -138,6 +150,7 @@ blockLeaf (CN2 n1 n2 f) kName y =
 blockLeaf (AP n q) kName y = nm y
 blockLeaf (DP n q) kName y = nm y
 blockLeaf (AT m n1 n2) kName y = nm y
+blockLeaf (RT f n1 n2) kName y = nm y
 blockLeaf (DT1 m n1 n2) kName y = nm y
 blockLeaf (DT2 f n) kName y = nm y
 blockLeaf (AS n k) kName y = cond (same y n) (end kSlot k) (nm y)

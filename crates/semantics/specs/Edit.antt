@@ -8,7 +8,8 @@ use Rattle.finite.specs.Tests.{same, below}
 use Rattle.limits.specs.Limits.{slots, labels, names, links, generalLinks}
 use Rattle.semantics.specs.Holds.{Set, Model}
 
--- the nine operations, 0 to 8, with their operands in the order of the sheet
+-- the nine operations, 0 to 8, with their operands in the order of the sheet; and RT, which is what AT on a functional link is in a sheet of
+-- edition 2: an uplink is re-homed
 pub data Edit : Type 0 where
   CN1 : (n1 n2 : ℕ) → Edit
   CN2 : (n1 n2 f : ℕ) → Edit
@@ -19,6 +20,7 @@ pub data Edit : Type 0 where
   DT2 : (f n : ℕ) → Edit
   AS : (n k : ℕ) → Edit
   DS : (n : ℕ) → Edit
+  RT : (f n1 n2 : ℕ) → Edit
 
 -- the links from 4 on are functional
 unfoldable pub functional : ℕ → Bool
@@ -55,6 +57,7 @@ edit (AP n p) M =
 edit (DP n p) M = setMarked M (λ q s. cond (same q p) (M .marked q s && not (same s (M .place n))) (M .marked q s))
 edit (AT m n1 n2) M =
     setLink M (λ l s t. cond (same l m) (M .link l s t || (same s (M .place n1) && same t (M .place n2))) (M .link l s t))
+edit (RT f n1 n2) M = setLink M (λ l s t. cond (same l f && same s (M .place n1)) (same t (M .place n2)) (M .link l s t))
 edit (DT1 m n1 n2) M =
     setLink M (λ l s t. cond (same l m) (M .link l s t && not (same s (M .place n1) && same t (M .place n2))) (M .link l s t))
 edit (DT2 f n) M = setLink M (λ l s t. cond (same l f) (M .link l s t && not (same s (M .place n))) (M .link l s t))
@@ -73,6 +76,7 @@ legal (CN2 n1 n2 f) = (below n1 names && not (same n1 0)) && (below n2 names && 
 legal (AP n p) = below n names && below p labels
 legal (DP n p) = below n names && below p labels
 legal (AT m n1 n2) = below m links && (below n1 names && below n2 names)
+legal (RT f n1 n2) = functional f && (below n1 names && below n2 names)
 legal (DT1 m n1 n2) = below m links && (below n1 names && below n2 names)
 legal (DT2 f n) = functional f && below n names
 legal (AS n k) = (below n names && not (same n 0)) && below k slots
@@ -87,6 +91,7 @@ goes (DP n p) M = true
 goes (AT m n1 n2) M =
     (not (same (M .place n1) 0) && not (same (M .place n2) 0))
     && (not (functional m) || (same (target M m (M .place n1)) 0 || same (target M m (M .place n1)) (M .place n2)))
+goes (RT f n1 n2) M = not (same (M .place n1) 0) && not (same (M .place n2) 0)
 goes (DT1 m n1 n2) M = true
 goes (DT2 f n) M = true
 goes (AS n k) M = not (M .present k)

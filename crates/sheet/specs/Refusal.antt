@@ -18,8 +18,9 @@ unfoldable pub unusedZero : ℕ → ℕ → ℕ → Bool
 unusedZero o y z = (below 1 (operands o) || same y 0) && (below 2 (operands o) || same z 0)
 
 -- item 12 is not met by an edit's bytes: a known operation, operands in range and not forbidden, and unused ones 0
+-- It is the same in both editions: what is legal in edition 1 is legal in edition 2 (Laws/Fits, legal-alike)
 unfoldable pub editFits : ℕ → ℕ → ℕ → ℕ → Bool
-editFits o x y z = below o 9 && (legal (readEdit o x y z) && unusedZero o y z)
+editFits o x y z = below o 9 && (legal (readEdit 1 o x y z) && unusedZero o y z)
 
 -- item 12 is not met by edit k of a sheet
 abbrev pub fitsAt : List ℕ → ℕ → Bool

@@ -1,4 +1,5 @@
 // The sheet's bytes: edits read, and items 11 and 12.
+use editions::SECOND;
 use limits::GENERAL_LINKS;
 use limits::LABELS;
 use limits::LINKS;
@@ -11,10 +12,10 @@ ghost use lib.ListN.{length};
 ghost use Rattle.finite.specs.Tests.{same, below, first};
 ghost use Rattle.limits.specs.Limits.{names};
 ghost use Rattle.semantics.specs.Edit.{functional};
-ghost use Rattle.sheet.specs.Bytes.{editOf, readEdit, editAt};
+ghost use Rattle.sheet.specs.Bytes.{editOf, linkEdit, readEdit, editAt};
 ghost use Rattle.sheet.specs.Refusal.{editFits, fitsAt, faulty, sheetVerdict};
 
-// The nine edits, with their operands in the order of the sheet.
+// The nine edits, with their operands in the order of the sheet; and last what AT on a functional link is in edition 2.
 pub enum Op {
     Cn1(u8, u8),
     Cn2(u8, u8, u8),
@@ -25,18 +26,29 @@ pub enum Op {
     Dt2(u8, u8),
     As(u8, u8),
     Ds(u8),
+    Rt(u8, u8, u8),
+}
+
+// Operation 4 with its operands: in edition 2, on a functional link, it replaces the old target.
+fn link_edit(edition: u32, m: u8, n1: u8, n2: u8) -> Op
+    ensures { λ r. ⌜ editOf r ≡ linkEdit edition m n1 n2 ⌝ }
+{
+    if (edition == SECOND) & is_functional(m) {
+        return Op::Rt(m, n1, n2);
+    }
+    Op::At(m, n1, n2)
 }
 
 // The edit with the operation o and the operands x, y and z. An unknown operation, which item 12 refuses, is read as 8.
-fn read_edit(o: u8, x: u8, y: u8, z: u8) -> Op
-    ensures { λ r. ⌜ editOf r ≡ readEdit o x y z ⌝ }
+fn read_edit(edition: u32, o: u8, x: u8, y: u8, z: u8) -> Op
+    ensures { λ r. ⌜ editOf r ≡ readEdit edition o x y z ⌝ }
 {
     match o {
         0 => Op::Cn1(x, y),
         1 => Op::Cn2(x, y, z),
         2 => Op::Ap(x, y),
         3 => Op::Dp(x, y),
-        4 => Op::At(x, y, z),
+        4 => link_edit(edition, x, y, z),
         5 => Op::Dt1(x, y, z),
         6 => Op::Dt2(x, y),
         7 => Op::As(x, y),
@@ -45,12 +57,18 @@ fn read_edit(o: u8, x: u8, y: u8, z: u8) -> Op
 }
 
 // Edit k of a sheet.
-pub fn edit_at(sheet: &[u8], k: usize) -> Op
+pub fn edit_at(sheet: &[u8], edition: u32, k: usize) -> Op
     requires { ⌜ 4 * k + 4 ≤ length (now sheet) ⌝ }
-    ensures { λ r. ⌜ editOf r ≡ editAt (now (sheet .entry)) k ⌝ }
+    ensures { λ r. ⌜ editOf r ≡ editAt edition (now (sheet .entry)) k ⌝ }
 {
     let at = 4 * k;
-    read_edit(sheet[at], sheet[at + 1], sheet[at + 2], sheet[at + 3])
+    read_edit(
+        edition,
+        sheet[at],
+        sheet[at + 1],
+        sheet[at + 2],
+        sheet[at + 3],
+    )
 }
 
 // Is n a name that an edit may move: any but name 0?

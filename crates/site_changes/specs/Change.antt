@@ -33,6 +33,10 @@ withLink M m x y = setLink M (λ l s t. cond (same l m) (M .link l s t || (same 
 unfoldable pub withoutLink : Model → ℕ → ℕ → ℕ → Model
 withoutLink M m x y = setLink M (λ l s t. cond (same l m) (M .link l s t && not (same s x && same t y)) (M .link l s t))
 
+-- link f leads from slot x to slot y alone
+unfoldable pub withTarget : Model → ℕ → ℕ → ℕ → Model
+withTarget M f x y = setLink M (λ l s t. cond (same l f && same s x) (same t y) (M .link l s t))
+
 -- link f leads from slot x nowhere
 unfoldable pub withoutTarget : Model → ℕ → ℕ → Model
 withoutTarget M f x = setLink M (λ l s t. cond (same l f) (M .link l s t && not (same s x)) (M .link l s t))

@@ -58,6 +58,14 @@ rows w a b v e T =
     ∷ (no! (nm a) & (⟨ w ⟩ (no! (nm a) & T)))
     -- 34: a box
     ∷ (nm a or (⟦ w ⟧ (nm a or T)))
+    -- 35, RT: a diamond by f
+    ∷ ((no! (nm a) & (⟨ w ⟩ T)) or (nm a & (⟨ e ⟩ (nm b & T))))
+    -- 36: a box by f
+    ∷ ((nm a or (⟦ w ⟧ T)) & (no! (nm a) or (⟦ e ⟧ (no! (nm b) or T))))
+    -- 37: a diamond by f-
+    ∷ ((⟨ w ⟩ (no! (nm a) & T)) or (nm b & (⟨ e ⟩ (nm a & T))))
+    -- 38: a box by f-
+    ∷ ((⟦ w ⟧ (nm a or T)) & (no! (nm b) or (⟦ e ⟧ (no! (nm a) or T))))
     ∷ []
 
 -- how many rows copy, and how many rows there are
@@ -65,4 +73,4 @@ abbrev pub copyCount : ℕ
 copyCount = 13
 
 abbrev pub rowCount : ℕ
-rowCount = 35
+rowCount = 39

@@ -7,7 +7,7 @@ use lib.ListN.{getD}
 use Rattle.finite.specs.Tests.{same, below}
 use Rattle.limits.specs.Limits.{links, everyWay}
 use Rattle.semantics.specs.Form.{Way, along, against, every}
-use Rattle.semantics.specs.Edit.{Edit, CN1, CN2, AP, DP, AT, DT1, DT2, AS, DS}
+use Rattle.semantics.specs.Edit.{Edit, CN1, CN2, AP, DP, AT, RT, DT1, DT2, AS, DS}
 use Rattle.semantics.specs.Table.{kindOf, wayOf, Node}
 use Rattle.semantics.specs.Block.{Block, old, size, block}
 use Rattle.spelling.specs.declared.Spelling.{Spelling}
@@ -20,6 +20,7 @@ firstOf (CN2 n1 n2 f) = n2
 firstOf (AP n q) = n
 firstOf (DP n q) = n
 firstOf (AT m n1 n2) = n1
+firstOf (RT f n1 n2) = n1
 firstOf (DT1 m n1 n2) = n1
 firstOf (DT2 f n) = n
 firstOf (AS n k) = k
@@ -31,6 +32,7 @@ secondOf (CN2 n1 n2 f) = f
 secondOf (AP n q) = 0
 secondOf (DP n q) = 0
 secondOf (AT m n1 n2) = n2
+secondOf (RT f n1 n2) = n2
 secondOf (DT1 m n1 n2) = n2
 secondOf (DT2 f n) = 0
 secondOf (AS n k) = 0
@@ -115,6 +117,7 @@ rowOf (CN2 n1 n2 f) k p = leafRow k p 3 n1 15
 rowOf (AP n q) k p = leafRow k p 2 q 16
 rowOf (DP n q) k p = leafRow k p 2 q 17
 rowOf (AT m n1 n2) k p = wayRow k p m 21
+rowOf (RT f n1 n2) k p = wayRow k p f 35
 rowOf (DT1 m n1 n2) k p = wayRow k p m 25
 rowOf (DT2 f n) k p = wayRow k p f 29
 rowOf (AS n s) k p = asRow k p n

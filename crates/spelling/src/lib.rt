@@ -51,6 +51,8 @@ const DS_DIA: u8 = 33;
 
 const DS_BOX: u8 = 34;
 
+const RT_WAYS: u8 = 35;
+
 // A kind that is known: one above 12 is read as 12. Its row is the one that copies the node.
 fn known(kind: u8) -> u8
     ensures { λ r. ⌜ r ≡ knownKind kind ⌝ }
@@ -158,5 +160,6 @@ pub fn spell(e: Op, kind: u8, param: u8) -> Spelling
         Op::Dt2(f, n) => by_row(way_row(k, param, f, DT2_WAYS), param, n, 0),
         Op::As(n, slot) => by_row(as_row(k, param, n), param, slot, 0),
         Op::Ds(n) => by_row(ds_row(k, param), param, n, 0),
+        Op::Rt(f, n1, n2) => by_row(way_row(k, param, f, RT_WAYS), param, n1, n2),
     }
 }

@@ -1,6 +1,6 @@
-// Reads sites, conditions and sheets on standard input and prints for each three what the desk answers: the bytes that applying changes,
-// behind their offsets; the rewritten table; the lists of the condition on the site after and of the rewritten table today; and the condition for
-// going through, with its list today. Lists have the highest limit on rounds.
+// Reads sites, conditions and sheets with their editions on standard input and prints for each case what the desk answers: the bytes that applying
+// changes, behind their offsets; the rewritten table; the lists of the condition on the site after and of the rewritten table today; and the
+// condition for going through, with its list today. Lists have the highest limit on rounds. Long tables are printed as their checksums.
 // A refusal is printed as `refused N W`. What a buffer should not hold, and a buffer of another length that is not refused, is said.
 use bitset::SET_BYTES;
 use libc::STDOUT_FILENO;
@@ -13,6 +13,9 @@ use pieces::ROOM;
 use rewriting::Rewriting;
 use site::SITE_BYTES;
 use verdict::Verdict;
+
+// A longer table is printed as its checksum.
+const SHOWN_BYTES: usize = 256 * NODE_BYTES;
 
 fn print_byte_at(offset: usize, x: u8) {
     io::write_all(STDOUT_FILENO, b" ");
@@ -40,14 +43,14 @@ fn is_item_1(v: Verdict) -> bool {
 }
 
 // A result buffer that is a byte too short.
-fn short_site_is_refused(site: &[u8], sheet: &[u8]) -> bool {
+fn short_site_is_refused(site: &[u8], sheet: &[u8], edition: u32) -> bool {
     let mut result = [170u8; SITE_BYTES - 1];
-    is_item_1(apply_entry::apply(site, sheet, &mut result)) & pieces::all_zero(&result)
+    is_item_1(apply_entry::apply(site, sheet, edition, &mut result)) & pieces::all_zero(&result)
 }
 
-fn short_table_is_refused(cond: &[u8], sheet: &[u8]) -> bool {
+fn short_table_is_refused(cond: &[u8], sheet: &[u8], edition: u32) -> bool {
     let mut result = [170u8; TABLE_BYTES - 1];
-    let r = rewrite_entry::rewrite(cond, sheet, &mut result);
+    let r = rewrite_entry::rewrite(cond, sheet, edition, &mut result);
     is_item_1(rewriting::verdict(r)) & (rewriting::nodes(r) == 0) & pieces::all_zero(&result)
 }
 
@@ -68,11 +71,20 @@ fn show_applied(v: Verdict, site: &[u8], result: &[u8]) -> bool {
 }
 
 // Applies and prints; true where the sheet is applied.
-fn apply(site: &[u8], sheet: &[u8], result: &mut [u8]) -> bool {
-    let applied = show_applied(apply_entry::apply(site, sheet, result), site, result);
-    pieces::say(!short_site_is_refused(site, sheet), b" short buffer taken");
+fn apply(site: &[u8], sheet: &[u8], edition: u32, result: &mut [u8]) -> bool {
+    let applied = show_applied(apply_entry::apply(site, sheet, edition, result), site, result);
+    pieces::say(!short_site_is_refused(site, sheet, edition), b" short buffer taken");
     io::write_all(STDOUT_FILENO, b"\n");
     applied
+}
+
+fn print_nodes(table: &[u8]) {
+    if table.len() > SHOWN_BYTES {
+        io::write_all(STDOUT_FILENO, b"sum ");
+        io::print_decimal(STDOUT_FILENO, pieces::checksum(table));
+        return;
+    }
+    pieces::print_bytes(table);
 }
 
 fn print_table(nodes: u32, result: &[u8]) {
@@ -80,7 +92,7 @@ fn print_table(nodes: u32, result: &[u8]) {
     io::print_decimal(STDOUT_FILENO, nodes as u64);
     io::write_all(STDOUT_FILENO, b" nodes ");
     if n <= result.len() {
-        pieces::print_bytes(&result[0..n]);
+        print_nodes(&result[0..n]);
         pieces::say_left(&result[n..result.len()], b" table left");
     }
 }
@@ -96,10 +108,10 @@ fn show_rewritten(r: Rewriting, result: &[u8]) {
 }
 
 // Rewrites and prints; the length of the rewritten table, 0 where it is refused.
-fn rewrite(cond: &[u8], sheet: &[u8], result: &mut [u8]) -> usize {
-    let r = rewrite_entry::rewrite(cond, sheet, result);
+fn rewrite(cond: &[u8], sheet: &[u8], edition: u32, result: &mut [u8]) -> usize {
+    let r = rewrite_entry::rewrite(cond, sheet, edition, result);
     show_rewritten(r, result);
-    pieces::say(!short_table_is_refused(cond, sheet), b" short buffer taken");
+    pieces::say(!short_table_is_refused(cond, sheet, edition), b" short buffer taken");
     io::write_all(STDOUT_FILENO, b"\n");
     NODE_BYTES * rewriting::nodes(r) as usize
 }
@@ -141,52 +153,60 @@ fn print_lists(site: &[u8], cond: &[u8], after: &[u8], table: &[u8], n: usize) {
     print_list_of(site, table, n);
 }
 
-fn short_through_is_refused(sheet: &[u8]) -> bool {
+fn short_through_is_refused(sheet: &[u8], edition: u32) -> bool {
     let mut result = [170u8; TABLE_BYTES - 1];
-    let r = rewrite_entry::through(sheet, &mut result);
+    let r = rewrite_entry::through(sheet, edition, &mut result);
     is_item_1(rewriting::verdict(r)) & (rewriting::nodes(r) == 0) & pieces::all_zero(&result)
 }
 
 // Makes the condition for going through and prints it; its length, 0 where it is refused.
-fn through(sheet: &[u8], result: &mut [u8]) -> usize {
+fn through(sheet: &[u8], edition: u32, result: &mut [u8]) -> usize {
     io::write_all(STDOUT_FILENO, b"through ");
-    let r = rewrite_entry::through(sheet, result);
+    let r = rewrite_entry::through(sheet, edition, result);
     show_rewritten(r, result);
-    pieces::say(!short_through_is_refused(sheet), b" short buffer taken");
+    pieces::say(!short_through_is_refused(sheet, edition), b" short buffer taken");
     io::write_all(STDOUT_FILENO, b"\n");
     NODE_BYTES * rewriting::nodes(r) as usize
 }
 
 // The list of the condition for going through on the site, where there is one.
-fn print_works(site: &[u8], sheet: &[u8], table: &mut [u8]) {
-    let n = through(sheet, table);
+fn print_works(site: &[u8], sheet: &[u8], edition: u32, table: &mut [u8]) {
+    let n = through(sheet, edition, table);
     if n > 0 {
         io::write_all(STDOUT_FILENO, b"works ");
         print_list_of(site, table, n);
     }
 }
 
-fn answer_in(site: &[u8], cond: &[u8], sheet: &[u8], after: &mut [u8], table: &mut [u8]) {
-    let applied = apply(site, sheet, after);
-    let n = rewrite(cond, sheet, table);
+fn answer_in(
+    site: &[u8],
+    cond: &[u8],
+    sheet: &[u8],
+    edition: u32,
+    after: &mut [u8],
+    table: &mut [u8],
+) {
+    let applied = apply(site, sheet, edition, after);
+    let n = rewrite(cond, sheet, edition, table);
     if applied & (n > 0) {
         print_lists(site, cond, after, table, n);
     }
-    print_works(site, sheet, table);
+    print_works(site, sheet, edition, table);
 }
 
-fn answer(site: &[u8], cond: &[u8], sheet: &[u8]) {
+fn answer(site: &[u8], cond: &[u8], sheet: &[u8], edition: u32) {
     let mut after = [170u8; SITE_BYTES];
     let mut table = [170u8; TABLE_BYTES];
-    answer_in(site, cond, sheet, &mut after, &mut table);
+    answer_in(site, cond, sheet, edition, &mut after, &mut table);
 }
 
-// Reads the sheet that stands behind a site and a condition, and prints the lines of the three.
+// Reads the sheet that stands behind a site and a condition, and the edition behind it, and prints the lines of the case.
 fn read_sheet(site: &[u8], cond: &[u8]) {
     let mut sheet = [0u8; ROOM];
     let piece = pieces::read(&mut sheet);
     let n = piece.len;
-    answer(site, cond, &sheet[0..n]);
+    let edition = pieces::read_number();
+    answer(site, cond, &sheet[0..n], edition);
 }
 
 // Reads the condition that stands behind a site.
@@ -197,7 +217,7 @@ fn read_condition(site: &[u8]) {
     read_sheet(site, &cond[0..n]);
 }
 
-// Reads one three and prints its lines; false at the end of the input.
+// Reads one case and prints its lines; false at the end of the input.
 fn next() -> bool {
     let mut site = [0u8; ROOM];
     let piece = pieces::read(&mut site);

@@ -12,27 +12,9 @@ use listing::WORK_BYTES;
 use pieces::ROOM;
 use site::SITE_BYTES;
 ghost use mathlib.Core.Path.{_≡_};
-ghost use Prim.Native.Nat.{_+_, _<_};
+ghost use Prim.Native.Nat.{_+_};
 ghost use lib.ListN.{length};
 ghost use Rattle.pieces.specs.Room.{room};
-
-// A number below 4,294,967,291, a prime.
-fn mixed(h: u64, x: u8) -> u64
-    requires { ⌜ h < 4294967291 ⌝ }
-    ensures { λ r. ⌜ r < 4294967291 ⌝ }
-{
-    (257 * h + x as u64 + 1) % 4294967291
-}
-
-fn checksum(bytes: &[u8]) -> u64 {
-    let mut h = 0;
-    let mut k = 0;
-    while k < bytes.len() {
-        h = mixed(h, bytes[k]);
-        k += 1;
-    }
-    h
-}
 
 fn print_word(word: &[u8], n: u64) {
     io::write_all(STDOUT_FILENO, word);
@@ -45,8 +27,8 @@ fn print_rounds(after: Found, today: Found) {
 }
 
 fn print_left(changed: &[u8], table: &[u8], classes: &[u8]) {
-    print_word(b" site ", checksum(changed));
-    print_word(b" table ", checksum(table));
+    print_word(b" site ", pieces::checksum(changed));
+    print_word(b" table ", pieces::checksum(table));
     io::write_all(STDOUT_FILENO, b" numbers ");
     pieces::print_bytes(classes);
     io::write_all(STDOUT_FILENO, b"\n");

@@ -6,7 +6,7 @@ use mathlib.Core.Bool.{cond}
 use Prim.Native.Nat.{ℕ, _-_}
 use lib.ListN.{length}
 use Rattle.limits.specs.Limits.{everyWay}
-use Rattle.semantics.specs.Edit.{Edit, CN1, CN2, AP, DP, AT, DT1, DT2, AS, DS, functional}
+use Rattle.semantics.specs.Edit.{Edit, CN1, CN2, AP, DP, AT, RT, DT1, DT2, AS, DS, functional}
 use Rattle.semantics.specs.Table.{kTrue, kHere, kSlot, Node}
 use Rattle.semantics.specs.Block.{Block, old, end, emit, nm, no!, _&_, _or_, ⟨_⟩_, rewriteTable, Pass, passed}
 
@@ -19,13 +19,14 @@ abbrev pub freeOrThere : ℕ → ℕ → ℕ → Block
 freeOrThere m n1 n2 = no! (⟨ everyWay ⟩ (nm n1 & (⟨ m ⟩ end kTrue 0))) or (⟨ everyWay ⟩ (nm n1 & (⟨ m ⟩ nm n2)))
 
 -- an edit's own condition, and none where it always goes through. AT: n1 nil & <E> ! n2 nil & <E> ! &, for links 4 to 7 followed by
--- n1 t <m> & <E> ! n1 n2 <m> & <E> | &. AS: h k & <E> !. DS: n nil & <E> !
+-- n1 t <m> & <E> ! n1 n2 <m> & <E> | &, which falls away for RT. AS: h k & <E> !. DS: n nil & <E> !
 unfoldable pub own : Edit → Option Block
 own (CN1 n1 n2) = none
 own (CN2 n1 n2 f) = none
 own (AP n p) = none
 own (DP n p) = none
 own (AT m n1 n2) = some (cond (functional m) (neitherNil n1 n2 & freeOrThere m n1 n2) (neitherNil n1 n2))
+own (RT f n1 n2) = some (neitherNil n1 n2)
 own (DT1 m n1 n2) = none
 own (DT2 f n) = none
 own (AS n k) = some (no! (⟨ everyWay ⟩ (end kHere 0 & end kSlot k)))

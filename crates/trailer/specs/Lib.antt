@@ -1,4 +1,4 @@
--- The job file: its layout, item 2, and its pieces.
+-- The job file: its layout, items 2 and 18, and its pieces.
 pub mod File
 pub mod Refusal
 pub mod Pieces

@@ -13,7 +13,7 @@ enum-told : tie.Need-enum-told
 enum-told c = search needs
 
 apply-requires : tie.Need-apply-requires
-apply-requires c κs = let a = c .before .before .before .before .before .before .before .args in judged-accepted _ (a .site .now) (a .sheet .now) (sym (c .before .before .before .judge .ensures) ∙ c .before .enum-told .given .1)
+apply-requires c κs = let a = c .before .before .before .before .before .before .before .args in judged-accepted (a .edition) _ (a .site .now) (a .sheet .now) (sym (c .before .before .before .judge .ensures) ∙ c .before .enum-told .given .1)
 
 enum-known-v : tie.Need-enum-known-v
 enum-known-v c = search needs

@@ -13,6 +13,7 @@ use Rattle.site.specs.Layout.{siteBytes}
 use Rattle.site.specs.Site.{siteOf}
 use Rattle.site.specs.Refusal.{siteVerdict}
 use Rattle.site.specs.Laws.Same.{same-site}
+use Rattle.editions.specs.Edition.{editionVerdict}
 use Rattle.sheet.specs.Bytes.{editsOf}
 use Rattle.sheet.specs.Refusal.{sheetVerdict}
 use Rattle.applying.specs.Refusal.{goesVerdict}
@@ -27,69 +28,75 @@ use Rattle.apply_entry.specs.Inputs.{inputVerdict}
 
 -- ---- the inputs are judged
 
-module _ (n : ℕ) (site sheet : List ℕ) where
-  pub judged-result : n ≢ siteBytes → Refused 1 0 ≡ inputVerdict n site sheet
+-- by two checks, the second where the first accepts
+module _ {u v : Verdict} (f : v ≡ u) where
+  pub judged-first : (w : Verdict) {item k : ℕ} → v ≡ Refused item k → Refused item k ≡ (u then w)
+  judged-first w g = rw (sym f ∙ g)
+
+  pub judged-second : v ≡ Accepted → {w r : Verdict} → r ≡ w → r ≡ (u then w)
+  judged-second g h = rw (sym f ∙ g) h
+
+module _ (edition n : ℕ) (site sheet : List ℕ) where
+  pub judged-result : n ≢ siteBytes → Refused 1 0 ≡ inputVerdict edition n site sheet
   unfolding inputVerdict
   judged-result h = rw (buffer-not h)
 
-  module _ (e : n ≡ siteBytes) {v : Verdict} (f : v ≡ siteVerdict site) where
-    pub judged-site : {item w : ℕ} → v ≡ Refused item w → Refused item w ≡ inputVerdict n site sheet
-    unfolding inputVerdict
-    judged-site g = rw (buffer-in e, sym f ∙ g)
-
-    pub judged-sheet : v ≡ Accepted → {r : Verdict} → r ≡ sheetVerdict sheet → r ≡ inputVerdict n site sheet
-    unfolding inputVerdict
-    judged-sheet g h = rw (buffer-in e, sym f ∙ g) h
+  pub judged-rest : n ≡ siteBytes → {r : Verdict} → r ≡ (editionVerdict edition then siteVerdict site then sheetVerdict sheet)
+      → r ≡ inputVerdict edition n site sheet
+  unfolding inputVerdict
+  judged-rest e h = rw (buffer-in e) h
 
   -- what is known of accepted ones, as applying requires it
-  pub judged-accepted : inputVerdict n site sheet ≡ Accepted → (siteVerdict site ≡ Accepted) × ((sheetVerdict sheet ≡ Accepted) × (n ≡ siteBytes))
+  pub judged-accepted : inputVerdict edition n site sheet ≡ Accepted → (siteVerdict site ≡ Accepted) × ((sheetVerdict sheet ≡ Accepted) × (n ≡ siteBytes))
   unfolding inputVerdict
   judged-accepted j =
       let p = then-out (bufferVerdict n siteBytes) _ j in
-      let q = then-out (siteVerdict site) (sheetVerdict sheet) (p .1) in
+      let d = then-out (editionVerdict edition) _ (p .1) in
+      let q = then-out (siteVerdict site) (sheetVerdict sheet) (d .1) in
       (q .0, (q .1, buffer-out n siteBytes (p .0)))
 
   -- item 13 comes last
-  verdict-last : applyVerdict n site sheet ≡ (inputVerdict n site sheet then goesVerdict (editsOf sheet) (siteOf site))
+  verdict-last : applyVerdict edition n site sheet ≡ (inputVerdict edition n site sheet then goesVerdict (editsOf edition sheet) (siteOf site))
   unfolding applyVerdict inputVerdict
   verdict-last =
+      let d = editionVerdict edition in
       let s = siteVerdict site in
       let e = sheetVerdict sheet in
-      let g = goesVerdict (editsOf sheet) (siteOf site) in
-      rw (then-assoc (bufferVerdict n siteBytes) (s then e) g, then-assoc s e g)
+      let g = goesVerdict (editsOf edition sheet) (siteOf site) in
+      rw (then-assoc (bufferVerdict n siteBytes) (d then s then e) g, then-assoc d (s then e) g, then-assoc s e g)
 
 -- ---- applying answers
 
 -- the sheet went through
-pub site-written : {site sheet result′ : List ℕ} {r : Verdict} → Applies site sheet result′ r → r ≡ Accepted → Bytes result′
-    → SiteWritten site sheet result′
-site-written {site} {sheet} a e b =
-    record { size = a .long; bytes = b; effects = a .left (goes-out (editsOf sheet) (siteOf site) (sym (a .answer) ∙ e)) }
+pub site-written : {edition : ℕ} {site sheet result′ : List ℕ} {r : Verdict} → Applies edition site sheet result′ r → r ≡ Accepted → Bytes result′
+    → SiteWritten edition site sheet result′
+site-written {edition} {site} {sheet} a e b =
+    record { size = a .long; bytes = b; effects = a .left (goes-out (editsOf edition sheet) (siteOf site) (sym (a .answer) ∙ e)) }
 
-after : (site sheet result result′ : List ℕ) (r : Verdict) → Applies site sheet result′ r → Bytes result′ → length result ≡ siteBytes
-    → SiteAfter r site sheet result result′
+after : (edition : ℕ) (site sheet result result′ : List ℕ) (r : Verdict) → Applies edition site sheet result′ r → Bytes result′ → length result ≡ siteBytes
+    → SiteAfter edition r site sheet result result′
 unfolding SiteAfter
-after site sheet result result′ Accepted a b l = site-written a refl b
-after site sheet result result′ (Refused item w) a b l =
-    a .zeros (goes-not (editsOf sheet) (siteOf site) (sym (a .answer))) ∙ ap (λ (n : ℕ). replicate {A = ℕ} n 0) (sym l)
+after edition site sheet result result′ Accepted a b l = site-written a refl b
+after edition site sheet result result′ (Refused item w) a b l =
+    a .zeros (goes-not (editsOf edition sheet) (siteOf site) (sym (a .answer))) ∙ ap (λ (n : ℕ). replicate {A = ℕ} n 0) (sym l)
 
-module _ {site sheet result result′ : List ℕ} {v : Verdict} (j : v ≡ inputVerdict (length result) site sheet) where
-  pub answered-applied : v ≡ Accepted → {r : Verdict} → Applies site sheet result′ r → Bytes result′ → ApplyAnswered site sheet result result′ r
+module _ {edition : ℕ} {site sheet result result′ : List ℕ} {v : Verdict} (j : v ≡ inputVerdict edition (length result) site sheet) where
+  pub answered-applied : v ≡ Accepted → {r : Verdict} → Applies edition site sheet result′ r → Bytes result′ → ApplyAnswered edition site sheet result result′ r
   answered-applied e {r} a b =
       let p = sym j ∙ e in
       record {
-        verdict = a .answer ∙ sym (verdict-last (length result) site sheet ∙ rw p);
-        left = after site sheet result result′ r a b (judged-accepted (length result) site sheet p .1 .1);
+        verdict = a .answer ∙ sym (verdict-last edition (length result) site sheet ∙ rw p);
+        left = after edition site sheet result result′ r a b (judged-accepted edition (length result) site sheet p .1 .1);
       }
 
   pub answered-refused : {item w : ℕ} → v ≡ Refused item w → {r : Verdict} → r ≡ Refused item w → result′ ≡ replicate (length result) 0
-      → ApplyAnswered site sheet result result′ r
+      → ApplyAnswered edition site sheet result result′ r
   unfolding SiteAfter
-  answered-refused e f z = rw f (record { verdict = sym (verdict-last (length result) site sheet ∙ rw (sym j ∙ e)); left = z })
+  answered-refused e f z = rw f (record { verdict = sym (verdict-last edition (length result) site sheet ∙ rw (sym j ∙ e)); left = z })
 
 -- ---- no byte of the site after is left free
 
-pub site-fixed : (site sheet result R S : List ℕ) → SiteAfter Accepted site sheet result R → SiteAfter Accepted site sheet result S
+pub site-fixed : (edition : ℕ) (site sheet result R S : List ℕ) → SiteAfter edition Accepted site sheet result R → SiteAfter edition Accepted site sheet result S
     → R ≡ S
 unfolding SiteAfter
-site-fixed site sheet result R S p q = same-site R S (p .bytes) (q .bytes) (p .effects ∙ sym (q .effects)) (p .size) (q .size)
+site-fixed edition site sheet result R S p q = same-site R S (p .bytes) (q .bytes) (p .effects ∙ sym (q .effects)) (p .size) (q .size)

@@ -19,10 +19,10 @@ run-requires c κs = let s = c .before .before .before .before .before .before .
 zero-requires : tie.Need-zero-requires
 zero-requires c κs = search needs
 
-cast-t16 : tie.Need-cast-t16
-cast-t16 c =
+cast-t17 : tie.Need-cast-t17
+cast-t17 c =
     let s = c .before .before .before .before .before .before .before .before .before .before .before .before .before .before .before .before in
-    omega (arith, edits-length (s .args .sheet .now), accepted-sheet (s .args .sheet .now) (s .pre .1 .0) .few)
+    omega (arith, edits-length (s .args .edition) (s .args .sheet .now), accepted-sheet (s .args .edition) (s .args .sheet .now) (s .pre .1 .0) .few)
 
 same-length : tie.Need-same-length
 same-length c = omega arith
@@ -52,7 +52,7 @@ apply-spec =
     copy-requires
     run-requires
     zero-requires
-    cast-t16
+    cast-t17
     same-length
     returns
     same-length-2

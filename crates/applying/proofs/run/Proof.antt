@@ -9,13 +9,13 @@ use Rattle.applying.proofs.run.Statement.{statement}
 use Rattle.applying.proofs.run.Tie as tie
 
 abbrev Inv-loop : tie.InvT-loop
-Inv-loop site₀ sheet n k₀ site k = Progress site₀ sheet site k
+Inv-loop site₀ sheet edition n k₀ site k = Progress edition site₀ sheet site k
 
 abbrev μ-loop : tie.MeasureT-loop
-μ-loop site₀ sheet n k₀ site k = n - k
+μ-loop site₀ sheet edition n k₀ site k = n - k
 
 loop-holds : tie.Need-loop-holds Inv-loop μ-loop
-loop-holds c = let s = c .before .before in run-start (s .args .site .now) (s .args .sheet .now) (s .pre .0)
+loop-holds c = let s = c .before .before in run-start (s .args .edition) (s .args .site .now) (s .args .sheet .now) (s .pre .0)
 
 edit-at-requires : tie.Need-edit-at-requires Inv-loop μ-loop
 edit-at-requires c κs = omega arith
@@ -23,7 +23,7 @@ edit-at-requires c κs = omega arith
 goes-through-requires : tie.Need-goes-through-requires Inv-loop μ-loop
 goes-through-requires c κs = let s = c .before .before .before .before .before .before in
     let l = c .before .before .before .loop in
-    (l .inv .long, rw (c .before .edit-at .ensures) (accepted-at (s .args .sheet .now) (s .pre .1) (l .k) (c .before .before .loop-test .taken)))
+    (l .inv .long, rw (c .before .edit-at .ensures) (accepted-at (s .args .edition) (s .args .sheet .now) (s .pre .1) (l .k) (c .before .before .loop-test .taken)))
 
 same-length : tie.Need-same-length Inv-loop μ-loop
 same-length c = omega arith
@@ -35,7 +35,7 @@ apply-edit-requires : tie.Need-apply-edit-requires Inv-loop μ-loop
 apply-edit-requires c κs =
     let s = c .before .before .before .before .before .before .before .before .before in
     let l = c .before .before .before .before .before .before .loop in
-    (l .inv .long, (rw (c .before .before .before .before .edit-at .ensures) (accepted-at (s .args .sheet .now) (s .pre .1) (l .k) (c .before .before .before .before .before .loop-test .taken)), sym (c .before .before .goes-through .ensures) ∙ not-false _ (c .before .if1 .left)))
+    (l .inv .long, (rw (c .before .before .before .before .edit-at .ensures) (accepted-at (s .args .edition) (s .args .sheet .now) (s .pre .1) (l .k) (c .before .before .before .before .before .loop-test .taken)), sym (c .before .before .goes-through .ensures) ∙ not-false _ (c .before .if1 .left)))
 
 add-k : tie.Need-add-k Inv-loop μ-loop
 add-k c = omega arith

@@ -15,11 +15,11 @@ use Rattle.sheet.specs.Bytes.{editsOf}
 use Rattle.sheet.specs.Refusal.{sheetVerdict}
 use Rattle.sheet.specs.Laws.Accepted.{accepted-sheet}
 
-pub after-accepted : (site sheet after : List ℕ) → siteVerdict site ≡ Accepted → sheetVerdict sheet ≡ Accepted
-    → edits.sheetGoes (editsOf sheet) (siteOf site) ≡ true → length after ≡ siteBytes → siteOf after ≡ edits.sheet (editsOf sheet) (siteOf site)
+pub after-accepted : (edition : ℕ) (site sheet after : List ℕ) → siteVerdict site ≡ Accepted → sheetVerdict sheet ≡ Accepted
+    → edits.sheetGoes (editsOf edition sheet) (siteOf site) ≡ true → length after ≡ siteBytes → siteOf after ≡ edits.sheet (editsOf edition sheet) (siteOf site)
     → siteVerdict after ≡ Accepted
-after-accepted site sheet after a b g l e =
+after-accepted edition site sheet after a b g l e =
     site-valid after .1 (
       l,
-      subst edits.Valid (sym e) (sheet-valid (editsOf sheet) (accepted-sheet sheet b .are-legal) (siteOf site) (site-valid site .0 a .1) g),
+      subst edits.Valid (sym e) (sheet-valid (editsOf edition sheet) (accepted-sheet edition sheet b .are-legal) (siteOf site) (site-valid site .0 a .1) g),
     )

@@ -30,31 +30,31 @@ unfolding stuckAt
 stuck-here e es M g = rw g
 
 -- the first k edits went through and left the bytes R
-pub record Progress (S s R : List ℕ) (k : ℕ) : Type 0 where
-  pub far : stuckAt (editsOf s) (siteOf S) ≡ k + stuckAt (drop k (editsOf s)) (siteOf R)
-  pub whole : sheet (editsOf s) (siteOf S) ≡ sheet (drop k (editsOf s)) (siteOf R)
+pub record Progress (edition : ℕ) (S s R : List ℕ) (k : ℕ) : Type 0 where
+  pub far : stuckAt (editsOf edition s) (siteOf S) ≡ k + stuckAt (drop k (editsOf edition s)) (siteOf R)
+  pub whole : sheet (editsOf edition s) (siteOf S) ≡ sheet (drop k (editsOf edition s)) (siteOf R)
   pub long : length R ≡ siteBytes
   pub upto : k ≤ length s / 4
 
-pub run-start : (S s : List ℕ) → length S ≡ siteBytes → Progress S s S 0
-run-start S s l = record { far = omega arith; whole = refl; long = l; upto = omega arith }
+pub run-start : (edition : ℕ) (S s : List ℕ) → length S ≡ siteBytes → Progress edition S s S 0
+run-start edition S s l = record { far = omega arith; whole = refl; long = l; upto = omega arith }
 
-module _ {S s R : List ℕ} {k : ℕ} (p : Progress S s R k) where
-  module _ {e : Edit} (q : e ≡ editAt s k) (h : k < length s / 4) where
+module _ {edition : ℕ} {S s R : List ℕ} {k : ℕ} (p : Progress edition S s R k) where
+  module _ {e : Edit} (q : e ≡ editAt edition s k) (h : k < length s / 4) where
     -- what is left of the sheet begins with the edit e
-    ahead : drop k (editsOf s) ≡ e ∷ drop (suc k) (editsOf s)
-    ahead = edits-drop s k h ∙ ap (λ (x : Edit). x ∷ drop (suc k) (editsOf s)) (sym q)
+    ahead : drop k (editsOf edition s) ≡ e ∷ drop (suc k) (editsOf edition s)
+    ahead = edits-drop edition s k h ∙ ap (λ (x : Edit). x ∷ drop (suc k) (editsOf edition s)) (sym q)
 
-    pub run-more : goes e (siteOf R) ≡ true → {R′ : List ℕ} → siteOf R′ ≡ edit e (siteOf R) → length R′ ≡ siteBytes → Progress S s R′ (k + 1)
+    pub run-more : goes e (siteOf R) ≡ true → {R′ : List ℕ} → siteOf R′ ≡ edit e (siteOf R) → length R′ ≡ siteBytes → Progress edition S s R′ (k + 1)
     unfolding sheet
     run-more g {R′} d l =
-        let ds : List Edit = drop (suc k) (editsOf s) in
-        let f : stuckAt (drop k (editsOf s)) (siteOf R) ≡ suc (stuckAt ds (siteOf R′)) =
+        let ds : List Edit = drop (suc k) (editsOf edition s) in
+        let f : stuckAt (drop k (editsOf edition s)) (siteOf R) ≡ suc (stuckAt ds (siteOf R′)) =
         ap (λ (es : List Edit). stuckAt es (siteOf R)) ahead
         ∙ stuck-on e ds (siteOf R) g
         ∙ ap (λ (N : Model). suc (stuckAt ds N)) (sym d)
         in
-        let u : k + stuckAt (drop k (editsOf s)) (siteOf R) ≡ suc k + stuckAt ds (siteOf R′) = omega (arith, f) in
+        let u : k + stuckAt (drop k (editsOf edition s)) (siteOf R) ≡ suc k + stuckAt ds (siteOf R′) = omega (arith, f) in
         record {
           far = rw (add-one k) (p .far ∙ u);
           whole = rw (add-one k) (p .whole ∙ ap (λ (es : List Edit). sheet es (siteOf R)) ahead ∙ ap (λ (N : Model). sheet ds N) (sym d));
@@ -62,19 +62,19 @@ module _ {S s R : List ℕ} {k : ℕ} (p : Progress S s R k) where
           upto = omega arith;
         }
 
-    pub run-stop : goes e (siteOf R) ≡ false → Ran S s R k
+    pub run-stop : goes e (siteOf R) ≡ false → Ran edition S s R k
     run-stop g =
-        let z : stuckAt (drop k (editsOf s)) (siteOf R) ≡ 0 =
-        ap (λ (es : List Edit). stuckAt es (siteOf R)) ahead ∙ stuck-here e (drop (suc k) (editsOf s)) (siteOf R) g
+        let z : stuckAt (drop k (editsOf edition s)) (siteOf R) ≡ 0 =
+        ap (λ (es : List Edit). stuckAt es (siteOf R)) ahead ∙ stuck-here e (drop (suc k) (editsOf edition s)) (siteOf R) g
         in
-        record { far = omega (arith, z, p .far); whole = λ u. absurd (omega (arith, u, edits-length s)) }
+        record { far = omega (arith, z, p .far); whole = λ u. absurd (omega (arith, u, edits-length edition s)) }
 
-  pub run-end : length s / 4 ≤ k → Ran S s R k
+  pub run-end : length s / 4 ≤ k → Ran edition S s R k
   unfolding stuckAt sheet
   run-end h =
-      let n : length (editsOf s) ≤ k = omega (arith, edits-length s) in
-      let d : drop k (editsOf s) ≡ [] = drop-of-length-le (editsOf s) n in
-      let z : stuckAt (drop k (editsOf s)) (siteOf R) ≡ 0 = ap (λ (es : List Edit). stuckAt es (siteOf R)) d in
+      let n : length (editsOf edition s) ≤ k = omega (arith, edits-length edition s) in
+      let d : drop k (editsOf edition s) ≡ [] = drop-of-length-le (editsOf edition s) n in
+      let z : stuckAt (drop k (editsOf edition s)) (siteOf R) ≡ 0 = ap (λ (es : List Edit). stuckAt es (siteOf R)) d in
       record { far = omega (arith, z, p .far); whole = λ u. sym (p .whole ∙ ap (λ (es : List Edit). sheet es (siteOf R)) d) }
 
 -- a sheet goes through just where it is stuck nowhere
@@ -95,29 +95,29 @@ stuck-goes (e ∷ es) M =
         (λ p. let h = below-out (suc m) (suc n) p in below-in m n (omega arith))
 
 -- the edits ran on a copy S₀ of the site S
-module _ {S S₀ s R : List ℕ} {w : ℕ} (c : S₀ ≡ S) (r : Ran S₀ s R w) where
-  on-site : Ran S s R w
+module _ {edition : ℕ} {S S₀ s R : List ℕ} {w : ℕ} (c : S₀ ≡ S) (r : Ran edition S₀ s R w) where
+  on-site : Ran edition S s R w
   on-site = rw c at r
 
   -- the sheet goes through just where all its edits ran
-  through : sheetGoes (editsOf s) (siteOf S) ≡ not (below w (length s / 4))
-  through = stuck-goes (editsOf s) (siteOf S) .0 ∙ ap₂ (λ (a b : ℕ). not (below a b)) (sym (on-site .far)) (edits-length s)
+  through : sheetGoes (editsOf edition s) (siteOf S) ≡ not (below w (length s / 4))
+  through = stuck-goes (editsOf edition s) (siteOf S) .0 ∙ ap₂ (λ (a b : ℕ). not (below a b)) (sym (on-site .far)) (edits-length edition s)
 
-  pub ran-through : length R ≡ siteBytes → length s / 4 ≤ w → Applies S s R Accepted
+  pub ran-through : length R ≡ siteBytes → length s / 4 ≤ w → Applies edition S s R Accepted
   unfolding goesVerdict
   ran-through l h =
-      let g : sheetGoes (editsOf s) (siteOf S) ≡ true = through ∙ ap not (below-not w (length s / 4) h) in
+      let g : sheetGoes (editsOf edition s) (siteOf S) ≡ true = through ∙ ap not (below-not w (length s / 4) h) in
       record {
         answer = rw g;
-        left = λ u. on-site .whole (omega (arith, edits-length s));
+        left = λ u. on-site .whole (omega (arith, edits-length edition s));
         zeros = λ u. clash g u;
         long = l;
       }
 
-  pub ran-stuck : length R ≡ siteBytes → w < length s / 4 → {Z : List ℕ} → Z ≡ replicate (length R) 0 → Applies S s Z (Refused 13 w)
+  pub ran-stuck : length R ≡ siteBytes → w < length s / 4 → {Z : List ℕ} → Z ≡ replicate (length R) 0 → Applies edition S s Z (Refused 13 w)
   unfolding goesVerdict
   ran-stuck l h z =
-      let g : sheetGoes (editsOf s) (siteOf S) ≡ false = through ∙ ap not (below-in w (length s / 4) h) in
+      let g : sheetGoes (editsOf edition s) (siteOf S) ≡ false = through ∙ ap not (below-in w (length s / 4) h) in
       record {
         answer = rw g (ap (Refused 13) (on-site .far));
         left = λ u. clash u g;

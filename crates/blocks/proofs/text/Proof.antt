@@ -11,7 +11,7 @@ use Rattle.blocks.proofs.text.Statement.{statement}
 use Rattle.blocks.proofs.text.Tie as tie
 
 -- the row behind all those that an arm names
-last-row : (n : ℕ) → 34 ≤ n → n ≤ 34 → n ≡ 34
+last-row : (n : ℕ) → 38 ≤ n → n ≤ 38 → n ≡ 38
 last-row n g h = omega arith
 
 pub text-spec : {M : Type 1} → statement M
@@ -40,4 +40,8 @@ text-spec =
     (λ c. rw (c .match .keys19) refl)
     (λ c. rw (c .match .keys20) refl)
     (λ c. rw (c .match .keys21) refl)
-    (λ c. rw (last-row _ (missed 13 21 _ (c .match .rest) (omega arith)) (omega arith)) refl))
+    (λ c. rw (c .match .keys22) refl)
+    (λ c. rw (c .match .keys23) refl)
+    (λ c. rw (c .match .keys24) refl)
+    (λ c. rw (c .match .keys25) refl)
+    (λ c. rw (last-row _ (missed 13 25 _ (c .match .rest) (omega arith)) (omega arith)) refl))

@@ -21,6 +21,7 @@ use Rattle.semantics.specs.Table.{Node}
 use Rattle.semantics.specs.Block.{rewriteTable}
 use Rattle.rounds.specs.Makes.{Makes}
 use Rattle.rounds.specs.Laws.Exact.{makes-unique}
+use Rattle.editions.specs.Edition.{editionVerdict}
 use Rattle.condition.specs.Bytes.{tableOf, bytesOf}
 use Rattle.condition.specs.Refusal.{conditionVerdict}
 use Rattle.condition.specs.Laws.Bytes.{length-table}
@@ -33,7 +34,7 @@ use Rattle.rewriting.specs.Refusal.{tooLong, lengthVerdict}
 use Rattle.rewriting.specs.Rewriting.{rewritten, TableAfter}
 use Rattle.rewriting.specs.Laws.Grow.{table-grows, too-long-end}
 use Rattle.refusals.specs.Refusal.{bufferVerdict, limitVerdict, roundsVerdict}
-use Rattle.refusals.specs.Laws.Items.{buffer-in, limit-in, Numbered, numbered-then, numbered-buffer, numbered-limit, numbered-rounds, numbered-site, numbered-condition, numbered-sheet, numbered-goes}
+use Rattle.refusals.specs.Laws.Items.{buffer-in, limit-in, Numbered, numbered-then, numbered-buffer, numbered-limit, numbered-rounds, numbered-edition, numbered-site, numbered-condition, numbered-sheet, numbered-goes}
 use Rattle.list_entry.specs.Refusal.{listInputs, listVerdict}
 use Rattle.list_entry.specs.Laws.Refusal.{Accepts}
 use Rattle.apply_entry.specs.Refusal.{applyVerdict}
@@ -50,15 +51,15 @@ use Rattle.desk.specs.Returned.{Returned}
 
 -- ---- a rewritten table fits exactly if it was too long after no edit: it never gets shorter
 
-module _ (table sheet : List ℕ) (a : conditionVerdict table ≡ Accepted) where
-  at-end : tooLong rewriteTable (editsOf sheet) (tableOf table) ≡ below tableNodes (length (rewritten table sheet))
-  at-end = too-long-end rewriteTable table-grows (editsOf sheet) (tableOf table) (omega (arith, accepted-sound table a .few, length-table table))
+module _ (edition : ℕ) (table sheet : List ℕ) (a : conditionVerdict table ≡ Accepted) where
+  at-end : tooLong rewriteTable (editsOf edition sheet) (tableOf table) ≡ below tableNodes (length (rewritten edition table sheet))
+  at-end = too-long-end rewriteTable table-grows (editsOf edition sheet) (tableOf table) (omega (arith, accepted-sound table a .few, length-table table))
 
-  pub fits-short : length (rewritten table sheet) ≤ tableNodes → tooLong rewriteTable (editsOf sheet) (tableOf table) ≡ false
-  fits-short h = at-end ∙ below-not tableNodes (length (rewritten table sheet)) h
+  pub fits-short : length (rewritten edition table sheet) ≤ tableNodes → tooLong rewriteTable (editsOf edition sheet) (tableOf table) ≡ false
+  fits-short h = at-end ∙ below-not tableNodes (length (rewritten edition table sheet)) h
 
-  pub short-fits : tooLong rewriteTable (editsOf sheet) (tableOf table) ≡ false → length (rewritten table sheet) ≤ tableNodes
-  short-fits h = not-below tableNodes (length (rewritten table sheet)) (sym at-end ∙ h)
+  pub short-fits : tooLong rewriteTable (editsOf edition sheet) (tableOf table) ≡ false → length (rewritten edition table sheet) ≤ tableNodes
+  short-fits h = not-below tableNodes (length (rewritten edition table sheet)) (sym at-end ∙ h)
 
 -- ---- what an accepted call returns, and the table that one leaves
 
@@ -84,17 +85,17 @@ unfolding listInputs
 list-accepted setLen workLen limit site table a =
     rw (buffer-in (a .set-size), buffer-in (a .work-size), limit-in (a .limit-fits), a .site-accepted) (a .table-accepted)
 
-pub apply-accepted : (resultLen : ℕ) (site sheet : List ℕ) → Appliable resultLen site sheet → applyVerdict resultLen site sheet ≡ Accepted
+pub apply-accepted : (edition resultLen : ℕ) (site sheet : List ℕ) → Appliable edition resultLen site sheet → applyVerdict edition resultLen site sheet ≡ Accepted
 unfolding applyVerdict goesVerdict
-apply-accepted resultLen site sheet a = rw (buffer-in (a .result-size), a .site-accepted, a .sheet-accepted, a .goes)
+apply-accepted edition resultLen site sheet a = rw (buffer-in (a .result-size), a .edition-accepted, a .site-accepted, a .sheet-accepted, a .goes)
 
-pub rewrite-accepted : (resultLen : ℕ) (table sheet : List ℕ) → Rewritable resultLen table sheet → rewriteVerdict resultLen table sheet ≡ Accepted
+pub rewrite-accepted : (edition resultLen : ℕ) (table sheet : List ℕ) → Rewritable edition resultLen table sheet → rewriteVerdict edition resultLen table sheet ≡ Accepted
 unfolding rewriteVerdict lengthVerdict
-rewrite-accepted resultLen table sheet a = rw (buffer-in (a .result-size), a .table-accepted, a .sheet-accepted, a .short)
+rewrite-accepted edition resultLen table sheet a = rw (buffer-in (a .result-size), a .edition-accepted, a .table-accepted, a .sheet-accepted, a .short)
 
-pub through-accepted : (resultLen : ℕ) (sheet : List ℕ) → Throughable resultLen sheet → throughVerdict resultLen sheet ≡ Accepted
+pub through-accepted : (edition resultLen : ℕ) (sheet : List ℕ) → Throughable edition resultLen sheet → throughVerdict edition resultLen sheet ≡ Accepted
 unfolding throughVerdict lengthVerdict
-through-accepted resultLen sheet a = rw (buffer-in (a .result-size), a .sheet-accepted, a .short)
+through-accepted edition resultLen sheet a = rw (buffer-in (a .result-size), a .edition-accepted, a .sheet-accepted, a .short)
 
 pub classes-accepted : (classesLen : ℕ) (site : List ℕ) → classes.Accepts classesLen site → classesVerdict classesLen site ≡ Accepted
 unfolding classesVerdict
@@ -102,7 +103,7 @@ classes-accepted classesLen site a = rw (buffer-in (a .classes-size)) (a .site-a
 
 pub job-accepted : (b : Buffers) (limit : ℕ) (file : List ℕ) → JobAccepted b limit file → jobInputs b limit file ≡ Accepted
 unfolding jobInputs
-job-accepted b limit file a = rw (sized-in b (a .sized), limit-in (a .limit-fits), a .trailer-accepted) (pieces-in _ _ _ (a .pieces))
+job-accepted b limit file a = rw (sized-in b (a .sized), limit-in (a .limit-fits), a .trailer-accepted) (pieces-in _ _ _ _ (a .pieces))
 
 -- ---- the numbers of the items; of rewriting and the condition for going through `rewrite-numbered` and `through-numbered` say it
 
@@ -119,12 +120,13 @@ unfolding listVerdict
 list-numbered setLen workLen limit site table n =
     numbered-then (listInputs setLen workLen limit site table) (roundsVerdict limit n) (list-inputs-numbered setLen workLen limit site table) (numbered-rounds limit n)
 
-pub apply-numbered : (resultLen : ℕ) (site sheet : List ℕ) → Numbered (applyVerdict resultLen site sheet)
+pub apply-numbered : (edition resultLen : ℕ) (site sheet : List ℕ) → Numbered (applyVerdict edition resultLen site sheet)
 unfolding applyVerdict
-apply-numbered resultLen site sheet =
+apply-numbered edition resultLen site sheet =
     numbered-then (bufferVerdict resultLen siteBytes) _ (numbered-buffer resultLen siteBytes)
+    (numbered-then (editionVerdict edition) _ (numbered-edition edition)
     (numbered-then (siteVerdict site) _ (numbered-site site)
-    (numbered-then (sheetVerdict sheet) _ (numbered-sheet sheet) (numbered-goes (editsOf sheet) (siteOf site))))
+    (numbered-then (sheetVerdict sheet) _ (numbered-sheet sheet) (numbered-goes (editsOf edition sheet) (siteOf site)))))
 
 pub classes-numbered : (classesLen : ℕ) (site : List ℕ) → Numbered (classesVerdict classesLen site)
 unfolding classesVerdict

@@ -38,7 +38,7 @@ use Rattle.demands.specs.Demands.{ListCall}
 use Rattle.demands.specs.Rounds.{Listable}
 use Rattle.demands.specs.Chain.{ChainCall, Startable, ChainRefused, leadsBytes, Apart, ChainExact, SameChain, DemandChain}
 use Rattle.demands.specs.Laws.Demands.{list-reason, listed}
-use Rattle.demands.specs.Laws.Early.{UpTo, not-early, list-early}
+use Rattle.demands.specs.Laws.Early.{not-early, list-early}
 use Rattle.demands.specs.Laws.Same.{same-zeros}
 
 -- ---- which calls are refused: buffers of the stated lengths meet no item 1
@@ -84,7 +84,7 @@ module _ {site table : List ℕ} {way start : ℕ} (c : ChainCall site table way
   late-out : c .reason ≡ 17 → Listable site table × ¬ Startable site way start
   late-out e =
       let r = sym (ap reasonOf due-is) ∙ sym (c .returned .reason-is) ∙ e in
-      let v = not-early (pairVerdict site table) (startVerdict (siteOf site) way start) (list-early site table) (omega arith) r in
+      let v = not-early (pairVerdict site table) (startVerdict (siteOf site) way start) (list-early (omega arith) site table) r in
       let a = listable-out v in
       (a, λ s. absurd (omega (arith, e, c .returned .reason-is ∙ ap reasonOf (listable-in a ∙ startable-in site way start s))))
 

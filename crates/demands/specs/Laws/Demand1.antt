@@ -18,6 +18,7 @@ use Rattle.sheet.specs.Bytes.{editsOf}
 use Rattle.rewriting.specs.Rewriting.{TableAfter, rewritten}
 use Rattle.rewrite_entry.specs.Laws.Refusal.{rewrite-numbered, through-numbered}
 use Rattle.classes_entry.specs.Classing.{ClassesAfter}
+use Rattle.trailer.specs.Refusal.{editionIn}
 use Rattle.trailer.specs.Pieces.{siteIn, conditionIn, sheetIn}
 use Rattle.job_run.specs.Job.{JobAfter}
 use Rattle.desk.specs.Returned.{Returned}
@@ -41,7 +42,7 @@ answers After f z (Refused item k) n r = record {
 demand-1-job : Demand1Job
 unfolding Demand1Job SiteAfter TableAfter SetAfter ClassesAfter
 demand-1-job limit file b b′ reason fault after today nodes classes r =
-    answers (λ v. JobAfter v (siteIn file) (conditionIn file) (sheetIn file) b b′ after today nodes classes)
+    answers (λ v. JobAfter (editionIn file) v (siteIn file) (conditionIn file) (sheetIn file) b b′ after today nodes classes)
     (λ l. l)
     (λ n k l.
     record {
@@ -68,9 +69,9 @@ demand-1-list limit site table set set′ work work′ reason fault f r =
 
 demand-1-apply : Demand1Apply
 unfolding Demand1Apply SiteAfter
-demand-1-apply site sheet result result′ reason fault r =
-    answers (λ v. SiteAfter v site sheet result result′) (λ p. p) (λ item k p. p)
-    _ (apply-numbered (length result) site sheet) r
+demand-1-apply edition site sheet result result′ reason fault r =
+    answers (λ v. SiteAfter edition v site sheet result result′) (λ p. p) (λ item k p. p)
+    _ (apply-numbered edition (length result) site sheet) r
 
 -- the table xs is to be made
 table-answers : {due : Verdict} (xs : List Node) (result result′ : List ℕ) {n reason fault : ℕ} → Numbered due
@@ -81,11 +82,11 @@ table-answers xs result result′ {n} k r = answers (λ v. TableAfter v xs resul
 
 demand-1-rewrite : Demand1Rewrite
 unfolding Demand1Rewrite
-demand-1-rewrite table sheet result result′ reason fault n r = table-answers (rewritten table sheet) result result′ (rewrite-numbered (length result) table sheet) r
+demand-1-rewrite edition table sheet result result′ reason fault n r = table-answers (rewritten edition table sheet) result result′ (rewrite-numbered edition (length result) table sheet) r
 
 demand-1-through : Demand1Through
 unfolding Demand1Through
-demand-1-through sheet result result′ reason fault n r = table-answers (through (editsOf sheet)) result result′ (through-numbered (length result) sheet) r
+demand-1-through edition sheet result result′ reason fault n r = table-answers (through (editsOf edition sheet)) result result′ (through-numbered edition (length result) sheet) r
 
 demand-1-classes : Demand1Classes
 unfolding Demand1Classes ClassesAfter

@@ -73,19 +73,20 @@ module _ {site table : List ℕ} (a : siteVerdict site ≡ Accepted) (b : condit
 
 -- ---- a sheet that goes through
 
-module _ {site sheet : List ℕ} (j : Going site sheet) where
-  legal : edits.sheetLegal (editsOf sheet) ≡ true
-  legal = accepted-sheet sheet (j .sheet-accepted) .are-legal
+module _ {edition : ℕ} {site sheet : List ℕ} (j : Going edition site sheet) where
+  legal : edits.sheetLegal (editsOf edition sheet) ≡ true
+  legal = accepted-sheet edition sheet (j .sheet-accepted) .are-legal
 
   valid : edits.Valid (siteOf site)
   valid = site-valid site .0 (j .site-accepted) .1
 
-  module _ (c : ApplyCall site sheet) where
-    apply-goes : applyVerdict (length (c .result)) site sheet ≡ Accepted
+  module _ (c : ApplyCall edition site sheet) where
+    apply-goes : applyVerdict edition (length (c .result)) site sheet ≡ Accepted
     apply-goes =
-        apply-accepted (length (c .result)) site sheet
+        apply-accepted edition (length (c .result)) site sheet
         (record {
           result-size = c .result-size;
+          edition-accepted = j .edition-accepted;
           site-accepted = j .site-accepted;
           sheet-accepted = j .sheet-accepted;
           goes = j .goes-through;
@@ -94,26 +95,27 @@ module _ {site sheet : List ℕ} (j : Going site sheet) where
     pub apply-reason : c .reason ≡ 0
     apply-reason = reason-none apply-goes (c .returned)
 
-    pub site-left : SiteWritten site sheet (c .result′)
+    pub site-left : SiteWritten edition site sheet (c .result′)
     unfolding SiteAfter
     site-left = rw apply-goes at (c .returned .left)
 
     pub left-accepted : siteVerdict (c .result′) ≡ Accepted
     left-accepted =
-        after-accepted site sheet (c .result′) (j .site-accepted) (j .sheet-accepted) (j .goes-through) (site-left .size) (site-left .effects)
+        after-accepted edition site sheet (c .result′) (j .site-accepted) (j .sheet-accepted) (j .goes-through) (site-left .size) (site-left .effects)
 
-module _ {site table sheet : List ℕ} (j : Runnable site table sheet) where
+module _ {edition : ℕ} {site table sheet : List ℕ} (j : Runnable edition site table sheet) where
   -- ---- rewriting
 
-  short : tooLong rewriteTable (editsOf sheet) (tableOf table) ≡ false
-  short = fits-short table sheet (j .table-accepted) (omega (arith, j .table-fits))
+  short : tooLong rewriteTable (editsOf edition sheet) (tableOf table) ≡ false
+  short = fits-short edition table sheet (j .table-accepted) (omega (arith, j .table-fits))
 
-  module _ (c : RewriteCall table sheet) where
-    rewrite-goes : rewriteVerdict (length (c .result)) table sheet ≡ Accepted
+  module _ (c : RewriteCall edition table sheet) where
+    rewrite-goes : rewriteVerdict edition (length (c .result)) table sheet ≡ Accepted
     rewrite-goes =
-        rewrite-accepted (length (c .result)) table sheet
+        rewrite-accepted edition (length (c .result)) table sheet
         (record {
           result-size = c .result-size;
+          edition-accepted = j .going .edition-accepted;
           table-accepted = j .table-accepted;
           sheet-accepted = j .going .sheet-accepted;
           short = short;
@@ -122,33 +124,33 @@ module _ {site table sheet : List ℕ} (j : Runnable site table sheet) where
     pub rewrite-reason : c .reason ≡ 0
     rewrite-reason = reason-none rewrite-goes (c .returned)
 
-    pub written : (c .nodes ≡ length (rewritten table sheet)) × (c .result′ ≡ bytesOf (rewritten table sheet) ++ replicate (tableBytes - 6 * c .nodes) 0)
-    written = table-left (rewritten table sheet) (c .result) (c .result′) rewrite-goes (c .returned)
+    pub written : (c .nodes ≡ length (rewritten edition table sheet)) × (c .result′ ≡ bytesOf (rewritten edition table sheet) ++ replicate (tableBytes - 6 * c .nodes) 0)
+    written = table-left (rewritten edition table sheet) (c .result) (c .result′) rewrite-goes (c .returned)
 
     pub table-accepted : conditionVerdict (rewrittenTable c) ≡ Accepted
     table-accepted =
-        rewritten-accepted table sheet (j .table-accepted) (j .going .sheet-accepted) short _ (c .result′) (c .nodes) (written .0) (written .1)
+        rewritten-accepted edition table sheet (j .table-accepted) (j .going .sheet-accepted) short _ (c .result′) (c .nodes) (written .0) (written .1)
 
-    pub is-rewritten : tableOf (rewrittenTable c) ≡ rewritten table sheet
-    is-rewritten = taken-table (rewritten table sheet) _ (c .result′) (c .nodes) (written .0) (written .1)
+    pub is-rewritten : tableOf (rewrittenTable c) ≡ rewritten edition table sheet
+    is-rewritten = taken-table (rewritten edition table sheet) _ (c .result′) (c .nodes) (written .0) (written .1)
 
   -- ---- both lists
 
-  pub lists-agree : {changed newTable today after : List ℕ} {t a : ℕ} → tableOf newTable ≡ rewritten table sheet
-      → siteOf changed ≡ edits.sheet (editsOf sheet) (siteOf site)
+  pub lists-agree : {changed newTable today after : List ℕ} {t a : ℕ} → tableOf newTable ≡ rewritten edition table sheet
+      → siteOf changed ≡ edits.sheet (editsOf edition sheet) (siteOf site)
       → Listed (siteOf site) (formOf (tableOf newTable)) today t → Listed (siteOf changed) (formOf (tableOf table)) after a
-      → ListsAgree site table sheet changed newTable today after t a
+      → ListsAgree edition site table sheet changed newTable today after t a
   lists-agree is-new effects p q =
       let s = accepted-sound table (j .table-accepted) in
       let e =
       same-lists
-      (editsOf sheet) (legal (j .going)) (siteOf site) (valid (j .going)) (j .going .goes-through)
+      (editsOf edition sheet) (legal (j .going)) (siteOf site) (valid (j .going)) (j .going .goes-through)
       (tableOf table) (s .fits) (omega (arith, s .some, length-table table))
       (rw is-new at p) (rw effects at q)
       in
       record { same-set = e .0; same-count = e .1; today-listed = p; after-listed = q; blocks = is-new; effects = effects }
 
-  both-lists : (a : ApplyCall site sheet) (r : RewriteCall table sheet) (t : ListCall site (rewrittenTable r)) (u : ListCall (a .result′) table)
+  both-lists : (a : ApplyCall edition site sheet) (r : RewriteCall edition table sheet) (t : ListCall site (rewrittenTable r)) (u : ListCall (a .result′) table)
       → t .reason ≢ 15 → u .reason ≢ 15 → SameLists a r t u
   both-lists a r t u h k =
       let new-site = left-accepted (j .going) a in
@@ -164,15 +166,15 @@ module _ {site table sheet : List ℕ} (j : Runnable site table sheet) where
 
 pub demand-2 : Demand2
 unfolding Demand2
-demand-2 site table sheet j a r t u h k = both-lists j a r t u h k
+demand-2 edition site table sheet j a r t u h k = both-lists j a r t u h k
 
 -- ---- classes
 
-module _ {site sheet : List ℕ} (j : Going site sheet) (a : ApplyCall site sheet) (n : ClassCall (a .result′)) where
+module _ {edition : ℕ} {site sheet : List ℕ} (j : Going edition site sheet) (a : ApplyCall edition site sheet) (n : ClassCall (a .result′)) where
   numbered : classesVerdict (length (n .classes)) (a .result′) ≡ Accepted
   numbered = classes-accepted (length (n .classes)) (a .result′) (record { classes-size = n .classes-size; site-accepted = left-accepted j a })
 
-  classes-left : (x : ℕ) → x < slots → IsClass (edits.sheet (editsOf sheet) (siteOf site)) x (getD (n .classes′) x 0)
+  classes-left : (x : ℕ) → x < slots → IsClass (edits.sheet (editsOf edition sheet) (siteOf site)) x (getD (n .classes′) x 0)
   unfolding ClassesAfter
   classes-left x l = let c = rw numbered at (n .returned .left) in rw (site-left j a .effects) at (c .0 .each x l)
 
@@ -184,11 +186,11 @@ module _ {site sheet : List ℕ} (j : Going site sheet) (a : ApplyCall site shee
         same-numbers = λ ρ s t h k.
             Iff·trans
             (class-undistinguished
-            (editsOf sheet) (legal j) (siteOf site) (valid j) (j .goes-through) ρ s t (getD (n .classes′) s 0) (getD (n .classes′) t 0) h k
+            (editsOf edition sheet) (legal j) (siteOf site) (valid j) (j .goes-through) ρ s t (getD (n .classes′) s 0) (getD (n .classes′) t 0) h k
             (classes-left s h) (classes-left t k))
             (λ n z. n (z .table, z .is-closed, z .tells), λ n z. n (record { table = z .0; is-closed = z .1; tells = z .2 }));
       }
 
 pub demand-3 : Demand3
 unfolding Demand3
-demand-3 site sheet j a n = same-classes j a n
+demand-3 edition site sheet j a n = same-classes j a n

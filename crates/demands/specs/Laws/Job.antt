@@ -13,7 +13,9 @@ use Rattle.condition.specs.Bytes.{tableOf}
 use Rattle.sheet.specs.Bytes.{editsOf}
 use Rattle.rewriting.specs.Rewriting.{TableAfter, rewritten}
 use Rattle.rewriting.specs.Laws.Accepted.{taken-table}
+use Rattle.trailer.specs.Refusal.{editionIn}
 use Rattle.trailer.specs.Pieces.{siteIn, conditionIn, sheetIn}
+use Rattle.trailer.specs.Laws.Verdict.{accepted-known}
 use Rattle.refusals.specs.Refusal.{roundsVerdict}
 use Rattle.refusals.specs.Laws.Items.{then-out, rounds-in, rounds-out}
 use Rattle.listing.specs.Listed.{foundOf}
@@ -49,12 +51,12 @@ module _ {file : List ℕ} (c : JobCall file) where
                 cond-accepted = r .pieces .table-accepted;
                 sheet-accepted = r .pieces .going .sheet-accepted;
                 goes = r .pieces .going .goes-through;
-                short = fits-short (conditionIn file) (sheetIn file) (r .pieces .table-accepted) (omega (arith, r .pieces .table-fits));
+                short = fits-short (editionIn file) (conditionIn file) (sheetIn file) (r .pieces .table-accepted) (omega (arith, r .pieces .table-fits));
               };
         })
 
     -- where its lists make a and t rounds, nothing but item 15 is left to test
-    pub job-due : (a t : ℕ) → JobMakes (siteIn file) (conditionIn file) (sheetIn file) a t → dueOf ≡ listsVerdict (c .limit) a t
+    pub job-due : (a t : ℕ) → JobMakes (editionIn file) (siteIn file) (conditionIn file) (sheetIn file) a t → dueOf ≡ listsVerdict (c .limit) a t
     unfolding jobVerdict
     job-due a t m =
         let k = c .returned .makes job-inputs in
@@ -75,9 +77,15 @@ module _ {file : List ℕ} (c : JobCall file) where
         trailer-accepted = a .trailer-accepted;
         pieces =
             record {
-              going = record { site-accepted = a .pieces .site-accepted; sheet-accepted = a .pieces .sheet-accepted; goes-through = a .pieces .goes };
+              going =
+                  record {
+                    edition-accepted = accepted-known file (a .trailer-accepted);
+                    site-accepted = a .pieces .site-accepted;
+                    sheet-accepted = a .pieces .sheet-accepted;
+                    goes-through = a .pieces .goes;
+                  };
               table-accepted = a .pieces .cond-accepted;
-              table-fits = omega (arith, short-fits (conditionIn file) (sheetIn file) (a .pieces .cond-accepted) (a .pieces .short));
+              table-fits = omega (arith, short-fits (editionIn file) (conditionIn file) (sheetIn file) (a .pieces .cond-accepted) (a .pieces .short));
             };
       }
 
@@ -104,34 +112,35 @@ module _ {file : List ℕ} (c : JobCall file) where
           today-fits = rounds-out (c .limit) (c .returned .today-made) (p .1);
         }
 
-    left : JobAfter Accepted (siteIn file) (conditionIn file) (sheetIn file) (c .lent) (c .lent′) (foundOf (c .after) (c .after-rounds))
+    left : JobAfter (editionIn file) Accepted (siteIn file) (conditionIn file) (sheetIn file) (c .lent) (c .lent′) (foundOf (c .after) (c .after-rounds))
         (foundOf (c .today) (c .today-rounds)) (c .nodes) (c .classes)
     left = rw accepted at (c .returned .returned .left)
 
-    effects : siteOf (c .lent′ .changed) ≡ edits.sheet (editsOf (sheetIn file)) (siteOf (siteIn file))
+    effects : siteOf (c .lent′ .changed) ≡ edits.sheet (editsOf (editionIn file) (sheetIn file)) (siteOf (siteIn file))
     unfolding SiteAfter
     effects = left .site-after .effects
 
-    is-rewritten : tableOf (jobTable c) ≡ rewritten (conditionIn file) (sheetIn file)
+    is-rewritten : tableOf (jobTable c) ≡ rewritten (editionIn file) (conditionIn file) (sheetIn file)
     unfolding TableAfter
-    is-rewritten = let t = left .table-after in taken-table (rewritten (conditionIn file) (sheetIn file)) _ (c .lent′ .table) (c .nodes) (t .0) (t .1)
+    is-rewritten = let t = left .table-after in taken-table (rewritten (editionIn file) (conditionIn file) (sheetIn file)) _ (c .lent′ .table) (c .nodes) (t .0) (t .1)
 
     -- the rounds that are returned are those that its lists make
-    pub job-makes : JobMakes (siteIn file) (conditionIn file) (sheetIn file) (c .after-rounds) (c .today-rounds)
+    pub job-makes : JobMakes (editionIn file) (siteIn file) (conditionIn file) (sheetIn file) (c .after-rounds) (c .today-rounds)
     unfolding SetAfter
     job-makes = record { after = rw effects at (left .list-after .1); today = rw is-rewritten at (left .list-today .1) }
 
     -- ---- two calls, each on the job's own buffers
 
-    pieces : Runnable (siteIn file) (conditionIn file) (sheetIn file)
+    pieces : Runnable (editionIn file) (siteIn file) (conditionIn file) (sheetIn file)
     pieces = runnable .pieces
 
-    abbrev applyCall : ApplyCall (siteIn file) (sheetIn file)
+    abbrev applyCall : ApplyCall (editionIn file) (siteIn file) (sheetIn file)
     applyCall =
         let v =
-        apply-accepted (length (c .lent .changed)) (siteIn file) (sheetIn file)
+        apply-accepted (editionIn file) (length (c .lent .changed)) (siteIn file) (sheetIn file)
         (record {
           result-size = c .sized .changed-size;
+          edition-accepted = pieces .going .edition-accepted;
           site-accepted = pieces .going .site-accepted;
           sheet-accepted = pieces .going .sheet-accepted;
           goes = pieces .going .goes-through;
@@ -167,7 +176,7 @@ module _ {file : List ℕ} (c : JobCall file) where
     agrees =
         record {
           lists = lists-agree pieces is-rewritten effects (left .list-today .0) (left .list-after .0);
-          numbers = demand-3 (siteIn file) (sheetIn file) (pieces .going) applyCall classCall .same-numbers;
+          numbers = demand-3 (editionIn file) (siteIn file) (sheetIn file) (pieces .going) applyCall classCall .same-numbers;
         }
 
 pub demand-job : DemandJob

@@ -23,6 +23,7 @@ use Rattle.condition.specs.Refusal.{conditionVerdict}
 use Rattle.condition.specs.Laws.Bytes.{table-back}
 use Rattle.sheet.specs.Bytes.{editsOf}
 use Rattle.sheet.specs.Laws.Accepted.{accepted-sheet}
+use Rattle.trailer.specs.Refusal.{editionIn}
 use Rattle.trailer.specs.Pieces.{siteIn, conditionIn, sheetIn}
 use Rattle.rewriting.specs.Rewriting.{rewritten}
 use Rattle.rewriting.specs.Laws.Accepted.{image-accepted}
@@ -42,7 +43,7 @@ use Rattle.demands.specs.Job.{JobCall, jobTable, RunnableFile}
 use Rattle.demands.specs.Rounds.{ListOver, FileMakes, JobOver, Highest, SameList, SameJob, DemandLimitList, DemandLimitJob, DemandHighestList, DemandHighestJob, DemandLargerList, DemandLargerJob, DemandRounds}
 use Rattle.demands.specs.Laws.Accepted.{fits-short, same-makes}
 use Rattle.demands.specs.Laws.Demands.{list-due, list-reason, list-set}
-use Rattle.demands.specs.Laws.Early.{UpTo, up-to-then, wider, not-early, rounds-item, list-early, jobItems, job-early}
+use Rattle.demands.specs.Laws.Early.{Never, never-then, not-early, rounds-item, list-early, jobItems, job-early}
 use Rattle.demands.specs.Laws.Job.{dueOf, runnable-inputs, job-due, job-makes}
 use Rattle.demands.specs.Laws.Same.{same-zeros, site-same, table-same, set-same, classes-same}
 
@@ -105,7 +106,7 @@ module _ {site table : List ℕ} (c : ListCall site table) where
   list-over-out : c .reason ≡ 15 → ListOver (c .limit) site table
   list-over-out e =
       let n = c .returned .made in
-      let v = not-early (pairVerdict site table) (roundsVerdict (c .limit) n) (list-early site table) (omega arith)
+      let v = not-early (pairVerdict site table) (roundsVerdict (c .limit) n) (list-early (omega arith) site table)
       (sym (ap reasonOf (list-then c)) ∙ sym (c .returned .returned .reason-is) ∙ e) in
       let p = then-out (siteVerdict site) (conditionVerdict table) v in
       let m = c .returned .makes (list-first c ∙ v) in
@@ -146,15 +147,16 @@ else-two limit a t h =
 -- both lists of a file that meets no item make some number of rounds
 file-makes : {file : List ℕ} → RunnableFile file → (a t : ℕ) × FileMakes file a t
 file-makes {file} r =
+    let edition = editionIn file in
     let table = conditionIn file in
     let sheet = sheetIn file in
     let ok = r .pieces .table-accepted in
-    let short = fits-short table sheet ok (omega (arith, r .pieces .table-fits)) in
-    let legal = accepted-sheet sheet (r .pieces .going .sheet-accepted) .are-legal in
-    let image = image-accepted (editsOf sheet) legal table ok short in
-    let a = accepted-makes (edits.sheet (editsOf sheet) (siteOf (siteIn file))) table ok in
-    let t = accepted-makes (siteOf (siteIn file)) (bytesOf (rewritten table sheet)) image in
-    (a .0, t .0, record { after = a .1; today = λ ρ. rw (table-back (rewritten table sheet)) at (t .1 ρ) })
+    let short = fits-short edition table sheet ok (omega (arith, r .pieces .table-fits)) in
+    let legal = accepted-sheet edition sheet (r .pieces .going .sheet-accepted) .are-legal in
+    let image = image-accepted (editsOf edition sheet) legal table ok short in
+    let a = accepted-makes (edits.sheet (editsOf edition sheet) (siteOf (siteIn file))) table ok in
+    let t = accepted-makes (siteOf (siteIn file)) (bytesOf (rewritten edition table sheet)) image in
+    (a .0, t .0, record { after = a .1; today = λ ρ. rw (table-back (rewritten edition table sheet)) at (t .1 ρ) })
 
 module _ {file : List ℕ} (c : JobCall file) where
   -- what is returned, where the lists make a and t rounds
@@ -166,7 +168,7 @@ module _ {file : List ℕ} (c : JobCall file) where
 
   job-over-out : c .reason ≡ 15 → JobOver (c .limit) file
   job-over-out e =
-      let v = not-early (jobItems file) (bothRounds c) (job-early file) (omega arith) (sym (ap reasonOf (job-then c)) ∙ sym (c .returned .returned .reason-is) ∙ e) in
+      let v = not-early (jobItems file) (bothRounds c) (job-early (omega arith) (omega arith) file) (sym (ap reasonOf (job-then c)) ∙ sym (c .returned .returned .reason-is) ∙ e) in
       let r = runnable-inputs c (job-first c ∙ v) in
       let m = c .returned .makes (job-first c ∙ v) in
       record { runnable = r; after = _; today = _; makes = m; over = over-two (job-reason r _ _ m) .0 e }
@@ -186,15 +188,15 @@ limit-job file = record {
 
 -- ---- item 16
 
--- the limit is tested before the checks v, which meet no later item than 15
-highest : (limit : ℕ) {v : Verdict} → UpTo 15 v → {reason fault : ℕ} → reason ≡ reasonOf (limitVerdict limit then v)
+-- the limit is tested before the checks v, which never refuse with 16
+highest : (limit : ℕ) {v : Verdict} → Never 16 v → {reason fault : ℕ} → reason ≡ reasonOf (limitVerdict limit then v)
     → fault ≡ faultOf (limitVerdict limit then v) → Highest limit reason fault
 highest limit {v} u {reason} {fault} e f =
     either
     (over? highestLimit limit)
     (λ h.
     let d : reason ≡ reasonOf v = rw (limit-in h) at e in
-    let not-16 : reason ≢ 16 = λ k. absurd (omega (arith, d, u .at-most, k)) in
+    let not-16 : reason ≢ 16 = λ k. u .never (sym d ∙ k) in
     record { over = (λ k. absurd (not-16 k), λ k. absurd (omega (arith, h, k))); no-fault = λ k. absurd (not-16 k) })
     (λ h.
     let d : reason ≡ 16 = rw (limit-not h) at e in
@@ -212,7 +214,7 @@ unfolding DemandHighestList
 highest-list limit site table set set′ work work′ reason fault f p q r =
     let n = r .made in
     let d = list-limit-first (length set) (length work) limit site table n p q in
-    let u = up-to-then (pairVerdict site table) (roundsVerdict limit n) (wider (list-early site table)) (rounds-item limit n) in
+    let u = never-then (pairVerdict site table) (roundsVerdict limit n) (list-early (omega arith) site table) (rounds-item limit n) in
     highest limit u (r .returned .reason-is ∙ ap reasonOf d) (r .returned .fault-is ∙ ap faultOf d)
 
 job-limit-first : (b : Buffers) (limit : ℕ) (file : List ℕ) (a t : ℕ) → Sized b
@@ -226,8 +228,8 @@ highest-job limit file b b′ reason fault after today nodes classes s r =
     let a = r .after-made in
     let t = r .today-made in
     let d = job-limit-first b limit file a t s in
-    let both = up-to-then (roundsVerdict limit a) (roundsVerdict limit t) (rounds-item limit a) (rounds-item limit t) in
-    let u = up-to-then (jobItems file) (listsVerdict limit a t) (wider (job-early file)) both in
+    let both = never-then (roundsVerdict limit a) (roundsVerdict limit t) (rounds-item limit a) (rounds-item limit t) in
+    let u = never-then (jobItems file) (listsVerdict limit a t) (job-early (omega arith) (omega arith) file) both in
     highest limit u (r .returned .reason-is ∙ ap reasonOf d) (r .returned .fault-is ∙ ap faultOf d)
 
 -- ---- a larger limit
@@ -265,7 +267,7 @@ module _ {site table : List ℕ} (c d : ListCall site table) (larger : c .limit 
 -- what a verdict leaves of a job
 abbrev Left : {file : List ℕ} → Verdict → JobCall file → Type 0
 Left {file} v c =
-    JobAfter v (siteIn file) (conditionIn file) (sheetIn file) (c .lent) (c .lent′) (foundOf (c .after) (c .after-rounds))
+    JobAfter (editionIn file) v (siteIn file) (conditionIn file) (sheetIn file) (c .lent) (c .lent′) (foundOf (c .after) (c .after-rounds))
     (foundOf (c .today) (c .today-rounds)) (c .nodes) (c .classes)
 
 all-same : {s s′ t t′ a a′ d d′ c c′ w w′ : List ℕ} → s ≡ s′ → t ≡ t′ → a ≡ a′ → d ≡ d′ → c ≡ c′ → w ≡ w′
@@ -293,12 +295,12 @@ module _ {file : List ℕ} (c d : JobCall file) (larger : c .limit ≤ d .limit)
 
   changed-same : c .lent′ .changed ≡ d .lent′ .changed
   changed-same =
-      site-same (c .lent .changed) _ (d .lent .changed) _ (c .sized .changed-size ∙ sym (d .sized .changed-size)) (dueOf d) (siteIn file) (sheetIn file)
+      site-same (c .lent .changed) _ (d .lent .changed) _ (c .sized .changed-size ∙ sym (d .sized .changed-size)) (editionIn file) (dueOf d) (siteIn file) (sheetIn file)
       (left-of .site-after) (d .returned .returned .left .site-after)
 
   made-same : (c .lent′ .table ≡ d .lent′ .table) × (c .nodes ≡ d .nodes)
   made-same =
-      table-same (c .lent .table) _ (d .lent .table) _ (c .sized .table-size ∙ sym (d .sized .table-size)) (dueOf d) (rewritten (conditionIn file) (sheetIn file)) _ _
+      table-same (c .lent .table) _ (d .lent .table) _ (c .sized .table-size ∙ sym (d .sized .table-size)) (dueOf d) (rewritten (editionIn file) (conditionIn file) (sheetIn file)) _ _
       (left-of .table-after) (d .returned .returned .left .table-after)
 
   after-same : (c .lent′ .after ≡ d .lent′ .after) × (c .after ≡ d .after) × (c .after-rounds ≡ d .after-rounds)

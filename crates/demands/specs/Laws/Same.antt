@@ -38,10 +38,10 @@ same-numbers {p = p} {q = q} a b = ext-getD 0 p q (a .long ∙ sym (b .long)) (�
 
 -- a buffer was b, or d, and is b′, or d′
 module _ (b b′ d d′ : List ℕ) (sizes : length b ≡ length d) where
-  pub site-same : (v : Verdict) (site sheet : List ℕ) → SiteAfter v site sheet b b′ → SiteAfter v site sheet d d′ → b′ ≡ d′
+  pub site-same : (edition : ℕ) (v : Verdict) (site sheet : List ℕ) → SiteAfter edition v site sheet b b′ → SiteAfter edition v site sheet d d′ → b′ ≡ d′
   unfolding SiteAfter
-  site-same Accepted site sheet p q = same-site b′ d′ (p .bytes) (q .bytes) (p .effects ∙ sym (q .effects)) (p .size) (q .size)
-  site-same (Refused item w) site sheet p q = same-zeros p q sizes
+  site-same edition Accepted site sheet p q = same-site b′ d′ (p .bytes) (q .bytes) (p .effects ∙ sym (q .effects)) (p .size) (q .size)
+  site-same edition (Refused item w) site sheet p q = same-zeros p q sizes
 
   pub table-same : (v : Verdict) (xs : List Node) (m n : ℕ) → TableAfter v xs b b′ m → TableAfter v xs d d′ n → (b′ ≡ d′) × (m ≡ n)
   unfolding TableAfter

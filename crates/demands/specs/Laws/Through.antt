@@ -35,12 +35,12 @@ use Rattle.demands.specs.Through.{ThroughCall, throughTable, Foreseeable
 use Rattle.demands.specs.Laws.Accepted.{through-accepted, reason-none, same-makes, table-left}
 use Rattle.demands.specs.Laws.Demands.{list-due, list-reason, list-set, listed}
 
-module _ {site sheet : List ℕ} (j : Foreseeable site sheet) where
+module _ {edition : ℕ} {site sheet : List ℕ} (j : Foreseeable edition site sheet) where
   abbrev es : List edits.Edit
-  es = editsOf sheet
+  es = editsOf edition sheet
 
   legal : edits.sheetLegal es ≡ true
-  legal = accepted-sheet sheet (j .sheet-accepted) .are-legal
+  legal = accepted-sheet edition sheet (j .sheet-accepted) .are-legal
 
   valid : edits.Valid (siteOf site)
   valid = site-valid site .0 (j .site-accepted) .1
@@ -51,12 +51,13 @@ module _ {site sheet : List ℕ} (j : Foreseeable site sheet) where
   unfolding emit
   few-true = omega arith
 
-  module _ (c : ThroughCall sheet) where
-    made-goes : throughVerdict (length (c .result)) sheet ≡ Accepted
+  module _ (c : ThroughCall edition sheet) where
+    made-goes : throughVerdict edition (length (c .result)) sheet ≡ Accepted
     made-goes =
-        through-accepted (length (c .result)) sheet
+        through-accepted edition (length (c .result)) sheet
         (record {
           result-size = c .result-size;
+          edition-accepted = j .edition-accepted;
           sheet-accepted = j .sheet-accepted;
           short = too-long-end throughEdit through-grows es oneTrue few-true ∙ below-not tableNodes (length (through es)) (omega (arith, j .table-fits));
         })
@@ -97,10 +98,10 @@ module _ {site sheet : List ℕ} (j : Foreseeable site sheet) where
 
       -- ---- beside applying
 
-      module _ (a : ApplyCall site sheet) where
+      module _ (a : ApplyCall edition site sheet) where
         apply-reason : a .reason ≡ cond goes 0 13
         unfolding applyVerdict goesVerdict
-        apply-reason = a .returned .reason-is ∙ rw (buffer-in (a .result-size), j .site-accepted, j .sheet-accepted) (told goes _)
+        apply-reason = a .returned .reason-is ∙ rw (buffer-in (a .result-size), j .edition-accepted, j .site-accepted, j .sheet-accepted) (told goes _)
           where
             told : (b : Bool) (w : ℕ) → reasonOf (cond (not b) (Refused 13 w) Accepted) ≡ cond b 0 13
             told true w = refl
@@ -131,4 +132,4 @@ module _ {site sheet : List ℕ} (j : Foreseeable site sheet) where
 
 pub demand-through : DemandThrough
 unfolding DemandThrough
-demand-through site sheet j c t a = foretold j c t a _ refl
+demand-through edition site sheet j c t a = foretold j c t a _ refl

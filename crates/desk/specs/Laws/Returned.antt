@@ -24,6 +24,7 @@ use Rattle.classes_entry.specs.declared.Classing.{Classing}
 use Rattle.classes_entry.specs.Answer as classing
 use Rattle.classes_entry.specs.Classing.{ClassesAfter}
 use Rattle.classes_entry.specs.Answered.{ClassesAnswered}
+use Rattle.trailer.specs.Refusal.{editionIn}
 use Rattle.trailer.specs.Pieces.{siteIn, conditionIn, sheetIn}
 use Rattle.job_run.specs.declared.Job.{Job}
 use Rattle.job_run.specs.Buffers.{Buffers}
@@ -64,10 +65,10 @@ module _ {site table : List ℕ} {way start : ℕ} {chain chain′ set set′ wo
 
 -- ---- applying
 
-module _ {site sheet result result′ : List ℕ} where
-  pub returned-apply : {v : Verdict} → ApplyAnswered site sheet result result′ v → {reason fault : ℕ} → reason ≡ reasonOf v → fault ≡ faultOf v
-      → ReturnedApply site sheet result result′ reason fault
-  returned-apply a e f = returned (λ v. SiteAfter v site sheet result result′) (a .verdict) (a .left) refl e f
+module _ {edition : ℕ} {site sheet result result′ : List ℕ} where
+  pub returned-apply : {v : Verdict} → ApplyAnswered edition site sheet result result′ v → {reason fault : ℕ} → reason ≡ reasonOf v → fault ≡ faultOf v
+      → ReturnedApply edition site sheet result result′ reason fault
+  returned-apply a e f = returned (λ v. SiteAfter edition v site sheet result result′) (a .verdict) (a .left) refl e f
 
 -- ---- rewriting, and the condition for going through: xs is the table to be made
 
@@ -99,6 +100,6 @@ module _ {limit : ℕ} {file : List ℕ} {b b′ : Buffers} where
         today-made = a .today-made;
         makes = a .makes;
         returned =
-            returned (λ v. JobAfter v (siteIn file) (conditionIn file) (sheetIn file) b b′ after today nodes classes)
+            returned (λ v. JobAfter (editionIn file) v (siteIn file) (conditionIn file) (sheetIn file) b b′ after today nodes classes)
             (a .verdict) (rw (f .0, f .1 .0, f .1 .1 .0, f .1 .1 .1) (a .left)) refl (e .0) (e .1);
       }

@@ -57,6 +57,12 @@ enum-known-e-9 c = search needs
 delete-slot-requires : tie.Need-delete-slot-requires
 delete-slot-requires c κs = (c .before .before .before .before .before .pre .0, rw (c .before .before .e9 .given .1) at (c .before .before .before .before .before .pre .1 .0))
 
+enum-known-e-10 : tie.Need-enum-known-e-10
+enum-known-e-10 c = search needs
+
+replace-target-requires : tie.Need-replace-target-requires
+replace-target-requires c κs = (c .before .before .before .before .before .pre .0, (rw (c .before .before .e10 .given .1) at (c .before .before .before .before .before .pre .1 .0), rw (c .before .before .e10 .given .1) at (c .before .before .before .before .before .pre .1 .1)))
+
 same-length : tie.Need-same-length
 same-length c = search needs
 
@@ -111,6 +117,12 @@ same-length-9 c = search needs
 returns-9 : tie.Need-returns-9
 returns-9 c = rw (c .before .before .before .before .before .e9 .given .1) (c .before .before .delete-slot .ensures)
 
+same-length-10 : tie.Need-same-length-10
+same-length-10 c = search needs
+
+returns-10 : tie.Need-returns-10
+returns-10 c = rw (c .before .before .before .before .before .e10 .given .1) (c .before .before .replace-target .ensures)
+
 pub apply-edit-spec : {M : Type 1} → statement M
 apply-edit-spec =
     tie.close
@@ -133,6 +145,8 @@ apply-edit-spec =
     add-slot-requires
     enum-known-e-9
     delete-slot-requires
+    enum-known-e-10
+    replace-target-requires
     same-length
     returns
     same-length-2
@@ -150,4 +164,6 @@ apply-edit-spec =
     same-length-8
     returns-8
     same-length-9
-    returns-9)
+    returns-9
+    same-length-10
+    returns-10)

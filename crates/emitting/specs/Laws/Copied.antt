@@ -2,7 +2,7 @@
 use mathlib.Core.Path.{_≡_, refl, subst}
 use Prim.Native.Nat.{ℕ, _≤_, _<_}
 use native.Mathlib.Omega.{arith}
-use Rattle.semantics.specs.Edit.{Edit, CN1, CN2, AP, DP, AT, DT1, DT2, AS, DS}
+use Rattle.semantics.specs.Edit.{Edit, CN1, CN2, AP, DP, AT, RT, DT1, DT2, AS, DS}
 use Rattle.semantics.specs.Table.{kindOf}
 use Rattle.semantics.specs.Block.{old, change, blockDia, blockBox, blockLeaf, block}
 use Rattle.condition.specs.Laws.Limits.{each-kind}
@@ -47,6 +47,11 @@ copied w t u (AT f n1 n2) =
     (λ h. refl) (λ h. refl) (λ h. refl) (λ h. refl)
     (λ h. may (omega arith) (omega arith) (h .1)) (λ h. may (omega arith) (omega arith) (h .1)) (λ h. refl) (λ h. refl)
     (λ k g h. let z : 12 ≡ k = omega (arith, h .0) in subst (λ (m : ℕ). spelled (spellingOf (AT f n1 n2) w m) t u ≡ block (AT f n1 n2) (kindOf m) w (old t) (old u)) z refl)
+copied w t u (RT f n1 n2) =
+    each-kind _ (λ h. refl) (λ h. refl) (λ h. refl) (λ h. refl)
+    (λ h. refl) (λ h. refl) (λ h. refl) (λ h. refl)
+    (λ h. may (omega arith) (omega arith) (h .1)) (λ h. may (omega arith) (omega arith) (h .1)) (λ h. refl) (λ h. refl)
+    (λ k g h. let z : 12 ≡ k = omega (arith, h .0) in subst (λ (m : ℕ). spelled (spellingOf (RT f n1 n2) w m) t u ≡ block (RT f n1 n2) (kindOf m) w (old t) (old u)) z refl)
 copied w t u (DT1 f n1 n2) =
     each-kind _ (λ h. refl) (λ h. refl) (λ h. refl) (λ h. refl)
     (λ h. refl) (λ h. refl) (λ h. refl) (λ h. refl)

@@ -5,9 +5,9 @@ use Prim.Native.Nat.{ℕ, _≤_}
 use native.Mathlib.Omega.{arith}
 use Rattle.finite.specs.Tests.{same}
 use Rattle.finite.specs.Laws.Bools.{either, look}
-use Rattle.semantics.specs.Edit.{Edit, CN1, CN2, AP, DP, AT, DT1, DT2, AS, DS}
+use Rattle.semantics.specs.Edit.{Edit, CN1, CN2, AP, DP, AT, RT, DT1, DT2, AS, DS}
 use Rattle.semantics.specs.Table.{Leaf, Unary, Binary, kTrue, kHere, kLabel, kName, kVar, kSlot, kNot, kDia, kBox, kMu, kNu, Kind, leaf, unary, binary, wayOf}
-use Rattle.semantics.specs.Block.{Change, keep, added, cut, cutFrom, cutTo, cutOff, change, Block, old, end, on, join, size, blockDia, blockBox, blockLeaf, block}
+use Rattle.semantics.specs.Block.{Change, keep, added, onlyFrom, onlyTo, cut, cutFrom, cutTo, cutOff, change, Block, old, end, on, join, size, blockDia, blockBox, blockLeaf, block}
 
 unfoldable pub isEnd : Block → Bool
 isEnd (old i) = false
@@ -23,6 +23,7 @@ leaf-some (CN2 n1 n2 f) kHere p = omega arith
 leaf-some (AP n q) kHere p = omega arith
 leaf-some (DP n q) kHere p = omega arith
 leaf-some (AT m n1 n2) kHere p = omega arith
+leaf-some (RT f n1 n2) kHere p = omega arith
 leaf-some (DT1 m n1 n2) kHere p = omega arith
 leaf-some (DT2 f n) kHere p = omega arith
 leaf-some (AS n k) kHere p = omega arith
@@ -32,6 +33,7 @@ leaf-some (CN2 n1 n2 f) kLabel p = omega arith
 leaf-some (AP n q) kLabel p = either (look (same p q)) (λ e. rw (e, size) (omega arith)) (λ e. rw (e, size) (omega arith))
 leaf-some (DP n q) kLabel p = either (look (same p q)) (λ e. rw (e, size) (omega arith)) (λ e. rw (e, size) (omega arith))
 leaf-some (AT m n1 n2) kLabel p = omega arith
+leaf-some (RT f n1 n2) kLabel p = omega arith
 leaf-some (DT1 m n1 n2) kLabel p = omega arith
 leaf-some (DT2 f n) kLabel p = omega arith
 leaf-some (AS n k) kLabel p = omega arith
@@ -41,6 +43,7 @@ leaf-some (CN2 n1 n2 f) kName p = either (look (same p n1)) (λ e. rw (e, size) 
 leaf-some (AP n q) kName p = omega arith
 leaf-some (DP n q) kName p = omega arith
 leaf-some (AT m n1 n2) kName p = omega arith
+leaf-some (RT f n1 n2) kName p = omega arith
 leaf-some (DT1 m n1 n2) kName p = omega arith
 leaf-some (DT2 f n) kName p = omega arith
 leaf-some (AS n k) kName p = either (look (same p n)) (λ e. rw (e, size) (omega arith)) (λ e. rw (e, size) (omega arith))
@@ -66,6 +69,8 @@ pub ways-inner : (c : Change) (w : ℕ) (T : Block) → Inner (blockDia c w T) �
 unfolding blockDia blockBox
 ways-inner keep w T = (on-inner, on-inner)
 ways-inner (added a b) w T = (join-inner, join-inner)
+ways-inner (onlyFrom a b) w T = (join-inner, join-inner)
+ways-inner (onlyTo a b) w T = (join-inner, join-inner)
 ways-inner (cut a b) w T = (join-inner, join-inner)
 ways-inner (cutFrom n) w T = (join-inner, join-inner)
 ways-inner (cutTo n) w T = (on-inner, on-inner)

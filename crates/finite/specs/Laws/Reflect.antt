@@ -1,10 +1,10 @@
 -- What a test's passing says, from what its parts' passing says.
-use mathlib.Core.Path.{_≡_, ap}
+use mathlib.Core.Path.{_≡_, refl, ap}
 use mathlib.Core.Logic.{_⊎_, inl, inr, _↔_}
-use mathlib.Core.Bool.{Bool, true, not, _&&_, _||_}
+use mathlib.Core.Bool.{Bool, true, false, not, _&&_, _||_, cond}
 use Prim.Native.Nat.{ℕ, _<_}
 use Rattle.finite.specs.Tests.{same, any, all}
-use Rattle.finite.specs.Laws.Bools.{either, look, and-in, and-l, and-r, or-l, or-r, or-out, not-in, not-out}
+use Rattle.finite.specs.Laws.Bools.{either, look, clash, and-in, and-l, and-r, or-l, or-r, or-out, not-in, not-out}
 use Rattle.finite.specs.Laws.Below.{same-eq, eq-same, any-in, any-out, all-in, all-out}
 
 pub same-iff : (m n : ℕ) → (same m n ≡ true) ↔ (m ≡ n)
@@ -20,6 +20,17 @@ pub or-iff : (a b : Bool) {A B : Type 0} → (a ≡ true) ↔ A → (b ≡ true)
 or-iff a b f g = (
   λ p. either (or-out a b p) (λ q. inl (f .0 q)) (λ q. inr (g .0 q)),
   λ p. either p (λ q. or-l a b (f .1 q)) (λ q. or-r a b (g .1 q)),
+)
+
+pub cond-iff : (a b c : Bool) {A B C : Type 0} → (a ≡ true) ↔ A → (b ≡ true) ↔ B → (c ≡ true) ↔ C
+    → (cond a b c ≡ true) ↔ ((C × ¬ A) ⊎ (A × B))
+cond-iff true b c f g h = (
+  λ p. inr (f .0 refl, g .0 p),
+  λ p. either p (λ q. absurd (q .1 (f .0 refl))) (λ q. g .1 (q .1)),
+)
+cond-iff false b c f g h = (
+  λ p. inl (h .0 p, λ q. clash (f .1 q) refl),
+  λ p. either p (λ q. h .1 (q .0)) (λ q. clash (f .1 (q .0)) refl),
 )
 
 -- some number below n that passes a does what b tests, and every such number does

@@ -1,4 +1,4 @@
--- Three of the edits have a test, and the others always go through.
+-- Four of the edits have a test, and the others always go through.
 use borrow.Author.Needs.{needs}
 use Rattle.semantics.specs.Edit.{goes}
 use Rattle.going.proofs.goes_through.Statement.{statement}
@@ -40,6 +40,12 @@ enum-known-e-3 c = search needs
 is-on-site-requires : tie.Need-is-on-site-requires
 is-on-site-requires c κs = (c .before .before .before .before .pre .0, rw (c .before .e3 .given .1) at (c .before .before .before .before .pre .1))
 
+enum-known-e-4 : tie.Need-enum-known-e-4
+enum-known-e-4 c = search needs
+
+both-on-site-requires : tie.Need-both-on-site-requires
+both-on-site-requires c κs = (c .before .before .before .before .pre .0, rw (c .before .e4 .given .1) at (c .before .before .before .before .pre .1))
+
 returns : tie.Need-returns
 unfolding goes
 returns c = rw (c .enum-told .given .1)
@@ -73,6 +79,9 @@ returns-8 c = rw (c .before .before .e2 .given .1) (c .slot-is-absent .ensures)
 returns-9 : tie.Need-returns-9
 returns-9 c = rw (c .before .before .e3 .given .1) (c .is-on-site .ensures)
 
+returns-10 : tie.Need-returns-10
+returns-10 c = rw (c .before .before .e4 .given .1) (c .both-on-site .ensures)
+
 pub goes-through-spec : {M : Type 1} → statement M
 goes-through-spec =
     tie.close
@@ -89,6 +98,8 @@ goes-through-spec =
     slot-is-absent-requires
     enum-known-e-3
     is-on-site-requires
+    enum-known-e-4
+    both-on-site-requires
     returns
     returns-2
     returns-3
@@ -97,4 +108,5 @@ goes-through-spec =
     returns-6
     returns-7
     returns-8
-    returns-9)
+    returns-9
+    returns-10)

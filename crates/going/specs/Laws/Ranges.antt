@@ -6,7 +6,7 @@ use Rattle.finite.specs.Tests.{same, below}
 use Rattle.finite.specs.Laws.Bools.{and-l, and-r}
 use Rattle.finite.specs.Laws.Below.{below-out}
 use Rattle.limits.specs.Limits.{slots, labels, names, links, generalLinks}
-use Rattle.semantics.specs.Edit.{CN1, CN2, AP, DP, AT, DT1, DT2, AS, DS, functional, legal}
+use Rattle.semantics.specs.Edit.{CN1, CN2, AP, DP, AT, DT1, DT2, AS, DS, RT, functional, legal}
 use Rattle.site.specs.Laws.Read.{functional-out}
 
 pub legal-CN1 : (n1 n2 : ℕ) → legal (CN1 n1 n2) ≡ true → (n1 < names) × (n2 < names)
@@ -31,10 +31,11 @@ pub legal-DP : (n p : ℕ) → legal (DP n p) ≡ true → (n < names) × (p < l
 unfolding legal
 legal-DP n p e = label-range n p e
 
+name-range : (n1 n2 : ℕ) → (below n1 names && below n2 names) ≡ true → (n1 < names) × (n2 < names)
+name-range n1 n2 e = (below-out n1 names (and-l _ _ e), below-out n2 names (and-r (below n1 names) _ e))
+
 link-range : (m n1 n2 : ℕ) → (below m links && (below n1 names && below n2 names)) ≡ true → (m < links) × ((n1 < names) × (n2 < names))
-link-range m n1 n2 e =
-    let r : (below n1 names && below n2 names) ≡ true = and-r (below m links) _ e in
-    (below-out m links (and-l _ _ e), (below-out n1 names (and-l _ _ r), below-out n2 names (and-r (below n1 names) _ r)))
+link-range m n1 n2 e = (below-out m links (and-l _ _ e), name-range n1 n2 (and-r (below m links) _ e))
 
 pub legal-AT : (m n1 n2 : ℕ) → legal (AT m n1 n2) ≡ true → (m < links) × ((n1 < names) × (n2 < names))
 unfolding legal
@@ -55,3 +56,7 @@ legal-AS n k e = (below-out n names (and-l (below n names) _ (and-l _ _ e)), bel
 pub legal-DS : (n : ℕ) → legal (DS n) ≡ true → n < names
 unfolding legal
 legal-DS n e = below-out n names e
+
+pub legal-RT : (f n1 n2 : ℕ) → legal (RT f n1 n2) ≡ true → ((generalLinks ≤ f) × (f < links)) × ((n1 < names) × (n2 < names))
+unfolding legal
+legal-RT f n1 n2 e = (functional-out f (and-l _ _ e), name-range n1 n2 (and-r (functional f) _ e))

@@ -1,4 +1,4 @@
--- Item 1 by the test of the lengths, then item 16, then item 2.
+-- Item 1 by the test of the lengths, then item 16, then items 2 and 18.
 use native.Mathlib.Omega.{arith}
 use borrow.Author.Tests.{not-true, not-false}
 use borrow.Author.Needs.{needs}

@@ -1,4 +1,4 @@
--- `job_entry::run` meets its contract: items 1, 16 and 2 are judged, the pieces are taken, and the job runs on them.
+-- `job_entry::run` meets its contract: items 1, 16, 2 and 18 are judged, the pieces are taken, and the job runs on them.
 use native.Mathlib.Omega.{arith}
 use borrow.Author.Needs.{needs}
 use Rattle.job_entry.specs.Laws.Job.{passed, answered-ran}

@@ -13,12 +13,12 @@ use Rattle.verdict.specs.declared.Verdict.{Verdict}
 use Rattle.verdict.specs.declared.Verdict.the-variants.{Accepted, Refused}
 use Rattle.site.specs.Layout.{siteBytes}
 use Rattle.limits.specs.Limits.{tableBytes, highestLimit}
-use Rattle.trailer.specs.Refusal.{item2, trailerVerdict}
+use Rattle.trailer.specs.Refusal.{item2, editionIn, trailerVerdict}
 use Rattle.trailer.specs.Pieces.{siteIn, conditionIn, sheetIn}
 use Rattle.listing.specs.Listed.{workBytes}
 use Rattle.refusals.specs.Refusal.{bufferVerdict, limitVerdict}
 use Rattle.classes_entry.specs.Refusal.{classesBytes}
-use Rattle.refusals.specs.Laws.Items.{buffer-in, buffer-out, limit-out, then-out, Numbered, numbered-accepted, numbered-item, numbered-then, numbered-buffer, numbered-limit}
+use Rattle.refusals.specs.Laws.Items.{buffer-in, buffer-out, limit-out, then-out, Numbered, numbered-item, numbered-then, numbered-buffer, numbered-limit, numbered-edition}
 use Rattle.job_run.specs.Buffers.{Buffers, Sized}
 use Rattle.job_run.specs.Refusal.{piecesVerdict}
 use Rattle.job_run.specs.Laws.Refusal.{PiecesAccepted, pieces-out, pieces-numbered}
@@ -77,15 +77,15 @@ sized-in b s =
     )
 
 module _ (b : Buffers) (limit : ℕ) (file : List ℕ) where
-  -- ---- the chain: items 1, 16 and 2, then 3 to 14
+  -- ---- the chain: items 1, 16, 2 and 18, then 3 to 14
 
   pub job-then : jobInputs b limit file
-      ≡ (buffersVerdict b then limitVerdict limit then trailerVerdict file) then piecesVerdict (siteIn file) (conditionIn file) (sheetIn file)
+      ≡ (buffersVerdict b then limitVerdict limit then trailerVerdict file) then piecesVerdict (editionIn file) (siteIn file) (conditionIn file) (sheetIn file)
   unfolding jobInputs
   job-then =
       let l = limitVerdict limit in
       let t = trailerVerdict file in
-      let p = piecesVerdict (siteIn file) (conditionIn file) (sheetIn file) in
+      let p = piecesVerdict (editionIn file) (siteIn file) (conditionIn file) (sheetIn file) in
       rw (then-assoc (buffersVerdict b) (l then t) p, then-assoc l t p)
 
   -- ---- what is accepted
@@ -94,15 +94,15 @@ module _ (b : Buffers) (limit : ℕ) (file : List ℕ) where
     pub sized : Sized b
     pub limit-fits : limit ≤ highestLimit
     pub trailer-accepted : trailerVerdict file ≡ Accepted
-    pub pieces : PiecesAccepted (siteIn file) (conditionIn file) (sheetIn file)
+    pub pieces : PiecesAccepted (editionIn file) (siteIn file) (conditionIn file) (sheetIn file)
 
   pub job-accepts : jobInputs b limit file ≡ Accepted → JobAccepted
   unfolding jobInputs
   job-accepts e =
       let p = then-out (buffersVerdict b) _ e in
       let l = then-out (limitVerdict limit) _ (p .1) in
-      let q = then-out (trailerVerdict file) (piecesVerdict (siteIn file) (conditionIn file) (sheetIn file)) (l .1) in
-      record { sized = sized-out b (p .0); limit-fits = limit-out limit (l .0); trailer-accepted = q .0; pieces = pieces-out _ _ _ (q .1) }
+      let q = then-out (trailerVerdict file) (piecesVerdict (editionIn file) (siteIn file) (conditionIn file) (sheetIn file)) (l .1) in
+      record { sized = sized-out b (p .0); limit-fits = limit-out limit (l .0); trailer-accepted = q .0; pieces = pieces-out _ _ _ _ (q .1) }
 
   -- ---- the numbers of its items
 
@@ -118,11 +118,11 @@ module _ (b : Buffers) (limit : ℕ) (file : List ℕ) where
 
   trailer-numbered : Numbered (trailerVerdict file)
   unfolding trailerVerdict
-  trailer-numbered = numbered-item (item2 file) 2 0 Accepted (omega arith) (omega arith) numbered-accepted
+  trailer-numbered = numbered-item (item2 file) 2 0 _ (omega arith) (omega arith) (numbered-edition (editionIn file))
 
   pub inputs-numbered : Numbered (jobInputs b limit file)
   unfolding jobInputs
   inputs-numbered =
       numbered-then (buffersVerdict b) _ buffers-numbered
       (numbered-then (limitVerdict limit) _ (numbered-limit limit)
-      (numbered-then (trailerVerdict file) _ trailer-numbered (pieces-numbered (siteIn file) (conditionIn file) (sheetIn file))))
+      (numbered-then (trailerVerdict file) _ trailer-numbered (pieces-numbered (editionIn file) (siteIn file) (conditionIn file) (sheetIn file))))

@@ -55,18 +55,18 @@ judged-out first site cond sheet j e =
     (p .0, (q .0, then-out (conditionVerdict cond) (sheetVerdict sheet) (q .1)))
 
 -- the verdict, and what is written, where neither `first` nor items 3 to 12 refuse
-module _ (first : Verdict) {site cond sheet free′ : List ℕ} {v : Verdict}
+module _ (first : Verdict) {edition : ℕ} {site cond sheet free′ : List ℕ} {v : Verdict}
     (j : Judged (first then siteVerdict site then conditionVerdict cond then sheetVerdict sheet) cond free′ v) (e : v ≡ Accepted)
-    {changed changed′ table table′ : List ℕ} {r : Rewriting} (c : Changed site cond sheet changed changed′ table table′ r) where
-  verdict : rewriting.verdictOf r ≡ first then piecesVerdict site cond sheet
-  verdict = rw (pieces-then first site cond sheet, sym (j .verdict) ∙ e) (c .verdict)
+    {changed changed′ table table′ : List ℕ} {r : Rewriting} (c : Changed edition site cond sheet changed changed′ table table′ r) where
+  verdict : rewriting.verdictOf r ≡ first then piecesVerdict edition site cond sheet
+  verdict = rw (pieces-then edition first site cond sheet, sym (j .verdict) ∙ e) (c .verdict)
 
-  made : length free′ ≡ tableNodes → (n : ℕ) → r ≡ change.Rewritten n → Made site cond sheet free′ changed changed′ table table′ n
+  made : length free′ ≡ tableNodes → (n : ℕ) → r ≡ change.Rewritten n → Made edition site cond sheet free′ changed changed′ table table′ n
   unfolding SiteAfter TableAfter
   made size n f =
-      let k = pieces-out site cond sheet (then-out first _ (sym verdict ∙ ap rewriting.verdictOf f) .1) in
+      let k = pieces-out edition site cond sheet (then-out first _ (sym verdict ∙ ap rewriting.verdictOf f) .1) in
       let t = c .table-after n f in
-      let ys = rewritten cond sheet in
+      let ys = rewritten edition cond sheet in
       record {
         site-after = c .site-after n f;
         table-after = t;
@@ -78,21 +78,21 @@ module _ (first : Verdict) {site cond sheet free′ : List ℕ} {v : Verdict}
               free-rows = j .rows e;
               changed-size = c .site-after n f .size;
               room = omega (arith, t .0, ap length (t .1), length-append (bytesOf ys) (replicate (tableBytes - 6 * n) 0), length-bytes ys);
-              part-accepted = rewritten-accepted cond sheet (k .cond-accepted) (k .sheet-accepted) (k .short) _ table′ n (t .0) (t .1);
+              part-accepted = rewritten-accepted edition cond sheet (k .cond-accepted) (k .sheet-accepted) (k .short) _ table′ n (t .0) (t .1);
             };
       }
 
-module _ {first : Verdict} {site cond sheet free′ : List ℕ} {v : Verdict}
+module _ {first : Verdict} {edition : ℕ} {site cond sheet free′ : List ℕ} {v : Verdict}
     (j : Judged (first then siteVerdict site then conditionVerdict cond then sheetVerdict sheet) cond free′ v)
     {changed changed′ table table′ : List ℕ} where
-  pub prepared : v ≡ Accepted → length free′ ≡ tableNodes → {r : Rewriting} → Changed site cond sheet changed changed′ table table′ r
-      → Prepared first site cond sheet free′ changed changed′ table table′ r
+  pub prepared : v ≡ Accepted → length free′ ≡ tableNodes → {r : Rewriting} → Changed edition site cond sheet changed changed′ table table′ r
+      → Prepared edition first site cond sheet free′ changed changed′ table table′ r
   prepared e size c = record { verdict = verdict first j e c; made = made first j e c size }
 
   pub prepared-refused : {item fault : ℕ} → v ≡ Refused item fault
-      → Prepared first site cond sheet free′ changed changed′ table table′ (change.Refused item fault)
+      → Prepared edition first site cond sheet free′ changed changed′ table table′ (change.Refused item fault)
   prepared-refused e = record {
-    verdict = rw (pieces-then first site cond sheet, sym (j .verdict) ∙ e);
+    verdict = rw (pieces-then edition first site cond sheet, sym (j .verdict) ∙ e);
     made = λ n f. let z : _≡_ {A = ℕ} 0 1 = cc in absurd (omega arith);
   }
 
@@ -148,14 +148,14 @@ module _ {limit n : ℕ} {site cond changed table after′ : List ℕ} {f : Foun
 -- ---- all but the class numbers
 
 -- the site and the table were written, so nothing was refused first
-pub went : {first : Verdict} {site cond sheet free′ changed changed′ table table′ : List ℕ} {r : Rewriting}
-    → Prepared first site cond sheet free′ changed changed′ table table′ r → {n : ℕ} → r ≡ change.Rewritten n → first ≡ Accepted
+pub went : {first : Verdict} {edition : ℕ} {site cond sheet free′ changed changed′ table table′ : List ℕ} {r : Rewriting}
+    → Prepared edition first site cond sheet free′ changed changed′ table table′ r → {n : ℕ} → r ≡ change.Rewritten n → first ≡ Accepted
 went {first = first} p e = then-out first _ (sym (p .verdict) ∙ ap rewriting.verdictOf e) .0
 
-module _ {first : Verdict} {limit : ℕ} {site cond sheet free′ changed changed′ table table′ after′ today′ work′ : List ℕ} {r : Rewriting}
-    (p : Prepared first site cond sheet free′ changed changed′ table table′ r) where
+module _ {first : Verdict} {limit edition : ℕ} {site cond sheet free′ changed changed′ table table′ after′ today′ work′ : List ℕ} {r : Rewriting}
+    (p : Prepared edition first site cond sheet free′ changed changed′ table table′ r) where
   pub tried-refused : {item fault : ℕ} → r ≡ change.Refused item fault
-      → Tried first limit site cond sheet changed changed′ table table′ after′ today′ work′ (answer.Refused item fault)
+      → Tried edition first limit site cond sheet changed changed′ table table′ after′ today′ work′ (answer.Refused item fault)
   tried-refused e =
       let d = sym (p .verdict) ∙ ap rewriting.verdictOf e in
       record {
@@ -164,12 +164,12 @@ module _ {first : Verdict} {limit : ℕ} {site cond sheet free′ changed change
       }
 
   pub tried-listed : {n : ℕ} → r ≡ change.Rewritten n → {j : Job} → BothTried limit site cond changed′ table′ n after′ today′ work′ j
-      → Tried first limit site cond sheet changed changed′ table table′ after′ today′ work′ j
+      → Tried edition first limit site cond sheet changed changed′ table table′ after′ today′ work′ j
   unfolding SiteAfter TableAfter
   tried-listed {n = n} e b =
       let d = sym (p .verdict) ∙ ap rewriting.verdictOf e in
       let m = p .made n e in
-      let table-is = taken-table (rewritten cond sheet) _ table′ n (m .table-after .0) (m .table-after .1) in
+      let table-is = taken-table (rewritten edition cond sheet) _ table′ n (m .table-after .0) (m .table-after .1) in
       record {
         judged =
             record {
@@ -184,8 +184,8 @@ module _ {first : Verdict} {limit : ℕ} {site cond sheet free′ changed change
 
 -- ---- a refusal leaves zeros
 
-zeros-left : {site cond sheet : List ℕ} {b b′ : Buffers} {item fault : ℕ} → Zeros b b′
-    → JobAfter (Refused item fault) site cond sheet b b′ (foundOf 0 0) (foundOf 0 0) 0 0
+zeros-left : {edition : ℕ} {site cond sheet : List ℕ} {b b′ : Buffers} {item fault : ℕ} → Zeros b b′
+    → JobAfter edition (Refused item fault) site cond sheet b b′ (foundOf 0 0) (foundOf 0 0) 0 0
 unfolding SiteAfter TableAfter SetAfter ClassesAfter
 zeros-left z = record {
   site-after = z .changed-zero;
@@ -201,23 +201,23 @@ zeros-left z = record {
 pub sets-of : {limit : ℕ} {b : Buffers} → limit ≤ highestLimit → Sized b → Sets limit (b .after) (b .today) (b .work)
 sets-of h s = record { limit-fits = h; after-size = s .after-size; today-size = s .today-size; work-size = s .work-size }
 
-module _ {first : Verdict} {limit : ℕ} {site cond sheet changed changed′ table table′ after′ today′ work′ : List ℕ} {r : Job}
-    (p : Tried first limit site cond sheet changed changed′ table table′ after′ today′ work′ r) {a t : Found} {n z : ℕ} (e : r ≡ answer.Done a t n z) where
+module _ {first : Verdict} {limit edition : ℕ} {site cond sheet changed changed′ table table′ after′ today′ work′ : List ℕ} {r : Job}
+    (p : Tried edition first limit site cond sheet changed changed′ table table′ after′ today′ work′ r) {a t : Found} {n z : ℕ} (e : r ≡ answer.Done a t n z) where
   -- nothing was refused first
   pub passed : first ≡ Accepted
   passed =
-      let inputs = then-out (first then piecesVerdict site cond sheet) _ (sym (p .judged .verdict) ∙ ap verdictOf e) .0 in
+      let inputs = then-out (first then piecesVerdict edition site cond sheet) _ (sym (p .judged .verdict) ∙ ap verdictOf e) .0 in
       then-out first _ inputs .0
 
   pub changed-sized : length changed′ ≡ siteBytes
   unfolding SiteAfter
   changed-sized = p .lists (ap verdictOf e) .site-after .size
 
-module _ {first : Verdict} {limit : ℕ} {site cond sheet : List ℕ} {b : Buffers} {changed′ table′ after′ today′ work′ : List ℕ} {r : Job}
-    (p : Tried first limit site cond sheet (b .changed) changed′ (b .table) table′ after′ today′ work′ r) where
+module _ {first : Verdict} {limit edition : ℕ} {site cond sheet : List ℕ} {b : Buffers} {changed′ table′ after′ today′ work′ : List ℕ} {r : Job}
+    (p : Tried edition first limit site cond sheet (b .changed) changed′ (b .table) table′ after′ today′ work′ r) where
   module _ {a t : Found} {n z : ℕ} (e : r ≡ answer.Done a t n z) where
     pub ran-done : length (b .work) ≡ workBytes → {classes′ : List ℕ} {c : ℕ} → Classes (siteOf changed′) classes′ → c ≡ different classes′
-        → Ran first limit site cond sheet b (buffersOf changed′ table′ after′ today′ classes′ work′) (answer.Done a t n c)
+        → Ran edition first limit site cond sheet b (buffersOf changed′ table′ after′ today′ classes′ work′) (answer.Done a t n c)
     unfolding SetAfter ClassesAfter
     ran-done size k count =
         let l = rw e at (p .lists (ap verdictOf e)) in
@@ -238,7 +238,7 @@ module _ {first : Verdict} {limit : ℕ} {site cond sheet : List ℕ} {b : Buffe
   pub ran-refused : {item fault : ℕ} → r ≡ answer.Refused item fault → {j : Job} → j ≡ answer.Refused item fault
       → length changed′ ≡ length (b .changed) → length table′ ≡ length (b .table) → length after′ ≡ length (b .after)
       → length today′ ≡ length (b .today) → length work′ ≡ length (b .work)
-      → {b′ : Buffers} → Zeros (buffersOf changed′ table′ after′ today′ (b .classes) work′) b′ → Ran first limit site cond sheet b b′ j
+      → {b′ : Buffers} → Zeros (buffersOf changed′ table′ after′ today′ (b .classes) work′) b′ → Ran edition first limit site cond sheet b b′ j
   ran-refused e f h i k l m z =
       rw f
       (record {

@@ -23,50 +23,50 @@ use Rattle.job_steps.specs.Steps.{changeVerdict}
 use Rattle.job_run.specs.Refusal.{piecesVerdict}
 
 -- the chain after the verdict `first`: items 3 to 12, then 13 and 14
-pub pieces-then : (first : Verdict) (site cond sheet : List ℕ) → first then piecesVerdict site cond sheet
-    ≡ (first then siteVerdict site then conditionVerdict cond then sheetVerdict sheet) then changeVerdict site cond sheet
+pub pieces-then : (edition : ℕ) (first : Verdict) (site cond sheet : List ℕ) → first then piecesVerdict edition site cond sheet
+    ≡ (first then siteVerdict site then conditionVerdict cond then sheetVerdict sheet) then changeVerdict edition site cond sheet
 unfolding piecesVerdict changeVerdict
-pieces-then first site cond sheet =
+pieces-then edition first site cond sheet =
     let s = siteVerdict site in
     let c = conditionVerdict cond in
     let e = sheetVerdict sheet in
-    let z = changeVerdict site cond sheet in
+    let z = changeVerdict edition site cond sheet in
     rw (then-assoc first (s then c then e) z, then-assoc s (c then e) z, then-assoc c e z)
 
-module _ (site cond sheet : List ℕ) where
+module _ (edition : ℕ) (site cond sheet : List ℕ) where
   -- what is accepted
   pub record PiecesAccepted : Type 0 where
     pub site-accepted : siteVerdict site ≡ Accepted
     pub cond-accepted : conditionVerdict cond ≡ Accepted
     pub sheet-accepted : sheetVerdict sheet ≡ Accepted
-    pub goes : sheetGoes (editsOf sheet) (siteOf site) ≡ true
-    pub short : tooLong rewriteTable (editsOf sheet) (tableOf cond) ≡ false
+    pub goes : sheetGoes (editsOf edition sheet) (siteOf site) ≡ true
+    pub short : tooLong rewriteTable (editsOf edition sheet) (tableOf cond) ≡ false
 
-  pub pieces-out : piecesVerdict site cond sheet ≡ Accepted → PiecesAccepted
+  pub pieces-out : piecesVerdict edition site cond sheet ≡ Accepted → PiecesAccepted
   unfolding piecesVerdict
   pieces-out e =
       let s = then-out (siteVerdict site) _ e in
       let c = then-out (conditionVerdict cond) _ (s .1) in
       let h = then-out (sheetVerdict sheet) _ (c .1) in
-      let g = then-out (goesVerdict (editsOf sheet) (siteOf site)) (lengthVerdict rewriteTable (editsOf sheet) (tableOf cond)) (h .1) in
+      let g = then-out (goesVerdict (editsOf edition sheet) (siteOf site)) (lengthVerdict rewriteTable (editsOf edition sheet) (tableOf cond)) (h .1) in
       record {
         site-accepted = s .0;
         cond-accepted = c .0;
         sheet-accepted = h .0;
-        goes = goes-out (editsOf sheet) (siteOf site) (g .0);
-        short = length-out rewriteTable (editsOf sheet) (tableOf cond) (g .1);
+        goes = goes-out (editsOf edition sheet) (siteOf site) (g .0);
+        short = length-out rewriteTable (editsOf edition sheet) (tableOf cond) (g .1);
       }
 
-  pub pieces-in : PiecesAccepted → piecesVerdict site cond sheet ≡ Accepted
+  pub pieces-in : PiecesAccepted → piecesVerdict edition site cond sheet ≡ Accepted
   unfolding piecesVerdict goesVerdict lengthVerdict
   pieces-in a = rw (a .site-accepted, a .cond-accepted, a .sheet-accepted, a .goes, a .short)
 
   -- the numbers of the items
-  pub pieces-numbered : Numbered (piecesVerdict site cond sheet)
+  pub pieces-numbered : Numbered (piecesVerdict edition site cond sheet)
   unfolding piecesVerdict
   pieces-numbered =
       numbered-then (siteVerdict site) _ (numbered-site site)
       (numbered-then (conditionVerdict cond) _ (numbered-condition cond)
       (numbered-then (sheetVerdict sheet) _ (numbered-sheet sheet)
-      (numbered-then (goesVerdict (editsOf sheet) (siteOf site)) _ (numbered-goes (editsOf sheet) (siteOf site))
-      (numbered-length rewriteTable (editsOf sheet) (tableOf cond)))))
+      (numbered-then (goesVerdict (editsOf edition sheet) (siteOf site)) _ (numbered-goes (editsOf edition sheet) (siteOf site))
+      (numbered-length rewriteTable (editsOf edition sheet) (tableOf cond)))))

@@ -16,7 +16,7 @@ enum-told c = search needs
 rewrite-sheet-requires : tie.Need-rewrite-sheet-requires
 rewrite-sheet-requires c κs =
     let m = c .before .before .before .before .before .before in let p = m .before .before .before .before .before .before .pre in
-    let s = accepted-sound _ (p .0 .1 .0) in ((s .some, s .few, p .1 .1), (s .fits, accepted-sheet _ (p .0 .1 .1) .are-legal))
+    let s = accepted-sound _ (p .0 .1 .0) in ((s .some, s .few, p .1 .1), (s .fits, accepted-sheet _ _ (p .0 .1 .1) .are-legal))
 
 enum-known-v : tie.Need-enum-known-v
 enum-known-v c = search needs

@@ -20,9 +20,9 @@ use Rattle.job_steps.specs.Steps.{changeVerdict, Changed}
 
 -- ---- the sheet is applied, then the condition is rewritten
 
-module _ {site cond sheet changed changed′ table table′ : List ℕ} {v : Verdict} (a : Applies site sheet changed′ v) where
+module _ {edition : ℕ} {site cond sheet changed changed′ table table′ : List ℕ} {v : Verdict} (a : Applies edition site sheet changed′ v) where
   pub changed-stuck : {item fault : ℕ} → v ≡ Refused item fault
-      → Changed site cond sheet changed changed′ table table′ (answer.Refused item fault)
+      → Changed edition site cond sheet changed changed′ table table′ (answer.Refused item fault)
   unfolding changeVerdict
   changed-stuck e = record {
     verdict = rw (sym (a .answer) ∙ e);
@@ -30,8 +30,8 @@ module _ {site cond sheet changed changed′ table table′ : List ℕ} {v : Ver
     table-after = λ n f. let z : _≡_ {A = ℕ} 0 1 = cc in absurd (omega arith);
   }
 
-  pub changed-then : v ≡ Accepted → Bytes changed′ → {r : Rewriting} → Rewrote rewriteTable (editsOf sheet) (tableOf cond) table table′ (verdictOf r) (nodesOf r)
-      → Changed site cond sheet changed changed′ table table′ r
+  pub changed-then : v ≡ Accepted → Bytes changed′ → {r : Rewriting} → Rewrote rewriteTable (editsOf edition sheet) (tableOf cond) table table′ (verdictOf r) (nodesOf r)
+      → Changed edition site cond sheet changed changed′ table table′ r
   unfolding changeVerdict SiteAfter
   changed-then e b w =
       let g = sym (a .answer) ∙ e in

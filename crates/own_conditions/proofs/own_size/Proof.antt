@@ -39,6 +39,9 @@ enum-told-7 c = search needs
 enum-told-8 : tie.Need-enum-told-8
 enum-told-8 c = search needs
 
+enum-told-9 : tie.Need-enum-told-9
+enum-told-9 c = search needs
+
 returns : tie.Need-returns
 unfolding own ownSize size
 returns c = rw (c .enum-told .given .1) (refl, omega arith)
@@ -74,6 +77,10 @@ returns-9 : tie.Need-returns-9
 unfolding own ownSize size
 returns-9 c = rw (c .enum-told8 .given .1) (refl, omega arith)
 
+returns-10 : tie.Need-returns-10
+unfolding own ownSize size
+returns-10 c = rw (c .enum-told9 .given .1) (refl, omega arith)
+
 pub own-size-spec : {M : Type 1} → statement M
 own-size-spec =
     tie.close
@@ -88,6 +95,7 @@ own-size-spec =
     enum-told-6
     enum-told-7
     enum-told-8
+    enum-told-9
     returns
     returns-2
     returns-3
@@ -96,4 +104,5 @@ own-size-spec =
     returns-6
     returns-7
     returns-8
-    returns-9)
+    returns-9
+    returns-10)

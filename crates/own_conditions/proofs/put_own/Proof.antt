@@ -1,4 +1,4 @@
--- The conditions of the three edits that have one.
+-- The conditions of the edits that have one.
 use mathlib.Core.Path.{refl}
 use native.Mathlib.Omega.{arith}
 use Rattle.semantics.specs.Table.{kindNo}
@@ -48,6 +48,13 @@ put-nowhere-requires-2 : tie.Need-put-nowhere-requires-2
 unfolding own ownSize size
 put-nowhere-requires-2 c κs = let s = c .before .before .before .before .before in let p = rw (c .before .before .e3 .given .1) at (s .pre) in (omega (arith, p .0), omega (arith, p .1))
 
+enum-known-e-4 : tie.Need-enum-known-e-4
+enum-known-e-4 c = search needs
+
+put-neither-nil-requires : tie.Need-put-neither-nil-requires
+unfolding own ownSize size
+put-neither-nil-requires c κs = let s = c .before .before .before .before .before in let p = rw (c .before .before .e4 .given .1) at (s .pre) in (omega (arith, p .0), omega (arith, p .1))
+
 returns : tie.Need-returns
 unfolding own ownNodes puts
 returns c = rw (c .enum-told .given .1) refl
@@ -92,6 +99,13 @@ returns-9 : tie.Need-returns-9
 unfolding own ownNodes emit root size kindNo
 returns-9 c = let p = c .before .before in rw (p .before .before .before .e3 .given .1) (p .put-nowhere2 .ensures)
 
+same-length-4 : tie.Need-same-length-4
+same-length-4 c = omega arith
+
+returns-10 : tie.Need-returns-10
+unfolding own ownNodes
+returns-10 c = let p = c .before .before in rw (p .before .before .before .e4 .given .1) (p .put-neither-nil .ensures)
+
 pub put-own-spec : {M : Type 1} → statement M
 put-own-spec =
     tie.close
@@ -108,6 +122,8 @@ put-own-spec =
     put-nowhere-requires
     enum-known-e-3
     put-nowhere-requires-2
+    enum-known-e-4
+    put-neither-nil-requires
     returns
     returns-2
     returns-3
@@ -119,4 +135,6 @@ put-own-spec =
     same-length-2
     returns-8
     same-length-3
-    returns-9)
+    returns-9
+    same-length-4
+    returns-10)

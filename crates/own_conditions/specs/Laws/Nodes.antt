@@ -8,7 +8,7 @@ use native.Mathlib.Omega.{arith}
 use lib.ListN.{length}
 use borrow.Author.Tests.{not-true, not-false}
 use Rattle.finite.specs.Laws.Bools.{either, look}
-use Rattle.semantics.specs.Edit.{Edit, CN1, CN2, AP, DP, AT, DT1, DT2, AS, DS, functional}
+use Rattle.semantics.specs.Edit.{Edit, CN1, CN2, AP, DP, AT, RT, DT1, DT2, AS, DS, functional}
 use Rattle.semantics.specs.Table.{Node, node, Leaf, Unary, Binary, kTrue, kName, kNot, kAnd, kOr, leaf, unary, binary, kindNo}
 use Rattle.semantics.specs.Block.{Block, old, end, on, join, size, root, emit, nm, no!, _&_, ⟨_⟩_}
 use Rattle.semantics.specs.Laws.Emit.{emit-length}
@@ -121,6 +121,7 @@ own-none (CN2 n1 n2 f) n h = refl
 own-none (AP a p) n h = refl
 own-none (DP a p) n h = refl
 own-none (AT m n1 n2) n h = absurd (omega (arith, link-least m n1 n2))
+own-none (RT f n1 n2) n h = absurd (omega arith)
 own-none (DT1 m n1 n2) n h = refl
 own-none (DT2 f a) n h = refl
 own-none (AS a k) n h = absurd (omega arith)

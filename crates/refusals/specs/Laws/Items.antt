@@ -19,6 +19,7 @@ use Rattle.semantics.specs.Holds.{Model}
 use Rattle.semantics.specs.Edit.{Edit, sheetGoes}
 use Rattle.semantics.specs.Table.{Node, formOf}
 use Rattle.semantics.specs.Block.{Pass}
+use Rattle.editions.specs.Edition.{known, editionVerdict}
 use Rattle.site.specs.Layout.{siteBytes}
 use Rattle.site.specs.Site.{siteOf}
 use Rattle.site.specs.Refusal.{item4, item5, item6, siteVerdict}
@@ -152,6 +153,10 @@ numbered-rounds limit n = numbered-item (below limit n) 15 0 Accepted (omega ari
 pub numbered-start : (M : Model) (way start : ℕ) → Numbered (startVerdict M way start)
 unfolding startVerdict
 numbered-start M way start = numbered-item (not (startFits M way start)) 17 0 Accepted (omega arith) (omega arith) numbered-accepted
+
+pub numbered-edition : (d : ℕ) → Numbered (editionVerdict d)
+unfolding editionVerdict
+numbered-edition d = numbered-item (not (known d)) 18 0 Accepted (omega arith) (omega arith) numbered-accepted
 
 pub numbered-site : (S : List ℕ) → Numbered (siteVerdict S)
 unfolding siteVerdict

@@ -1,19 +1,32 @@
--- The items in order: the result's length, the sheet.
-use mathlib.Core.Path.{_∙_}
-use native.Mathlib.Omega.{arith}
+-- The items in order: those on the result and the edition, those on the sheet.
+use mathlib.Core.Path.{sym, _∙_}
 use borrow.Author.Needs.{needs}
-use Rattle.rewrite_entry.specs.Laws.Rewriting.{judged-alone-result, judged-alone}
+use Rattle.rewrite_entry.specs.Laws.Rewriting.{judged-refused, judged-next, alone-parts}
 use Rattle.rewrite_entry.proofs.judge_sheet.Statement.{statement}
 use Rattle.rewrite_entry.proofs.judge_sheet.Tie as tie
 
-returns : tie.Need-returns
-returns c = judged-alone-result _ _ (λ e. omega arith)
+judge-edition-requires : tie.Need-judge-edition-requires
+judge-edition-requires c κs = search needs
+
+enum-told : tie.Need-enum-told
+enum-told c = search needs
 
 check-requires : tie.Need-check-requires
 check-requires c κs = search needs
 
+enum-known-first : tie.Need-enum-known-first
+enum-known-first c = search needs
+
+returns : tie.Need-returns
+returns c =
+    let m = c .before in
+    judged-next (m .before .before .judge-edition .ensures) (m .enum-told .given .1) (c .check .ensures) ∙ sym (alone-parts _ _ _)
+
 returns-2 : tie.Need-returns-2
-returns-2 c = c .check .ensures ∙ judged-alone _ _ (omega arith)
+returns-2 c =
+    let m = c .before in judged-refused _ (m .before .before .judge-edition .ensures) (m .first .given .1) ∙ sym (alone-parts _ _ _)
 
 pub judge-sheet-spec : {M : Type 1} → statement M
-judge-sheet-spec = tie.close (tie.spec returns check-requires returns-2)
+judge-sheet-spec =
+    tie.close
+    (tie.spec judge-edition-requires enum-told check-requires enum-known-first returns returns-2)

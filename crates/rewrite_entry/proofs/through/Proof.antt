@@ -12,7 +12,7 @@ enum-told : tie.Need-enum-told
 enum-told c = search needs
 
 through-sheet-requires : tie.Need-through-sheet-requires
-through-sheet-requires c κs = accepted-alone _ _ (sym (c .before .before .before .judge-sheet .ensures) ∙ c .before .enum-told .given .1)
+through-sheet-requires c κs = accepted-alone _ _ _ (sym (c .before .before .before .judge-sheet .ensures) ∙ c .before .enum-told .given .1)
 
 enum-known-v : tie.Need-enum-known-v
 enum-known-v c = search needs
@@ -26,7 +26,7 @@ same-length c = search needs
 returns : tie.Need-returns
 returns c =
     let m = c .before .before .before .before in
-    answered-made (alone-then _ _) (m .before .before .judge-sheet .ensures) (m .enum-told .given .1) (c .before .before .through-sheet .ensures)
+    answered-made (alone-then _ _ _) (m .before .before .judge-sheet .ensures) (m .enum-told .given .1) (c .before .before .through-sheet .ensures)
 
 same-length-2 : tie.Need-same-length-2
 same-length-2 c = search needs
@@ -34,7 +34,7 @@ same-length-2 c = search needs
 returns-2 : tie.Need-returns-2
 returns-2 c =
     let z = c .before .before .refused .ensures in let m = c .before .before .before .before .before in
-    answered-refused _ (alone-then _ _) (m .before .before .judge-sheet .ensures) (m .v .given .1) (z .0) (z .1)
+    answered-refused _ (alone-then _ _ _) (m .before .before .judge-sheet .ensures) (m .v .given .1) (z .0) (z .1)
 
 pub through-spec : {M : Type 1} → statement M
 through-spec =

@@ -16,6 +16,7 @@ use Rattle.through.specs.Through.{throughEdit, oneTrue}
 use Rattle.condition.specs.Bytes.{tableOf}
 use Rattle.condition.specs.Refusal.{conditionVerdict}
 use Rattle.condition.specs.Laws.Verdict.{accepted-sound}
+use Rattle.editions.specs.Edition.{editionVerdict}
 use Rattle.sheet.specs.Bytes.{editsOf}
 use Rattle.sheet.specs.Refusal.{sheetVerdict}
 use Rattle.sheet.specs.Laws.Accepted.{accepted-sheet}
@@ -32,29 +33,51 @@ use Rattle.rewrite_entry.specs.Refusal.{rewriteVerdict, throughVerdict}
 use Rattle.rewrite_entry.specs.Inputs.{inputVerdict, sheetInputVerdict}
 use Rattle.rewrite_entry.specs.Answered.{TableAnswered}
 
--- ---- the inputs are judged
+-- ---- the inputs are judged, by one check after another: v is the outcome of the first
 
-module _ (len : ℕ) (table sheet : List ℕ) where
-  pub judged-result : len ≢ tableBytes → Refused 1 0 ≡ inputVerdict len table sheet
+-- it refuses
+pub judged-refused : {a v : Verdict} (b : Verdict) {item w : ℕ} → v ≡ a → v ≡ Refused item w → Refused item w ≡ a then b
+judged-refused b j e = rw (← j, e) refl
+
+-- it accepts, and the second judges
+pub judged-next : {a b v u : Verdict} → v ≡ a → v ≡ Accepted → u ≡ b → u ≡ a then b
+judged-next j e h = rw (← j, e) h
+
+-- item 1
+pub judged-result : {len : ℕ} (b : Verdict) → len ≢ tableBytes → Refused 1 0 ≡ bufferVerdict len tableBytes then b
+judged-result b h = rw (buffer-not h)
+
+pub judged-sized : {len : ℕ} {b u : Verdict} → len ≡ tableBytes → u ≡ b → u ≡ bufferVerdict len tableBytes then b
+judged-sized e h = rw (buffer-in e) h
+
+-- ---- the inputs of rewriting
+
+module _ (edition len : ℕ) (table sheet : List ℕ) where
+  -- two checks and two
+  pub input-parts : inputVerdict edition len table sheet
+      ≡ (bufferVerdict len tableBytes then editionVerdict edition) then conditionVerdict table then sheetVerdict sheet
   unfolding inputVerdict
-  judged-result h = rw (buffer-not h)
+  input-parts = sym (then-assoc (bufferVerdict len tableBytes) (editionVerdict edition) _)
 
-  module _ (e : len ≡ tableBytes) where
-    pub judged-table : {item w : ℕ} → conditionVerdict table ≡ Refused item w → Refused item w ≡ inputVerdict len table sheet
-    unfolding inputVerdict
-    judged-table v = rw (buffer-in e, v)
-
-    pub judged-sheet : conditionVerdict table ≡ Accepted → sheetVerdict sheet ≡ inputVerdict len table sheet
-    unfolding inputVerdict
-    judged-sheet v = rw (buffer-in e, v)
+  -- item 14 comes after them
+  pub input-then : rewriteVerdict edition len table sheet
+      ≡ inputVerdict edition len table sheet then lengthVerdict rewriteTable (editsOf edition sheet) (tableOf table)
+  unfolding rewriteVerdict inputVerdict
+  input-then =
+      let d = editionVerdict edition in
+      let c = conditionVerdict table in
+      let e = sheetVerdict sheet in
+      let l = lengthVerdict rewriteTable (editsOf edition sheet) (tableOf table) in
+      rw (then-assoc (bufferVerdict len tableBytes) (d then c then e) l, then-assoc d (c then e) l, then-assoc c e l)
 
   -- what is known of accepted ones
-  module _ (e : inputVerdict len table sheet ≡ Accepted) where
+  module _ (e : inputVerdict edition len table sheet ≡ Accepted) where
     parts : (len ≡ tableBytes) × (conditionVerdict table ≡ Accepted) × (sheetVerdict sheet ≡ Accepted)
     unfolding inputVerdict
     parts =
         let p = then-out (bufferVerdict len tableBytes) _ e in
-        let q = then-out (conditionVerdict table) (sheetVerdict sheet) (p .1) in
+        let d = then-out (editionVerdict edition) _ (p .1) in
+        let q = then-out (conditionVerdict table) (sheetVerdict sheet) (d .1) in
         (buffer-out len tableBytes (p .0), q .0, q .1)
 
     pub accepted-size : len ≡ tableBytes
@@ -66,39 +89,30 @@ module _ (len : ℕ) (table sheet : List ℕ) where
     pub accepted-fits : nodesFit 0 (tableOf table) ≡ true
     accepted-fits = accepted-sound table (parts .1) .fits
 
-    pub accepted-legal : sheetLegal (editsOf sheet) ≡ true
-    accepted-legal = accepted-sheet sheet (parts .2) .are-legal
-
--- item 14 comes after them
-pub input-then : (len : ℕ) (table sheet : List ℕ)
-    → rewriteVerdict len table sheet ≡ inputVerdict len table sheet then lengthVerdict rewriteTable (editsOf sheet) (tableOf table)
-unfolding rewriteVerdict inputVerdict
-input-then len table sheet =
-    let c = conditionVerdict table in
-    let e = sheetVerdict sheet in
-    let l = lengthVerdict rewriteTable (editsOf sheet) (tableOf table) in
-    rw (then-assoc (bufferVerdict len tableBytes) (c then e) l, then-assoc c e l)
+    pub accepted-legal : sheetLegal (editsOf edition sheet) ≡ true
+    accepted-legal = accepted-sheet edition sheet (parts .2) .are-legal
 
 -- ---- the same without a condition
 
-module _ (len : ℕ) (sheet : List ℕ) where
-  pub judged-alone-result : len ≢ tableBytes → Refused 1 0 ≡ sheetInputVerdict len sheet
+module _ (edition len : ℕ) (sheet : List ℕ) where
+  pub alone-parts : sheetInputVerdict edition len sheet ≡ (bufferVerdict len tableBytes then editionVerdict edition) then sheetVerdict sheet
   unfolding sheetInputVerdict
-  judged-alone-result h = rw (buffer-not h)
+  alone-parts = sym (then-assoc (bufferVerdict len tableBytes) (editionVerdict edition) (sheetVerdict sheet))
 
-  pub judged-alone : len ≡ tableBytes → sheetVerdict sheet ≡ sheetInputVerdict len sheet
-  unfolding sheetInputVerdict
-  judged-alone e = rw (buffer-in e)
+  pub alone-then : throughVerdict edition len sheet ≡ sheetInputVerdict edition len sheet then lengthVerdict throughEdit (editsOf edition sheet) oneTrue
+  unfolding throughVerdict sheetInputVerdict
+  alone-then =
+      let d = editionVerdict edition in
+      let e = sheetVerdict sheet in
+      let l = lengthVerdict throughEdit (editsOf edition sheet) oneTrue in
+      rw (then-assoc (bufferVerdict len tableBytes) (d then e) l, then-assoc d e l)
 
-  pub accepted-alone : sheetInputVerdict len sheet ≡ Accepted → (len ≡ tableBytes) × (sheetLegal (editsOf sheet) ≡ true)
+  pub accepted-alone : sheetInputVerdict edition len sheet ≡ Accepted → (len ≡ tableBytes) × (sheetLegal (editsOf edition sheet) ≡ true)
   unfolding sheetInputVerdict
   accepted-alone e =
-      let p = then-out (bufferVerdict len tableBytes) (sheetVerdict sheet) e in
-      (buffer-out len tableBytes (p .0), accepted-sheet sheet (p .1) .are-legal)
-
-  pub alone-then : throughVerdict len sheet ≡ sheetInputVerdict len sheet then lengthVerdict throughEdit (editsOf sheet) oneTrue
-  unfolding throughVerdict sheetInputVerdict
-  alone-then = rw (then-assoc (bufferVerdict len tableBytes) (sheetVerdict sheet) (lengthVerdict throughEdit (editsOf sheet) oneTrue))
+      let p = then-out (bufferVerdict len tableBytes) _ e in
+      let d = then-out (editionVerdict edition) (sheetVerdict sheet) (p .1) in
+      (buffer-out len tableBytes (p .0), accepted-sheet edition sheet (d .1) .are-legal)
 
 -- ---- the answer
 

@@ -58,10 +58,10 @@ module _ (es : List Edit) (l : sheetLegal es ≡ true) (table : List ℕ) (a : c
       (sheet-closed es l xs (s .fits) some (s .is-closed))
 
 -- the same of an accepted sheet's bytes, and of the first n nodes of the buffer that rewriting leaves
-pub rewritten-accepted : (table sheet : List ℕ) → conditionVerdict table ≡ Accepted → sheetVerdict sheet ≡ Accepted
-    → tooLong rewriteTable (editsOf sheet) (tableOf table) ≡ false
-    → (zs o : List ℕ) (n : ℕ) → n ≡ length (rewriteSheet (editsOf sheet) (tableOf table)) → o ≡ bytesOf (rewriteSheet (editsOf sheet) (tableOf table)) ++ zs
+pub rewritten-accepted : (edition : ℕ) (table sheet : List ℕ) → conditionVerdict table ≡ Accepted → sheetVerdict sheet ≡ Accepted
+    → tooLong rewriteTable (editsOf edition sheet) (tableOf table) ≡ false
+    → (zs o : List ℕ) (n : ℕ) → n ≡ length (rewriteSheet (editsOf edition sheet) (tableOf table)) → o ≡ bytesOf (rewriteSheet (editsOf edition sheet) (tableOf table)) ++ zs
     → conditionVerdict (take (6 * n) o) ≡ Accepted
-rewritten-accepted table sheet a b short zs o n e f =
-    rw (taken (rewriteSheet (editsOf sheet) (tableOf table)) zs o n e f)
-    (image-accepted (editsOf sheet) (accepted-sheet sheet b .are-legal) table a short)
+rewritten-accepted edition table sheet a b short zs o n e f =
+    rw (taken (rewriteSheet (editsOf edition sheet) (tableOf table)) zs o n e f)
+    (image-accepted (editsOf edition sheet) (accepted-sheet edition sheet b .are-legal) table a short)

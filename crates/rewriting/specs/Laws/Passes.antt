@@ -40,9 +40,9 @@ legal-in [] j l h = absurd (not-suc-le-zero h)
 legal-in (e ∷ es) zero l h = and-l _ _ l
 legal-in (e ∷ es) (suc j) l h = legal-in es j (and-r (legal e) _ l) (omega arith)
 
-pub legal-at : {e : Edit} (s : List ℕ) (j : ℕ) → e ≡ editAt s j → j < length s / 4 → sheetLegal (editsOf s) ≡ true → legal e ≡ true
-legal-at s j q h l =
-    rw (q, ← edits-at s j (DS 0) h) (legal-in (editsOf s) j l (omega (arith, edits-length s)))
+pub legal-at : {e : Edit} (d : ℕ) (s : List ℕ) (j : ℕ) → e ≡ editAt d s j → j < length s / 4 → sheetLegal (editsOf d s) ≡ true → legal e ≡ true
+legal-at d s j q h l =
+    rw (q, ← edits-at d s j (DS 0) h) (legal-in (editsOf d s) j l (omega (arith, edits-length d s)))
 
 -- what is not too long at the end is so after no edit
 short-drop : (pass : Pass) (es : List Edit) (xs : List Node) (k : ℕ) → tooLong pass es xs ≡ false → tooLong pass (drop k es) xs ≡ false
@@ -122,21 +122,21 @@ keeps true e l xs h f = (omega (arith, through-grows e xs), edit-fits e l xs h f
 -- ---- the passes
 
 -- the edits from k on are done
-pub record Passing (pass : Pass) (sheet : List ℕ) (xs : List Node) (o : List ℕ) (count k : ℕ) : Type 0 where
+pub record Passing (pass : Pass) (edition : ℕ) (sheet : List ℕ) (xs : List Node) (o : List ℕ) (count k : ℕ) : Type 0 where
   pub most : k ≤ length sheet / 4
   pub few : count ≤ tableNodes
   pub some : 0 < count
-  pub short : tooLong pass (drop k (editsOf sheet)) xs ≡ false
-  pub counts : count ≡ length (passed pass (drop k (editsOf sheet)) xs)
-  pub bytes : take (6 * length (passed pass (drop k (editsOf sheet)) xs)) o ≡ bytesOf (passed pass (drop k (editsOf sheet)) xs)
-  pub fits : nodesFit 0 (passed pass (drop k (editsOf sheet)) xs) ≡ true
+  pub short : tooLong pass (drop k (editsOf edition sheet)) xs ≡ false
+  pub counts : count ≡ length (passed pass (drop k (editsOf edition sheet)) xs)
+  pub bytes : take (6 * length (passed pass (drop k (editsOf edition sheet)) xs)) o ≡ bytesOf (passed pass (drop k (editsOf edition sheet)) xs)
+  pub fits : nodesFit 0 (passed pass (drop k (editsOf edition sheet)) xs) ≡ true
 
-pub passing-start : (pass : Pass) (sheet s : List ℕ) (n k : ℕ) → ((i : ℕ) → getD s i 0 < 256) × (nodesFit 0 (nodes s n) ≡ true) → 6 * n ≤ length s
-    → n ≤ tableNodes → 0 < n → k ≡ length sheet / 4 → Passing pass sheet (nodes s n) s n k
+pub passing-start : (pass : Pass) (edition : ℕ) (sheet s : List ℕ) (n k : ℕ) → ((i : ℕ) → getD s i 0 < 256) × (nodesFit 0 (nodes s n) ≡ true) → 6 * n ≤ length s
+    → n ≤ tableNodes → 0 < n → k ≡ length sheet / 4 → Passing pass edition sheet (nodes s n) s n k
 unfolding passed tooLong
-passing-start pass sheet s n k h g m p d =
-    let all : length (editsOf sheet) ≤ k = omega (arith, edits-length sheet) in
-    let e : drop k (editsOf sheet) ≡ [] = drop-of-length-le (editsOf sheet) all in
+passing-start pass edition sheet s n k h g m p d =
+    let all : length (editsOf edition sheet) ≤ k = omega (arith, edits-length edition sheet) in
+    let e : drop k (editsOf edition sheet) ≡ [] = drop-of-length-le (editsOf edition sheet) all in
     record {
       most = omega arith;
       few = m;
@@ -148,33 +148,33 @@ passing-start pass sheet s n k h g m p d =
     }
 
 -- the nodes that the table has by then fit
-pub passing-fits : {pass : Pass} {sheet : List ℕ} {xs : List Node} {o : List ℕ} {count k : ℕ} → Passing pass sheet xs o count k
+pub passing-fits : {pass : Pass} {edition : ℕ} {sheet : List ℕ} {xs : List Node} {o : List ℕ} {count k : ℕ} → Passing pass edition sheet xs o count k
     → nodesFit 0 (nodes o count) ≡ true
-passing-fits {pass} {sheet} {xs} {o} {count} {k} P =
-    rw (P .counts, read-table o (passed pass (drop k (editsOf sheet)) xs) (P .bytes)) (P .fits)
+passing-fits {pass} {edition} {sheet} {xs} {o} {count} {k} P =
+    rw (P .counts, read-table o (passed pass (drop k (editsOf edition sheet)) xs) (P .bytes)) (P .fits)
 
 -- one edit more
-module _ {pass : Pass} {sheet : List ℕ} {xs : List Node} {o : List ℕ} {count j k : ℕ} {e : Edit}
-    (P : Passing pass sheet xs o count j) (d : j ≡ suc k) (q : e ≡ editAt sheet k) where
+module _ {pass : Pass} {edition : ℕ} {sheet : List ℕ} {xs : List Node} {o : List ℕ} {count j k : ℕ} {e : Edit}
+    (P : Passing pass edition sheet xs o count j) (d : j ≡ suc k) (q : e ≡ editAt edition sheet k) where
   in-sheet : k < length sheet / 4
   in-sheet = omega (arith, P .most)
 
   -- the table that is made next
   abbrev next : List Node
-  next = passed pass (drop k (editsOf sheet)) xs
+  next = passed pass (drop k (editsOf edition sheet)) xs
 
   next-table : pass e (nodes o count) ≡ next
   unfolding passed
   next-table =
-      ap₂ pass q (ap (nodes o) (P .counts) ∙ read-table o (passed pass (drop j (editsOf sheet)) xs) (P .bytes))
-      ∙ rw (edits-drop sheet k in-sheet, d) refl
+      ap₂ pass q (ap (nodes o) (P .counts) ∙ read-table o (passed pass (drop j (editsOf edition sheet)) xs) (P .bytes))
+      ∙ rw (edits-drop edition sheet k in-sheet, d) refl
 
-  next-long : tooLong pass (drop k (editsOf sheet)) xs ≡ below tableNodes (length next)
+  next-long : tooLong pass (drop k (editsOf edition sheet)) xs ≡ below tableNodes (length next)
   unfolding tooLong
-  next-long = rw (edits-drop sheet k in-sheet) (rw (rw d at (P .short)) refl)
+  next-long = rw (edits-drop edition sheet k in-sheet) (rw (rw d at (P .short)) refl)
 
   pub passing-more : Keeps pass → (spare : List ℕ) {made : ℕ} {o′ : List ℕ} → TableMade (pass e (nodes o count)) spare made → made ≤ tableNodes
-      → length spare ≡ tableBytes → o′ ≡ take (6 * made) spare ++ drop (6 * made) o → legal e ≡ true → Passing pass sheet xs o′ made k
+      → length spare ≡ tableBytes → o′ ≡ take (6 * made) spare ++ drop (6 * made) o → legal e ≡ true → Passing pass edition sheet xs o′ made k
   passing-more keeps spare {made} {o′} m f l eo lg =
       let w = made-short m f in
       let n : made ≡ length next = w .0 ∙ ap length next-table in
@@ -191,16 +191,16 @@ module _ {pass : Pass} {sheet : List ℕ} {xs : List Node} {o : List ℕ} {count
       }
 
   pub passing-long : {made : ℕ} (o′ : List ℕ) {s : List ℕ} → TableMade (pass e (nodes o count)) s made → tableNodes < made
-      → Passed pass (editsOf sheet) xs o′ made
+      → Passed pass (editsOf edition sheet) xs o′ made
   passing-long {made} o′ m h =
       let lt : tableNodes < length next = omega (arith, made-long m h, ap length next-table) in
       record {
-        right = λ t. clash (next-long ∙ below-in tableNodes _ lt) (short-drop pass (editsOf sheet) xs k t);
+        right = λ t. clash (next-long ∙ below-in tableNodes _ lt) (short-drop pass (editsOf edition sheet) xs k t);
         long = λ _. h;
       }
 
-pub passing-done : {pass : Pass} {sheet : List ℕ} {xs : List Node} {o : List ℕ} {count k : ℕ} → k ≡ 0 → Passing pass sheet xs o count k
-    → Passed pass (editsOf sheet) xs o count
+pub passing-done : {pass : Pass} {edition : ℕ} {sheet : List ℕ} {xs : List Node} {o : List ℕ} {count k : ℕ} → k ≡ 0 → Passing pass edition sheet xs o count k
+    → Passed pass (editsOf edition sheet) xs o count
 passing-done {o = o} e P =
     let z = rw e at P in
     record { right = λ _. (z .counts, z .few, z .bytes); long = λ t. clash t (z .short) }

@@ -9,9 +9,9 @@ use Rattle.finite.specs.Tests.{same}
 use Rattle.finite.specs.Laws.Bools.{clash, and-in, and-l, and-r}
 use Rattle.semantics.specs.Form.{Form, top}
 use Rattle.semantics.specs.Holds.{Env, Model}
-use Rattle.semantics.specs.Edit.{Edit, CN1, CN2, AP, DP, AT, DT1, DT2, AS, DS}
+use Rattle.semantics.specs.Edit.{Edit, CN1, CN2, AP, DP, AT, RT, DT1, DT2, AS, DS}
 use Rattle.semantics.specs.Table.{Leaf, kTrue, kHere, kLabel, kName, kVar, kSlot, kNot, kDia, kBox, kMu, kNu, kOr, kAnd, Kind, leaf, unary, binary, kindNo, kindOf, wayOf, Node, node, atom, one, two, build, tree, trees, treeAt, formOf}
-use Rattle.semantics.specs.Block.{Change, keep, added, cut, cutFrom, cutTo, cutOff, change, Block, old, end, on, join, size, root, emit, blockDia, blockBox, blockLeaf, block, rewrite, rewriteTable, Pass, passed, rewriteSheet}
+use Rattle.semantics.specs.Block.{Change, keep, added, onlyFrom, onlyTo, cut, cutFrom, cutTo, cutOff, change, Block, old, end, on, join, size, root, emit, blockDia, blockBox, blockLeaf, block, rewrite, rewriteTable, Pass, passed, rewriteSheet}
 use Rattle.semantics.specs.Laws.Emit.{kind-kind}
 use Rattle.rounds.specs.Makes.{Makes}
 
@@ -119,6 +119,7 @@ leaf-loopless (CN2 n1 n2 f) kHere p = refl
 leaf-loopless (AP n q) kHere p = refl
 leaf-loopless (DP n q) kHere p = refl
 leaf-loopless (AT m n1 n2) kHere p = refl
+leaf-loopless (RT f n1 n2) kHere p = refl
 leaf-loopless (DT1 m n1 n2) kHere p = refl
 leaf-loopless (DT2 f n) kHere p = refl
 leaf-loopless (AS n k) kHere p = refl
@@ -128,6 +129,7 @@ leaf-loopless (CN2 n1 n2 f) kLabel p = refl
 leaf-loopless (AP n q) kLabel p = cond-loopless (same p q) _ _ refl refl
 leaf-loopless (DP n q) kLabel p = cond-loopless (same p q) _ _ refl refl
 leaf-loopless (AT m n1 n2) kLabel p = refl
+leaf-loopless (RT f n1 n2) kLabel p = refl
 leaf-loopless (DT1 m n1 n2) kLabel p = refl
 leaf-loopless (DT2 f n) kLabel p = refl
 leaf-loopless (AS n k) kLabel p = refl
@@ -137,6 +139,7 @@ leaf-loopless (CN2 n1 n2 f) kName y = cond-loopless (same y n1) _ _ refl refl
 leaf-loopless (AP n q) kName y = refl
 leaf-loopless (DP n q) kName y = refl
 leaf-loopless (AT m n1 n2) kName y = refl
+leaf-loopless (RT f n1 n2) kName y = refl
 leaf-loopless (DT1 m n1 n2) kName y = refl
 leaf-loopless (DT2 f n) kName y = refl
 leaf-loopless (AS n k) kName y = cond-loopless (same y n) _ _ refl refl
@@ -149,6 +152,8 @@ change-loopless : (c : Change) (w i : ℕ) → (looplessBlock (blockDia c w (old
 unfolding blockDia blockBox looplessBlock noLoop
 change-loopless keep w i = (refl, refl)
 change-loopless (added a b) w i = (refl, refl)
+change-loopless (onlyFrom a b) w i = (refl, refl)
+change-loopless (onlyTo a b) w i = (refl, refl)
 change-loopless (cut a b) w i = (refl, refl)
 change-loopless (cutFrom n) w i = (refl, refl)
 change-loopless (cutTo n) w i = (refl, refl)

@@ -18,6 +18,8 @@ use Rattle.samples.specs.Rows.{tableR}
 use Rattle.condition.specs.Bytes as condition
 use Rattle.condition.specs.Refusal.{conditionVerdict}
 use Rattle.condition.specs.Laws.Bytes.{table-back}
+use Rattle.editions.specs.Edition.{editionVerdict}
+use Rattle.sheet.specs.Bytes.{inEdition, allInEdition}
 use Rattle.sheet.specs.Refusal.{sheetVerdict}
 use Rattle.sheet.specs.Laws.Read.{edits-back}
 use Rattle.sheet.specs.Laws.Accepted.{sheet-accepted}
@@ -56,10 +58,15 @@ unfolding sheetLegal legal below
 edits-legal zero = refl
 edits-legal (suc k) = edits-legal k
 
+edits-in : (d k : ℕ) → allInEdition d (edits k) ≡ true
+unfolding allInEdition inEdition
+edits-in d zero = refl
+edits-in d (suc k) = edits-in d k
+
 sheet-ok : (k : ℕ) → k ≤ 64 → sheetVerdict (cuts k) ≡ Accepted
 sheet-ok k h =
-    sheet-accepted (cuts k) (edits k)
-    (record { bytes = refl; are-legal = edits-legal k; few = omega (arith, length-replicate {A = Edit} k (DT1 4 1 2)) })
+    sheet-accepted 1 (cuts k) (edits k)
+    (record { bytes = refl; are-legal = edits-legal k; in-edition = edits-in 1 k; few = omega (arith, length-replicate {A = Edit} k (DT1 4 1 2)) })
 
 -- ---- the rewritten table
 
@@ -69,19 +76,19 @@ nodes-are k = omega (arith, rw (five, cost-8) at (nodes-through 4 1 2 k tableR),
 long-is : (k : ℕ) → tooLong rewriteTable (edits k) tableR ≡ below tableNodes (5 + 8 * (2 ^ k - 1))
 long-is k = too-long-end rewriteTable table-grows (edits k) tableR (omega (arith, five)) ∙ ap (below tableNodes) (nodes-are k)
 
-module _ (k : ℕ) (few : k ≤ 64) (call : RewriteCall (condition.bytesOf tableR) (cuts k)) where
-  verdict-is : rewriteVerdict (length (call .result)) (condition.bytesOf tableR) (cuts k) ≡ lengthVerdict rewriteTable (edits k) tableR
+module _ {edition : ℕ} (known : editionVerdict edition ≡ Accepted) (k : ℕ) (few : k ≤ 64) (call : RewriteCall edition (condition.bytesOf tableR) (cuts k)) where
+  verdict-is : rewriteVerdict edition (length (call .result)) (condition.bytesOf tableR) (cuts k) ≡ lengthVerdict rewriteTable (edits k) tableR
   unfolding rewriteVerdict
-  verdict-is = rw (buffer-in (call .result-size), table-ok, sheet-ok k few, edits-back (edits k), table-back tableR)
+  verdict-is = rw (buffer-in (call .result-size), known, table-ok, sheet-ok k few, edits-back edition (edits k) (edits-in edition k), table-back tableR)
 
   short : k ≤ 8 → (call .reason ≡ 0) × (call .nodes ≡ 5 + 8 * (2 ^ k - 1))
   unfolding lengthVerdict TableAfter
   short h =
       let p : 2 ^ k ≤ 2 ^ 8 = pow-mono h in
-      let v : rewriteVerdict (length (call .result)) (condition.bytesOf tableR) (cuts k) ≡ Accepted =
+      let v : rewriteVerdict edition (length (call .result)) (condition.bytesOf tableR) (cuts k) ≡ Accepted =
       rw (verdict-is, long-is k, below-not tableNodes (5 + 8 * (2 ^ k - 1)) (omega arith)) in
       let t = rw v at (call .returned .left) in
-      (call .returned .reason-is ∙ ap reasonOf v, t .0 ∙ rw (edits-back (edits k), table-back tableR) (nodes-are k))
+      (call .returned .reason-is ∙ ap reasonOf v, t .0 ∙ rw (edits-back edition (edits k) (edits-in edition k), table-back tableR) (nodes-are k))
 
   long : 9 ≤ k → NotRewritten call 14 0
   unfolding lengthVerdict
@@ -89,9 +96,9 @@ module _ (k : ℕ) (few : k ≤ 64) (call : RewriteCall (condition.bytesOf table
       let p : 2 ^ 9 ≤ 2 ^ k = pow-mono h in
       not-rewritten call 14 0 (rw (verdict-is, long-is k, below-in tableNodes (5 + 8 * (2 ^ k - 1)) (omega arith)))
 
-pub doubles : Doubles
-doubles = record {
-  fits = λ k h c. short k (omega arith) c (omega arith);
-  eight = λ c. short 8 (omega arith) c (omega arith);
-  too-long = λ k h l c. long k l c (omega arith);
+pub doubles : (edition : ℕ) → editionVerdict edition ≡ Accepted → Doubles edition
+doubles edition known = record {
+  fits = λ k h c. short known k (omega arith) c (omega arith);
+  eight = λ c. short known 8 (omega arith) c (omega arith);
+  too-long = λ k h l c. long known k l c (omega arith);
 }

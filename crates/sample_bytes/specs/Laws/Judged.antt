@@ -26,7 +26,7 @@ use Rattle.condition.specs.Refusal.{sizeFits, firstUnfit, firstUneven, conditio
 use Rattle.condition.specs.Laws.Bytes.{length-bytes, table-back}
 use Rattle.condition.specs.Laws.Fits.{fit-none}
 use Rattle.condition.specs.Laws.Verdict.{size-in, item-9, bytes-accepted}
-use Rattle.sheet.specs.Bytes.{editsOf}
+use Rattle.sheet.specs.Bytes.{editsOf, allInEdition}
 use Rattle.sheet.specs.Refusal.{sheetVerdict}
 use Rattle.sheet.specs.Laws.Read.{edits-back}
 use Rattle.sheet.specs.Laws.Accepted.{sheet-accepted}
@@ -83,27 +83,30 @@ module _ (r : Row) (o : Sound r) (f : Fits r) where
   pub site-ok : siteVerdict (siteIn r) ≡ Accepted
   site-ok = site-valid (siteIn r) .1 (write.length-bytes (before r), subst Valid (sym site-read) (o .valid))
 
-  pub sheet-read : editsOf (sheetIn r) ≡ r .edits
-  sheet-read = edits-back (r .edits)
-
-  pub sheet-ok : sheetVerdict (sheetIn r) ≡ Accepted
-  sheet-ok = sheet-accepted (sheetIn r) (r .edits) (record { bytes = refl; are-legal = o .legal-sheet; few = f .few-edits })
-
   pub table-read : tableOf (tableIn r) ≡ r .table
   table-read = table-back (r .table)
 
-  module _ {S : Slots} {c k a t : ℕ} (l : Lists r S c k a t) where
-    pub table-ok : conditionVerdict (tableIn r) ≡ Accepted
-    table-ok = table-accepted (r .table) (o .some-node) (f .few-nodes) (o .fits) (l .even-rule) (o .is-closed)
+  pub table-ok : {S : Slots} {c k a t : ℕ} → Lists r S c k a t → conditionVerdict (tableIn r) ≡ Accepted
+  table-ok l = table-accepted (r .table) (o .some-node) (f .few-nodes) (o .fits) (l .even-rule) (o .is-closed)
 
-    pub goes-ok : sheetGoes (editsOf (sheetIn r)) (siteOf (siteIn r)) ≡ true
-    goes-ok = rw (sheet-read, site-read) (l .goes-through)
+  -- in an edition that has the row's edits
+  module _ (edition : ℕ) (i : allInEdition edition (r .edits) ≡ true) where
+    pub sheet-read : editsOf edition (sheetIn r) ≡ r .edits
+    sheet-read = edits-back edition (r .edits) i
 
-    pub fits-ok : k ≤ tableNodes → length (rewriteSheet (editsOf (sheetIn r)) (tableOf (tableIn r))) ≤ tableNodes
-    fits-ok h = rw (sheet-read, table-read) (omega (arith, l .node-count))
+    pub sheet-ok : sheetVerdict (sheetIn r) ≡ Accepted
+    sheet-ok =
+        sheet-accepted edition (sheetIn r) (r .edits) (record { bytes = refl; are-legal = o .legal-sheet; in-edition = i; few = f .few-edits })
 
-  pub goes-stuck : {w : ℕ} → Stuck r w → goesVerdict (editsOf (sheetIn r)) (siteOf (siteIn r)) ≡ Refused 13 w
-  goes-stuck {w} s = rw (sheet-read, site-read) (stuck-refused (r .edits) (before r) w (s .inside) (s .others-go) (s .stuck))
+    module _ {S : Slots} {c k a t : ℕ} (l : Lists r S c k a t) where
+      pub goes-ok : sheetGoes (editsOf edition (sheetIn r)) (siteOf (siteIn r)) ≡ true
+      goes-ok = rw (sheet-read, site-read) (l .goes-through)
+
+      pub fits-ok : k ≤ tableNodes → length (rewriteSheet (editsOf edition (sheetIn r)) (tableOf (tableIn r))) ≤ tableNodes
+      fits-ok h = rw (sheet-read, table-read) (omega (arith, l .node-count))
+
+    pub goes-stuck : {w : ℕ} → Stuck r w → goesVerdict (editsOf edition (sheetIn r)) (siteOf (siteIn r)) ≡ Refused 13 w
+    goes-stuck {w} s = rw (sheet-read, site-read) (stuck-refused (r .edits) (before r) w (s .inside) (s .others-go) (s .stuck))
 
   pub table-refused : {w : ℕ} → Odd r w → conditionVerdict (tableIn r) ≡ Refused 9 w
   table-refused {w} d = table-odd (r .table) (o .some-node) (f .few-nodes) (o .fits) w (d .inside) (d .lowest)

@@ -20,16 +20,16 @@ use Rattle.demands.specs.Demands.{ApplyCall, RewriteCall, ListCall, rewrittenTa
 use Rattle.demands.specs.Laws.Demands.{demand-2, is-rewritten}
 use Rattle.demands.specs.Laws.Rounds.{not-over}
 
-module _ (site sheet : List ℕ) (xs : List Node) (still : loopless xs ≡ true) (j : Runnable site (condition.bytesOf xs) sheet)
-    (applied : ApplyCall site sheet) (rewrote : RewriteCall (condition.bytesOf xs) sheet)
+module _ (edition : ℕ) (site sheet : List ℕ) (xs : List Node) (still : loopless xs ≡ true) (j : Runnable edition site (condition.bytesOf xs) sheet)
+    (applied : ApplyCall edition site sheet) (rewrote : RewriteCall edition (condition.bytesOf xs) sheet)
     (today : ListCall site (rewrittenTable rewrote)) (after : ListCall (applied .result′) (condition.bytesOf xs)) where
   same-lists : SameLists applied rewrote today after
   unfolding Demand2
   same-lists =
       let makes-after : SiteMakes (applied .result′) (condition.bytesOf xs) 0 = λ ρ. rw (table-back xs) (loopless-makes xs still (siteOf (applied .result′)) ρ) in
       let makes-today : SiteMakes site (rewrittenTable rewrote) 0 =
-      λ ρ. rw (is-rewritten j rewrote, table-back xs) (loopless-makes _ (sheet-loopless (editsOf sheet) xs still) (siteOf site) ρ) in
-      demand-2 site (condition.bytesOf xs) sheet j applied rewrote today after
+      λ ρ. rw (is-rewritten j rewrote, table-back xs) (loopless-makes _ (sheet-loopless (editsOf edition sheet) xs still) (siteOf site) ρ) in
+      demand-2 edition site (condition.bytesOf xs) sheet j applied rewrote today after
       (not-over makes-today today (omega arith))
       (not-over makes-after after (omega arith))
 

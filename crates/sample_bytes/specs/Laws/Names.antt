@@ -17,7 +17,7 @@ use Rattle.semantics.specs.Form.{closed, free, even, occ}
 use Rattle.semantics.specs.Holds.{Env, Model, Holds, Distinguishes}
 use Rattle.semantics.specs.Bisimulation.{Bisimilar}
 use Rattle.semantics.specs.Table.{kindOf, kindNo, atom, build, tree, trees, treeAt, formOf, leafFits, kindFits, nodeFits, nodesFit, evenTable, slotFree, ClosedTable}
-use Rattle.semantics.specs.Edit.{Edit, CN1, CN2, AP, DP, AT, DT1, DT2, AS, DS, functional, legal, sheetLegal}
+use Rattle.semantics.specs.Edit.{Edit, CN1, CN2, AP, DP, AT, RT, DT1, DT2, AS, DS, functional, legal, sheetLegal}
 use Rattle.semantics.specs.Block.{rewriteSheet}
 use Rattle.semantics.specs.Laws.FixedPoint.{none}
 use Rattle.rounds.specs.Laws.Loopless.{noLoop, loopless}
@@ -32,10 +32,11 @@ use Rattle.condition.specs.Refusal.{firstUnfit, conditionVerdict}
 use Rattle.condition.specs.Laws.Bytes.{length-bytes, table-back}
 use Rattle.condition.specs.Laws.Verdict.{size-in, item-8}
 use Rattle.sheet.specs.Bytes as sheet
-use Rattle.sheet.specs.Bytes.{editsOf}
+use Rattle.editions.specs.Edition.{second}
+use Rattle.sheet.specs.Bytes.{editsOf, inEdition, allInEdition}
 use Rattle.sheet.specs.Refusal.{sheetVerdict}
 use Rattle.sheet.specs.Laws.Accepted.{sheet-accepted, one-refused}
-use Rattle.going.specs.Laws.Ranges.{legal-CN1, legal-CN2, legal-AP, legal-DP, legal-AT, legal-DT1, legal-DT2, legal-AS, legal-DS}
+use Rattle.going.specs.Laws.Ranges.{legal-CN1, legal-CN2, legal-AP, legal-DP, legal-AT, legal-RT, legal-DT1, legal-DT2, legal-AS, legal-DS}
 use Rattle.classes.specs.Classes.{Classes}
 use Rattle.classes_entry.specs.Classing.{ClassesAfter}
 use Rattle.demands.specs.Demands.{ApplyCall, RewriteCall, ListCall, ClassCall, rewrittenTable, Going, Runnable, Demand3}
@@ -71,10 +72,11 @@ name-refused n h =
 -- ---- and in edits
 
 edits-accepted : (n : ℕ) → 0 < n → n < names → sheetVerdict (sheet.bytesOf (everyOperand n)) ≡ Accepted
-unfolding everyOperand sheetLegal legal functional slots below
+unfolding everyOperand sheetLegal legal functional slots below inEdition allInEdition same
 edits-accepted n p h =
     let moved : n ≢ 0 = λ e. absurd (omega arith) in
-    sheet-accepted _ (everyOperand n) (record { bytes = refl; are-legal = rw (below-in n names h, ne-same moved); few = omega arith })
+    sheet-accepted second _ (everyOperand n)
+    (record { bytes = refl; are-legal = rw (below-in n names h, ne-same moved); in-edition = refl; few = omega arith })
 
 both-below : {n1 n2 : ℕ} → (n1 < names) × (n2 < names) → each (λ n. below n names) (n1 ∷ n2 ∷ []) ≡ true
 unfolding each
@@ -91,6 +93,7 @@ legal-names (CN2 n1 n2 f) l = let r = legal-CN2 n1 n2 f l in both-below (r .0, r
 legal-names (AP n p) l = one-below (legal-AP n p l .0)
 legal-names (DP n p) l = one-below (legal-DP n p l .0)
 legal-names (AT m n1 n2) l = both-below (legal-AT m n1 n2 l .1)
+legal-names (RT f n1 n2) l = both-below (legal-RT f n1 n2 l .1)
 legal-names (DT1 m n1 n2) l = both-below (legal-DT1 m n1 n2 l .1)
 legal-names (DT2 f n) l = one-below (legal-DT2 f n l .1)
 legal-names (AS n k) l = one-below (legal-AS n k l .0)
@@ -121,22 +124,22 @@ alone site a call n s h j =
 
 -- ---- the condition that is a name, today and after
 
-found : (site sheet : List ℕ) (n : ℕ) → Runnable site (nameBytes n) sheet
-    → (applied : ApplyCall site sheet) (rewrote : RewriteCall (nameBytes n) sheet)
+found : (edition : ℕ) (site sheet : List ℕ) (n : ℕ) → Runnable edition site (nameBytes n) sheet
+    → (applied : ApplyCall edition site sheet) (rewrote : RewriteCall edition (nameBytes n) sheet)
     → (today : ListCall site (rewrittenTable rewrote)) (after : ListCall (applied .result′) (nameBytes n))
     → (today .set′ ≡ after .set′) × Is (today .set′) (λ s. same s (siteOf (applied .result′) .place n))
 unfolding slots formOf treeAt trees tree build atom kindOf tableName Holds loopless noLoop
-found site sheet n j a w t u =
-    let holds = today-holds site sheet (tableName n) refl j a w t u (λ v. none) in
-    (lists-same site sheet (tableName n) refl j a w t u, λ s h. both (λ p. eq-same (holds s h .0 p)) (λ p. holds s h .1 (same-eq p)))
+found edition site sheet n j a w t u =
+    let holds = today-holds edition site sheet (tableName n) refl j a w t u (λ v. none) in
+    (lists-same edition site sheet (tableName n) refl j a w t u, λ s h. both (λ p. eq-same (holds s h .0 p)) (λ p. holds s h .1 (same-eq p)))
 
-alike : (site sheet : List ℕ) (n : ℕ) → n < names → Going site sheet
-    → (applied : ApplyCall site sheet) (numbered : ClassCall (applied .result′)) (ρ : Env) (s t : ℕ) → s < slots → t < slots
+alike : (edition : ℕ) (site sheet : List ℕ) (n : ℕ) → n < names → Going edition site sheet
+    → (applied : ApplyCall edition site sheet) (numbered : ClassCall (applied .result′)) (ρ : Env) (s t : ℕ) → s < slots → t < slots
     → getD (numbered .classes′) s 0 ≡ getD (numbered .classes′) t 0
-    → ¬ Distinguishes (siteOf site) ρ (formOf (rewriteSheet (editsOf sheet) (tableName n))) s t
+    → ¬ Distinguishes (siteOf site) ρ (formOf (rewriteSheet (editsOf edition sheet) (tableName n))) s t
 unfolding Demand3
-alike site sheet n l g a c ρ s t h k e d =
-    demand-3 site sheet g a c .same-numbers ρ s t h k .0 e (record { table = tableName n; is-closed = closed-name n l; tells = d })
+alike edition site sheet n l g a c ρ s t h k e d =
+    demand-3 edition site sheet g a c .same-numbers ρ s t h k .0 e (record { table = tableName n; is-closed = closed-name n l; tells = d })
 
 pub forty-eight : Names
 forty-eight = record {
@@ -148,8 +151,8 @@ forty-eight = record {
   node-accepted = λ n h. name-accepted n (omega arith);
   node-refused = λ n h. name-refused n (omega arith);
   edits-accepted = λ n p h. edits-accepted n p (omega arith);
-  edit-refused = λ e p. one-refused e (no-true (λ l. clash (legal-names e l) p));
+  edit-refused = λ edition e i p. one-refused edition e i (no-true (λ l. clash (legal-names e l) p));
   alone = λ site a call n s h. alone site a call n s (omega arith);
   found = found;
-  alike = λ site sheet n h. alike site sheet n (omega arith);
+  alike = λ edition site sheet n h. alike edition site sheet n (omega arith);
 }

@@ -1,6 +1,6 @@
 -- Slot 0 has no label: by what a valid site is, since edits leave a site valid.
 use mathlib.Core.Path.{_≡_, refl, sym, _∙_}
-use mathlib.Core.Bool.{false}
+use mathlib.Core.Bool.{true, false}
 use mathlib.Core.List.{List, [], _∷_}
 use Prim.Native.Nat.{ℕ, _<_}
 use native.Mathlib.Omega.{arith}
@@ -17,6 +17,8 @@ use Rattle.semantics.specs.Edit.{AP, legal, goes, sheetLegal, sheetGoes}
 use Rattle.semantics.specs.Laws.FixedPoint.{none}
 use Rattle.rounds.specs.Laws.Loopless.{noLoop, loopless}
 use Rattle.samples.specs.Rows.{tableLabel}
+use Rattle.editions.specs.Edition.{editionVerdict}
+use Rattle.sheet.specs.Bytes.{inEdition, allInEdition}
 use Rattle.site.specs.Site.{siteOf}
 use Rattle.site.specs.Refusal.{siteVerdict}
 use Rattle.site.specs.Laws.Valid.{site-valid, nil-labelled}
@@ -33,36 +35,43 @@ use Rattle.sample_bytes.specs.Laws.Refused.{site-refused}
 unlabelled : (site : List ℕ) → siteVerdict site ≡ Accepted → (p : ℕ) → siteOf site .marked p 0 ≡ false
 unlabelled site a p = no-true (λ e. site-valid site .0 a .1 .labelled p 0 e .1 refl)
 
-module _ (site : List ℕ) (a : siteVerdict site ≡ Accepted) (n p : ℕ) (hn : n < names) (hp : p < labels) where
-  going : Going site (apBytes n p)
+module _ (edition : ℕ) (known : editionVerdict edition ≡ Accepted) (site : List ℕ) (a : siteVerdict site ≡ Accepted) (n p : ℕ) (hn : n < names)
+    (hp : p < labels) where
+  one-edit : allInEdition edition (AP n p ∷ []) ≡ true
+  unfolding allInEdition inEdition
+  one-edit = refl
+
+  going : Going edition site (apBytes n p)
   unfolding sheetLegal legal sheetGoes goes
   going = record {
+    edition-accepted = known;
     site-accepted = a;
-    sheet-accepted = sheet-accepted _ (AP n p ∷ []) (record { bytes = refl; are-legal = rw (below-in n names hn, below-in p labels hp); few = omega arith });
-    goes-through = rw (edits-back (AP n p ∷ []));
+    sheet-accepted = sheet-accepted edition _ (AP n p ∷ [])
+        (record { bytes = refl; are-legal = rw (below-in n names hn, below-in p labels hp); in-edition = one-edit; few = omega arith });
+    goes-through = rw (edits-back edition (AP n p ∷ []) one-edit);
   }
 
-  nothing-marked : Bytes site → siteOf site .place n ≡ 0 → (call : ApplyCall site (apBytes n p)) → (call .reason ≡ 0) × (call .result′ ≡ site)
+  nothing-marked : Bytes site → siteOf site .place n ≡ 0 → (call : ApplyCall edition site (apBytes n p)) → (call .reason ≡ 0) × (call .result′ ≡ site)
   unfolding edits.sheet
   nothing-marked b nil call =
       let w = site-left going call in
-      let same : siteOf (call .result′) ≡ siteOf site = (rw (edits-back (AP n p ∷ [])) at (w .effects)) ∙ sym (row-AP-nil (siteOf site) n p refl nil) in
+      let same : siteOf (call .result′) ≡ siteOf site = (rw (edits-back edition (AP n p ∷ []) one-edit) at (w .effects)) ∙ sym (row-AP-nil (siteOf site) n p refl nil) in
       (apply-reason going call, same-site (call .result′) site (w .bytes) b same (w .size) (site-valid site .0 a .0))
 
-listed : (site sheet : List ℕ) (p : ℕ) → Runnable site (labelBytes p) sheet
-    → (applied : ApplyCall site sheet) (rewrote : RewriteCall (labelBytes p) sheet)
+listed : (edition : ℕ) (site sheet : List ℕ) (p : ℕ) → Runnable edition site (labelBytes p) sheet
+    → (applied : ApplyCall edition site sheet) (rewrote : RewriteCall edition (labelBytes p) sheet)
     → (today : ListCall site (rewrittenTable rewrote)) (after : ListCall (applied .result′) (labelBytes p))
     → (today .set′ ≡ after .set′) × Is (today .set′) (siteOf (applied .result′) .marked p) × (has (today .set′) 0 ≡ false)
 unfolding slots formOf treeAt trees tree build atom kindOf tableLabel Holds loopless noLoop
-listed site sheet p j a w t u =
-    let holds = today-holds site sheet (tableLabel p) refl j a w t u (λ v. none) in
+listed edition site sheet p j a w t u =
+    let holds = today-holds edition site sheet (tableLabel p) refl j a w t u (λ v. none) in
     let is : Is (t .set′) (siteOf (a .result′) .marked p) = λ s h. both (λ q. holds s h .0 q) (λ q. holds s h .1 q) in
-    (lists-same site sheet (tableLabel p) refl j a w t u, is, is 0 (omega arith) ∙ unlabelled (a .result′) (left-accepted (j .going) a) p)
+    (lists-same edition site sheet (tableLabel p) refl j a w t u, is, is 0 (omega arith) ∙ unlabelled (a .result′) (left-accepted (j .going) a) p)
 
 pub off-site : OffSite
 off-site = record {
   unlabelled = unlabelled;
   label-refused = λ site l h p m. site-refused site 5 (omega arith) (nil-labelled site l h p m);
-  nothing-marked = λ site b a n p hn hp nil. nothing-marked site a n p hn hp b nil;
+  nothing-marked = λ edition known site b a n p hn hp nil. nothing-marked edition known site a n p hn hp b nil;
   listed = listed;
 }

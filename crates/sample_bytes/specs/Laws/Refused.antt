@@ -36,13 +36,13 @@ no-answer : {due : Verdict} {After : Verdict → Type 0} {reason fault count len
     → Returned due After reason fault → count ≡ 0 → buffer′ ≡ replicate len 0 → len ≡ size → NoAnswer reason fault count size buffer′ item w
 no-answer v r n z l = record { refused = refused-with v r; count-none = n; zeros = z ∙ ap (λ (n : ℕ). replicate n 0) l }
 
-pub not-applied : {site sheet : List ℕ} (call : ApplyCall site sheet) (item w : ℕ) → applyVerdict (length (call .result)) site sheet ≡ Refused item w
-    → NotApplied call item w
+pub not-applied : {edition : ℕ} {site sheet : List ℕ} (call : ApplyCall edition site sheet) (item w : ℕ)
+    → applyVerdict edition (length (call .result)) site sheet ≡ Refused item w → NotApplied call item w
 unfolding SiteAfter
 not-applied call item w v = no-answer v (call .returned) refl (rw v at (call .returned .left)) (call .result-size)
 
-pub not-rewritten : {table sheet : List ℕ} (call : RewriteCall table sheet) (item w : ℕ)
-    → rewriteVerdict (length (call .result)) table sheet ≡ Refused item w → NotRewritten call item w
+pub not-rewritten : {edition : ℕ} {table sheet : List ℕ} (call : RewriteCall edition table sheet) (item w : ℕ)
+    → rewriteVerdict edition (length (call .result)) table sheet ≡ Refused item w → NotRewritten call item w
 unfolding TableAfter
 not-rewritten call item w v = let z = rw v at (call .returned .left) in no-answer v (call .returned) (z .0) (z .1) (call .result-size)
 
@@ -77,7 +77,7 @@ pub site-refused : (site : List ℕ) (item : ℕ) → 0 < item → siteVerdict s
 unfolding listVerdict listInputs applyVerdict classesVerdict jobVerdict jobInputs piecesVerdict
 site-refused site item h v = record {
   listing = λ table c. not-listed c item 0 (rw (buffer-in (c .set-size), buffer-in (c .work-size), limit-in (c .limit-fits), v));
-  applying = λ sheet c. not-applied c item 0 (rw (buffer-in (c .result-size), v));
+  applying = λ edition sheet k c. not-applied c item 0 (rw (buffer-in (c .result-size), k, v));
   classes = λ c. not-classed c item 0 (rw (buffer-in (c .classes-size), v));
   job = λ file t e c. not-run c item 0 h (rw (sized-in (c .lent) (c .sized), limit-in (c .limit-fits), t, e, v));
 }

@@ -1,7 +1,7 @@
 -- A row that passes a test has pieces that can be written: the checker computes it.
 use mathlib.Core.Path.{_≡_, refl, sym, subst}
 use mathlib.Core.List.{List, [], _∷_}
-use mathlib.Core.Bool.{Bool, true, _&&_}
+use mathlib.Core.Bool.{Bool, true, _&&_, _||_}
 use Prim.Native.Nat.{ℕ, zero, suc, _≤_}
 use native.Mathlib.Omega.{arith}
 use lib.ListN.{length}
@@ -10,8 +10,10 @@ use Rattle.finite.specs.Tests.{same, below}
 use Rattle.finite.specs.Laws.Bools.{either, look, and-l, and-r}
 use Rattle.finite.specs.Laws.Below.{same-eq, below-out}
 use Rattle.limits.specs.Limits.{labels, names, links, tableNodes}
-use Rattle.samples.specs.Site.{each, Small, nameAt, model, siteA, ring, namesTogether, crowded}
-use Rattle.samples.specs.Rows.{Expected, lists, stuckAt, oddAt, Row, tableR, tableName, tableLoop, tableLabel, tableSome, rows}
+use Rattle.semantics.specs.Edit.{Edit, functional}
+use Rattle.editions.specs.Edition.{second}
+use Rattle.samples.specs.Site.{each, Small, nameAt, model, siteA, ring, stranded, namesTogether, crowded}
+use Rattle.samples.specs.Rows.{Expected, lists, stuckAt, oddAt, Row, tableR, tableName, tableReverse, tableLoop, tableLabel, tableSome, rows}
 use Rattle.samples.specs.Laws.Site.{some-each}
 use Rattle.condition.specs.Bytes as condition
 use Rattle.sheet.specs.Bytes as sheet
@@ -35,13 +37,17 @@ expectedFits (lists S c k a t) = below k (suc tableNodes)
 expectedFits (stuckAt w) = true
 expectedFits (oddAt w) = true
 
+-- edition 1 or 2 has the edits
+unfoldable pub someEdition : List Edit → Bool
+someEdition es = sheet.allInEdition 1 es || sheet.allInEdition second es
+
 unfoldable pub rowFits : Row → Bool
 rowFits r =
     (inRange (r .site) && (bytes (tableIn r) && bytes (sheetIn r)))
-    && ((below (length (r .table)) (suc tableNodes) && below (length (r .edits)) 65) && expectedFits (r .expected))
+    && ((below (length (r .table)) (suc tableNodes) && below (length (r .edits)) 65) && (expectedFits (r .expected) && someEdition (r .edits)))
 
 pub rows-fit : each rowFits rows ≡ true
-unfolding each rowFits inRange bytes expectedFits below rows siteA ring namesTogether crowded tableR tableName tableLoop tableLabel tableSome condition.bytesOf condition.nodeBytes sheet.bytesOf sheet.editBytes
+unfolding each rowFits inRange bytes expectedFits someEdition below same functional rows siteA ring stranded namesTogether crowded tableR tableName tableReverse tableLoop tableLabel tableSome condition.bytesOf condition.nodeBytes sheet.bytesOf sheet.editBytes sheet.inEdition sheet.allInEdition
 rows-fit = refl
 
 -- ---- what they say
@@ -82,6 +88,7 @@ pub record Fits (r : Row) : Type 0 where
   pub few-nodes : length (r .table) ≤ tableNodes
   pub few-edits : length (r .edits) ≤ 64
   pub as-expected : expectedFits (r .expected) ≡ true
+  pub some-edition : someEdition (r .edits) ≡ true
 
 pub fits-out : (r : Row) → rowFits r ≡ true → Fits r
 unfolding rowFits
@@ -89,6 +96,7 @@ fits-out r p =
     let a = and-l _ _ p in
     let b = and-r (inRange (r .site) && (bytes (tableIn r) && bytes (sheetIn r))) _ p in
     let c = and-r (inRange (r .site)) _ a in
+    let e = and-r (below (length (r .table)) (suc tableNodes) && below (length (r .edits)) 65) _ b in
     let n = below-out (length (r .table)) (suc tableNodes) (and-l _ _ (and-l _ _ b)) in
     let m = below-out (length (r .edits)) 65 (and-r (below (length (r .table)) (suc tableNodes)) _ (and-l _ _ b)) in
     record {
@@ -97,5 +105,6 @@ fits-out r p =
       sheet-bytes = bytes-out (sheetIn r) (and-r (bytes (tableIn r)) _ c);
       few-nodes = omega arith;
       few-edits = omega arith;
-      as-expected = and-r (below (length (r .table)) (suc tableNodes) && below (length (r .edits)) 65) _ b;
+      as-expected = and-l _ _ e;
+      some-edition = and-r (expectedFits (r .expected)) _ e;
     }

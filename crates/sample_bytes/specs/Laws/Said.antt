@@ -23,6 +23,8 @@ use Rattle.samples.specs.Rows.{Slots, only, has, Expected, lists, stuckAt, oddA
 use Rattle.samples.specs.Said as model
 use Rattle.samples.specs.Said.{before, after, rewritten, Sound, Stuck, Odd, Says, AllSaid}
 use Rattle.samples.specs.Laws.Said.{samples}
+use Rattle.editions.specs.Edition.{editionVerdict}
+use Rattle.sheet.specs.Bytes.{allInEdition}
 use Rattle.site.specs.Site.{siteOf}
 use Rattle.site.specs.Refusal.{siteVerdict}
 use Rattle.condition.specs.Bytes.{tableOf}
@@ -36,11 +38,11 @@ use Rattle.demands.specs.Demands.{Runnable, ApplyCall, RewriteCall, ListCall, r
 use Rattle.demands.specs.Rounds.{DemandLimitList}
 use Rattle.demands.specs.Laws.Demands.{list-due, listed, apply-reason, site-left, left-accepted, rewrite-reason, written, table-accepted, is-rewritten}
 use Rattle.demands.specs.Laws.Rounds.{not-over, demand-rounds}
-use Rattle.sample_bytes.specs.Said.{siteIn, tableIn, sheetIn, Lists, ListsWithin, Answers, SampleWritten, Returns, AllReturned}
+use Rattle.sample_bytes.specs.Said.{siteIn, tableIn, sheetIn, Lists, ListsWithin, Answers, SampleWritten, Returns, ReturnsInEach, AllReturned}
 use Rattle.sample_bytes.specs.Refused.{NotApplied, NotRewritten, NotListed}
 use Rattle.sample_bytes.specs.Laws.Write.{bytes-lt}
 use Rattle.sample_bytes.specs.Laws.Refused.{not-applied, not-rewritten, not-listed}
-use Rattle.sample_bytes.specs.Laws.Rows.{expectedFits, rowFits, Fits, fits-out, rows-fit}
+use Rattle.sample_bytes.specs.Laws.Rows.{someEdition, expectedFits, rowFits, Fits, fits-out, rows-fit}
 use Rattle.sample_bytes.specs.Laws.Judged.{site-read, site-ok, sheet-read, sheet-ok, table-read, table-ok, goes-ok, fits-ok, goes-stuck, table-refused}
 
 -- ---- a set that is listed
@@ -91,33 +93,40 @@ name-lists M v xs n p S h e d =
     let q : has (only (p ∷ [])) (M .place n) ≡ true = rw d at (h no-env (M .place n) k .0 (rw e refl)) in
     either (or-out (same (M .place n) p) false q) (λ g. same-eq g) (λ g. clash g refl)
 
-module _ (r : Row) (o : Sound r) (f : Fits r) where
+-- a row in a known edition that has its edits
+module _ (r : Row) (o : Sound r) (f : Fits r) (edition : ℕ) (known : editionVerdict edition ≡ Accepted) (i : allInEdition edition (r .edits) ≡ true) where
   -- ---- a row that lists a set
 
   module _ (S : Slots) (c k a t : ℕ) (l : model.Lists r S c k a t) (few : k ≤ tableNodes) where
-    runnable : Runnable (siteIn r) (tableIn r) (sheetIn r)
+    runnable : Runnable edition (siteIn r) (tableIn r) (sheetIn r)
     runnable =
         record {
-          going = record { site-accepted = site-ok r o f; sheet-accepted = sheet-ok r o f; goes-through = goes-ok r o f l };
+          going =
+              record {
+                edition-accepted = known;
+                site-accepted = site-ok r o f;
+                sheet-accepted = sheet-ok r o f edition i;
+                goes-through = goes-ok r o f edition i l;
+              };
           table-accepted = table-ok r o f l;
-          table-fits = fits-ok r o f l few;
+          table-fits = fits-ok r o f edition i l few;
         }
 
     valid-after : Valid (after r)
     valid-after = sheet-valid (r .edits) (o .legal-sheet) (before r) (o .valid) (l .goes-through)
 
-    answers : (applied : ApplyCall (siteIn r) (sheetIn r)) (rewrote : RewriteCall (tableIn r) (sheetIn r))
+    answers : (applied : ApplyCall edition (siteIn r) (sheetIn r)) (rewrote : RewriteCall edition (tableIn r) (sheetIn r))
         (today : ListCall (siteIn r) (rewrittenTable rewrote)) (later : ListCall (applied .result′) (tableIn r))
-        → Answers r S c k a t applied rewrote today later
+        → Answers edition r S c k a t applied rewrote today later
     answers applied rewrote today later =
         let left : siteOf (applied .result′) ≡ after r =
-        rw (sheet-read r o f, site-read r o f) at (site-left (runnable .going) applied .effects) in
-        let made : tableOf (rewrittenTable rewrote) ≡ rewritten r = rw (sheet-read r o f, table-read r o f) at (is-rewritten runnable rewrote) in
+        rw (sheet-read r o f edition i, site-read r o f) at (site-left (runnable .going) applied .effects) in
+        let made : tableOf (rewrittenTable rewrote) ≡ rewritten r = rw (sheet-read r o f edition i, table-read r o f) at (is-rewritten runnable rewrote) in
         record {
           applies = apply-reason (runnable .going) applied;
           site-after = left;
           rewrites = rewrite-reason runnable rewrote;
-          nodes-are = written runnable rewrote .0 ∙ rw (sheet-read r o f, table-read r o f) (l .node-count);
+          nodes-are = written runnable rewrote .0 ∙ rw (sheet-read r o f edition i, table-read r o f) (l .node-count);
           lists-today = lists-within (site-ok r o f) (table-accepted runnable rewrote) (site-read r o f) made
               S _ _ (l .holds-today) (l .slot-count) (l .makes-today) today;
           lists-after = lists-within (left-accepted (runnable .going) applied) (table-ok r o f l) left (table-read r o f)
@@ -127,9 +136,9 @@ module _ (r : Row) (o : Sound r) (f : Fits r) where
 
   -- ---- a row that is refused
 
-  stuck : (w : ℕ) → Stuck r w → (call : ApplyCall (siteIn r) (sheetIn r)) → NotApplied call 13 w
+  stuck : (w : ℕ) → Stuck r w → (call : ApplyCall edition (siteIn r) (sheetIn r)) → NotApplied call 13 w
   unfolding applyVerdict
-  stuck w s call = not-applied call 13 w (rw (buffer-in (call .result-size), site-ok r o f, sheet-ok r o f) (goes-stuck r o f s))
+  stuck w s call = not-applied call 13 w (rw (buffer-in (call .result-size), known, site-ok r o f, sheet-ok r o f edition i) (goes-stuck r o f edition i s))
 
   module _ (w : ℕ) (d : Odd r w) where
     unlisted : (call : ListCall (siteIn r) (tableIn r)) → NotListed call 9 w
@@ -138,26 +147,28 @@ module _ (r : Row) (o : Sound r) (f : Fits r) where
         not-listed call 9 w
         (rw (buffer-in (call .set-size), buffer-in (call .work-size), limit-in (call .limit-fits), site-ok r o f, table-refused r o f d))
 
-    unwritten : (call : RewriteCall (tableIn r) (sheetIn r)) → NotRewritten call 9 w
+    unwritten : (call : RewriteCall edition (tableIn r) (sheetIn r)) → NotRewritten call 9 w
     unfolding rewriteVerdict
-    unwritten call = not-rewritten call 9 w (rw (buffer-in (call .result-size), table-refused r o f d))
+    unwritten call = not-rewritten call 9 w (rw (buffer-in (call .result-size), known, table-refused r o f d))
 
-  returns : (x : Expected) → expectedFits x ≡ true → Says r x → Returns r x
+  returns : (x : Expected) → expectedFits x ≡ true → Says r x → Returns edition r x
   unfolding expectedFits
   returns (lists S c k a t) e l = let h = below-out k (suc tableNodes) e in answers S c k a t l (omega arith)
   returns (stuckAt w) e s = stuck w s
   returns (oddAt w) e d = (unlisted w d, unwritten w d)
 
-  row-returns : Says r (r .expected) → SampleWritten r × Returns r (r .expected)
-  row-returns s = (
-    record {
-      site-bytes = bytes-lt (before r) (o .valid);
-      table-bytes = f .table-bytes;
-      sheet-bytes = f .sheet-bytes;
-      site-read = site-read r o f;
-    },
-    returns (r .expected) (f .as-expected) s,
-  )
+row-returns : (r : Row) → Sound r → Fits r → Says r (r .expected) → SampleWritten r × ReturnsInEach r
+unfolding someEdition
+row-returns r o f s = (
+  record {
+    site-bytes = bytes-lt (before r) (o .valid);
+    table-bytes = f .table-bytes;
+    sheet-bytes = f .sheet-bytes;
+    site-read = site-read r o f;
+    some-edition = f .some-edition;
+  },
+  λ edition known i. returns r o f edition known i (r .expected) (f .as-expected) s,
+)
 
 -- ---- each row
 

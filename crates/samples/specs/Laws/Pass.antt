@@ -13,8 +13,8 @@ use Rattle.semantics.specs.Edit.{Edit, DS, functional, find, target, edit, lega
 use Rattle.semantics.specs.Block.{change, size, root, emit, blockDia, blockBox, blockLeaf, block, rewrite, rewriteTable, passed, rewriteSheet}
 use Rattle.semantics.specs.Laws.FixedPoint.{none, full}
 use Rattle.rounds.specs.Laws.Count.{roundsBy, sameSet, loop}
-use Rattle.samples.specs.Site.{some, each, model, nameAt, siteA, ring, namesTogether, crowded}
-use Rattle.samples.specs.Rows.{Slots, has, Expected, lists, stuckAt, oddAt, Row, tableR, tableName, tableLoop, tableLabel, tableSome, rows}
+use Rattle.samples.specs.Site.{some, each, model, nameAt, siteA, ring, stranded, namesTogether, crowded}
+use Rattle.samples.specs.Rows.{Slots, has, Expected, lists, stuckAt, oddAt, Row, tableR, tableName, tableReverse, tableLoop, tableLabel, tableSome, rows}
 use Rattle.samples.specs.Said.{before, after, rewritten}
 use Rattle.samples.specs.Laws.Site.{onSite, agree, slotsHere, namesHere, linkHere, validSmall}
 use Rattle.samples.specs.Laws.Quick.{span, always, at, notIn, orIn, andIn, reach, someNext, allNext, diaIn, boxIn, iterAt, quick, quickRounds, fewSlots}
@@ -60,5 +60,5 @@ unfoldable pub rowPasses : Env → Row → Bool
 rowPasses ρ r = soundTest r && passes ρ r (r .expected)
 
 pub rows-pass : (ρ : Env) → each (rowPasses ρ) rows ≡ true
-unfolding rowPasses passes soundTest throughTest setsTest countsTest stuckTest sameSet listsSet validSmall slotsHere namesHere linkHere onSite agree some each model nameAt siteA ring namesTogether crowded has rows tableR tableName tableLoop tableLabel tableSome quick always at notIn orIn andIn reach someNext allNext diaIn boxIn span iterAt todayTest roundsBy roundsTest loop fewSlots none full put step same below any all count first slots sheet sheetLegal sheetGoes legal goes edit functional find target kindNo kindOf wayNo wayOf atom one two build tree trees treeAt formOf leafFits unaryFits kindFits nodeFits nodesFit evenTable even occ free closed change size root emit blockDia blockBox blockLeaf block rewrite rewriteTable passed
+unfolding rowPasses passes soundTest throughTest setsTest countsTest stuckTest sameSet listsSet validSmall slotsHere namesHere linkHere onSite agree some each model nameAt siteA ring stranded namesTogether crowded has rows tableR tableName tableReverse tableLoop tableLabel tableSome quick always at notIn orIn andIn reach someNext allNext diaIn boxIn span iterAt todayTest roundsBy roundsTest loop fewSlots none full put step same below any all count first slots sheet sheetLegal sheetGoes legal goes edit functional find target kindNo kindOf wayNo wayOf atom one two build tree trees treeAt formOf leafFits unaryFits kindFits nodeFits nodesFit evenTable even occ free closed change size root emit blockDia blockBox blockLeaf block rewrite rewriteTable passed
 rows-pass ρ = refl

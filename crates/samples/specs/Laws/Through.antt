@@ -8,10 +8,10 @@ use Rattle.semantics.specs.Edit.{functional, find, target, edit, goes, sheetGoe
 use Rattle.semantics.specs.Block.{change, size, root, emit, blockDia, blockLeaf, block, rewrite, rewriteTable, passed}
 use Rattle.through.specs.Through.{own, closing, behind, throughEdit, through}
 use Rattle.samples.specs.Site.{some, each, model, nameAt, siteA}
-use Rattle.samples.specs.Through.{foreseens}
+use Rattle.samples.specs.Through.{neitherAtNil, foreseens}
 
 pub tables-made : map (λ r. through (r .edits)) foreseens ≡ map (λ r. r .table) foreseens
-unfolding foreseens passed throughEdit behind closing own functional below same rewriteTable rewrite block blockLeaf blockDia change wayOf emit root size kindNo kindOf
+unfolding foreseens neitherAtNil passed throughEdit behind closing own functional below same rewriteTable rewrite block blockLeaf blockDia change wayOf emit root size kindNo kindOf
 tables-made = refl
 
 pub foreseen-works : map (λ r. sheetGoes (r .edits) (model siteA)) foreseens ≡ map (λ r. r .works) foreseens

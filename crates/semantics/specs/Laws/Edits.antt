@@ -10,7 +10,7 @@ use Rattle.finite.specs.Laws.Bools.{either, look, clash, and-in, and-l, and-r, 
 use Rattle.finite.specs.Laws.Below.{same-eq, eq-same, ne-same, equal?, below-out}
 use Rattle.limits.specs.Limits.{slots, names, links, generalLinks}
 use Rattle.semantics.specs.Holds.{Set, Model}
-use Rattle.semantics.specs.Edit.{Edit, CN1, CN2, AP, DP, AT, DT1, DT2, AS, DS, functional, find, target, edit, legal, goes, Valid, sheet, sheetLegal, sheetGoes}
+use Rattle.semantics.specs.Edit.{Edit, CN1, CN2, AP, DP, AT, RT, DT1, DT2, AS, DS, functional, find, target, edit, legal, goes, Valid, sheet, sheetLegal, sheetGoes}
 
 -- where the search for a target ends
 pub find-ends : (n : ℕ) (S : Set) → (((t : ℕ) → t < n → S t ≡ false) × (find n S ≡ 0)) ⊎ (S (find n S) ≡ true)
@@ -31,6 +31,7 @@ Legal (CN2 n1 n2 f) = (n1 ≢ 0) × (below n2 names ≡ true) × (functional f �
 Legal (AP n p) = below n names ≡ true
 Legal (DP n p) = below n names ≡ true
 Legal (AT m n1 n2) = (below n1 names ≡ true) × (below n2 names ≡ true)
+Legal (RT f n1 n2) = (below n1 names ≡ true) × (below n2 names ≡ true)
 Legal (DT1 m n1 n2) = (below n1 names ≡ true) × (below n2 names ≡ true)
 Legal (DT2 f n) = below n names ≡ true
 Legal (AS n k) = (n ≢ 0) × (below k slots ≡ true)
@@ -48,6 +49,7 @@ legal-out (CN2 n1 n2 f) l =
 legal-out (AP n p) l = and-l _ _ l
 legal-out (DP n p) l = and-l _ _ l
 legal-out (AT m n1 n2) l = let r = and-r (below m links) _ l in (and-l _ _ r, and-r (below n1 names) _ r)
+legal-out (RT f n1 n2) l = let r = and-r (functional f) _ l in (and-l _ _ r, and-r (below n1 names) _ r)
 legal-out (DT1 m n1 n2) l = let r = and-r (below m links) _ l in (and-l _ _ r, and-r (below n1 names) _ r)
 legal-out (DT2 f n) l = and-r (functional f) _ l
 legal-out (AS n k) l = (not-nil n (and-l _ _ l), and-r (below n names && not (same n 0)) _ l)
@@ -62,6 +64,7 @@ Goes (DP n p) M = Unit {0}
 Goes (AT m n1 n2) M =
     (M .place n1 ≢ 0) × (M .place n2 ≢ 0)
     × (functional m ≡ true → (t : ℕ) → M .link m (M .place n1) t ≡ true → t ≡ M .place n2)
+Goes (RT f n1 n2) M = (M .place n1 ≢ 0) × (M .place n2 ≢ 0)
 Goes (DT1 m n1 n2) M = Unit {0}
 Goes (DT2 f n) M = Unit {0}
 Goes (AS n k) M = Unit {0}
@@ -86,6 +89,9 @@ module _ (M : Model) (v : Valid M) where
   unfolding target
   target-present f s = either (find-ends slots (M .link f s)) (λ q. rw (q .1) (v .nil-present)) (λ q. v .to _ _ _ q .0)
 
+  neither : (n1 n2 : ℕ) → (not (same (M .place n1) 0) && not (same (M .place n2) 0)) ≡ true → (M .place n1 ≢ 0) × (M .place n2 ≢ 0)
+  neither n1 n2 g = (λ e. not-out _ (and-l _ _ g) (eq-same e), λ e. not-out _ (and-r (not (same (M .place n1) 0)) _ g) (eq-same e))
+
   pub goes-out : (e : Edit) → goes e M ≡ true → Goes e M
   unfolding goes Goes
   goes-out (CN1 n1 n2) g = tt
@@ -93,8 +99,8 @@ module _ (M : Model) (v : Valid M) where
   goes-out (AP n p) g = tt
   goes-out (DP n p) g = tt
   goes-out (AT m n1 n2) g = (
-    λ e. not-out _ (and-l _ _ (and-l _ _ g)) (eq-same e),
-    λ e. not-out _ (and-r (not (same (M .place n1) 0)) _ (and-l _ _ g)) (eq-same e),
+    neither n1 n2 (and-l _ _ g) .0,
+    neither n1 n2 (and-l _ _ g) .1,
     λ o t p.
         let e = target-one m (M .place n1) t o p in
         either
@@ -102,6 +108,7 @@ module _ (M : Model) (v : Valid M) where
         (λ q. absurd (not-out _ q o))
         (λ q. either (or-out _ _ q) (λ r. absurd (v .to _ _ _ p .1 (e ∙ same-eq r))) (λ r. e ∙ same-eq r)),
   )
+  goes-out (RT f n1 n2) g = neither n1 n2 g
   goes-out (DT1 m n1 n2) g = tt
   goes-out (DT2 f n) g = tt
   goes-out (AS n k) g = tt
@@ -192,6 +199,20 @@ module _ (M : Model) (v : Valid M) where
       old j s t f a b h =
           g .2 (subst (λ i. functional i ≡ true) (same-eq a) f) t
           (subst (λ z. M .link m z t ≡ true) (same-eq b) (subst (λ i. M .link i s t ≡ true) (same-eq a) h))
+  valid-after (RT f n1 n2) l g =
+      relinked _
+      (λ j s t h. either (look (same j f && same s (M .place n1)))
+      (λ c.
+      let a : s ≡ M .place n1 = same-eq (and-r (same j f) _ c) in
+      let b : t ≡ M .place n2 = same-eq (rw c at h) in
+      (rw a (v .named n1, g .0), rw b (v .named n2, g .1)))
+      (λ c. let x : M .link j s t ≡ true = rw c at h in (v .from j s t x, v .to j s t x)))
+      (λ j s t u o h k. either (look (same j f && same s (M .place n1)))
+      (λ c.
+      let a : t ≡ M .place n2 = same-eq (rw c at h) in
+      let b : u ≡ M .place n2 = same-eq (rw c at k) in
+      a ∙ sym b)
+      (λ c. v .one j s t u o (rw c at h) (rw c at k)))
   valid-after (DT1 m n1 n2) l g = fewer-links _ (λ j s t h. cond-was _ (same j m) _ h)
   valid-after (DT2 f n) l g = fewer-links _ (λ j s t h. cond-was _ (same j f) _ h)
   valid-after (AS n j) l g = record {

@@ -13,9 +13,9 @@ use Rattle.finite.specs.Laws.Reflect.{same-iff, not-iff, and-iff, or-iff}
 use Rattle.limits.specs.Limits.{slots, names, variables, links, everyWay}
 use Rattle.semantics.specs.Form.{Way, along, against, every, Form, top, name, neg, or, and, dia, box, mu, nu, occ, even}
 use Rattle.semantics.specs.Holds.{Env, Model, step, Holds}
-use Rattle.semantics.specs.Edit.{Edit, CN1, CN2, AP, DP, AT, DT1, DT2, AS, DS, functional, target, edit, Valid}
+use Rattle.semantics.specs.Edit.{Edit, CN1, CN2, AP, DP, AT, RT, DT1, DT2, AS, DS, functional, target, edit, Valid}
 use Rattle.semantics.specs.Table.{Leaf, kTrue, kHere, kLabel, kName, kVar, kSlot, kNot, kDia, kBox, kMu, kNu, kOr, kAnd, Kind, leaf, unary, binary, wayOf, Node, atom, one, two, build, leafFits, unaryFits, kindFits}
-use Rattle.semantics.specs.Block.{Change, keep, added, cut, cutFrom, cutTo, cutOff, change, Block, old, end, on, join, size, root, blockDia, blockBox, blockLeaf, block}
+use Rattle.semantics.specs.Block.{Change, keep, added, onlyFrom, onlyTo, cut, cutFrom, cutTo, cutOff, change, Block, old, end, on, join, size, root, blockDia, blockBox, blockLeaf, block}
 use Rattle.semantics.specs.Laws.Ways.{way-along, way-against, everywhere}
 use Rattle.semantics.specs.Laws.Edits.{functional-small, find-ends, Legal, Goes, target-one}
 use Rattle.semantics.specs.Laws.Steps.{step-iff, dia-says, box-says}
@@ -59,6 +59,8 @@ is-right m e o s f = record { made = m; evens = e; fits = f; image = record { oc
 ChangeFits : Change → Type 0
 ChangeFits keep = Unit {0}
 ChangeFits (added a b) = (below a names ≡ true) × (below b names ≡ true)
+ChangeFits (onlyFrom a b) = (below a names ≡ true) × (below b names ≡ true)
+ChangeFits (onlyTo a b) = (below a names ≡ true) × (below b names ≡ true)
 ChangeFits (cut a b) = (below a names ≡ true) × (below b names ≡ true)
 ChangeFits (cutFrom n) = below n names ≡ true
 ChangeFits (cutTo n) = below n names ≡ true
@@ -73,6 +75,9 @@ change-fits (DP n p) l w = tt
 change-fits (AT m n1 n2) l (along j) = either (look (same j m)) (λ c. rw c l) (λ c. rw c tt)
 change-fits (AT m n1 n2) l (against j) = either (look (same j m)) (λ c. rw c (l .1, l .0)) (λ c. rw c tt)
 change-fits (AT m n1 n2) l every = tt
+change-fits (RT f n1 n2) l (along j) = either (look (same j f)) (λ c. rw c l) (λ c. rw c tt)
+change-fits (RT f n1 n2) l (against j) = either (look (same j f)) (λ c. rw c (l .1, l .0)) (λ c. rw c tt)
+change-fits (RT f n1 n2) l every = tt
 change-fits (DT1 m n1 n2) l (along j) = either (look (same j m)) (λ c. rw c l) (λ c. rw c tt)
 change-fits (DT1 m n1 n2) l (against j) = either (look (same j m)) (λ c. rw c (l .1, l .0)) (λ c. rw c tt)
 change-fits (DT1 m n1 n2) l every = tt
@@ -111,6 +116,12 @@ module _ (e : Edit) (l : Legal e) (ts : List Form) (p i : ℕ) (t : below i (len
     dia-shape (added a n) f s =
         is-right refl (λ _. refl) (λ b v. or-self _ ∙ kid .occurs b v) s
         (and-in (and-in h t) (and-in (f .0) (and-in E-fits (and-in (f .1) t))))
+    dia-shape (onlyFrom a n) f s =
+        is-right refl (λ _. refl) (λ b v. or-self _ ∙ kid .occurs b v) s
+        (and-in (and-in (no-fits (f .0)) (and-in h t)) (and-in (f .0) (and-in E-fits (and-in (f .1) t))))
+    dia-shape (onlyTo a n) f s =
+        is-right refl (λ _. refl) (λ b v. or-self _ ∙ kid .occurs b v) s
+        (and-in (and-in h (and-in (no-fits (f .1)) t)) (and-in (f .0) (and-in E-fits (and-in (f .1) t))))
     dia-shape (cut a n) f s =
         is-right refl (λ _. refl) (λ b v. or-self _ ∙ kid .occurs b v) s
         (and-in (and-in (no-fits (f .0)) (and-in h t)) (and-in h (and-in (no-fits (f .1)) t)))
@@ -125,6 +136,12 @@ module _ (e : Edit) (l : Legal e) (ts : List Form) (p i : ℕ) (t : below i (len
     box-shape (added a n) f s =
         is-right refl (λ _. refl) (λ b v. or-self _ ∙ kid .occurs b v) s
         (and-in (and-in h t) (and-in (no-fits (f .0)) (and-in E-fits (and-in (no-fits (f .1)) t))))
+    box-shape (onlyFrom a n) f s =
+        is-right refl (λ _. refl) (λ b v. or-self _ ∙ kid .occurs b v) s
+        (and-in (and-in (f .0) (and-in h t)) (and-in (no-fits (f .0)) (and-in E-fits (and-in (no-fits (f .1)) t))))
+    box-shape (onlyTo a n) f s =
+        is-right refl (λ _. refl) (λ b v. or-self _ ∙ kid .occurs b v) s
+        (and-in (and-in h (and-in (f .1) t)) (and-in (no-fits (f .0)) (and-in E-fits (and-in (no-fits (f .1)) t))))
     box-shape (cut a n) f s =
         is-right refl (λ _. refl) (λ b v. or-self _ ∙ kid .occurs b v) s
         (and-in (and-in (f .0) (and-in h t)) (and-in h (and-in (f .1) t)))
@@ -264,6 +281,7 @@ leaf-right (CN2 n1 n2 h) l ts kHere p f = copied kHere p f (λ M v g ρ s j. Iff
 leaf-right (AP n q) l ts kHere p f = copied kHere p f (λ M v g ρ s j. Iff·rfl)
 leaf-right (DP n q) l ts kHere p f = copied kHere p f (λ M v g ρ s j. Iff·rfl)
 leaf-right (AT m n1 n2) l ts kHere p f = copied kHere p f (λ M v g ρ s j. Iff·rfl)
+leaf-right (RT h n1 n2) l ts kHere p f = copied kHere p f (λ M v g ρ s j. Iff·rfl)
 leaf-right (DT1 m n1 n2) l ts kHere p f = copied kHere p f (λ M v g ρ s j. Iff·rfl)
 leaf-right (DT2 h n) l ts kHere p f = copied kHere p f (λ M v g ρ s j. Iff·rfl)
 leaf-right (AS n k) l ts kHere p f = is-right refl (λ _. refl) (λ b v. refl) (λ M v g ρ s j. or-iff _ _ Iff·rfl (same-iff s k)) (and-in f (l .1))
@@ -281,6 +299,7 @@ leaf-right (DP n q) l ts kLabel p f =
     (λ c. rw c (is-right refl (λ _. refl) (λ b v. refl) (λ M v g ρ s j. rw c (and-iff _ _ Iff·rfl (not-iff _ (same-iff s _)))) (and-in f (no-fits l))))
     (λ c. rw c (copied kLabel p f (λ M v g ρ s j. rw c Iff·rfl)))
 leaf-right (AT m n1 n2) l ts kLabel p f = copied kLabel p f (λ M v g ρ s j. Iff·rfl)
+leaf-right (RT h n1 n2) l ts kLabel p f = copied kLabel p f (λ M v g ρ s j. Iff·rfl)
 leaf-right (DT1 m n1 n2) l ts kLabel p f = copied kLabel p f (λ M v g ρ s j. Iff·rfl)
 leaf-right (DT2 h n) l ts kLabel p f = copied kLabel p f (λ M v g ρ s j. Iff·rfl)
 leaf-right (AS n k) l ts kLabel p f = copied kLabel p f (λ M v g ρ s j. Iff·rfl)
@@ -301,6 +320,7 @@ leaf-right (CN2 n1 n2 h) l ts kName y f =
 leaf-right (AP n q) l ts kName y f = copied kName y f (λ M v g ρ s j. Iff·rfl)
 leaf-right (DP n q) l ts kName y f = copied kName y f (λ M v g ρ s j. Iff·rfl)
 leaf-right (AT m n1 n2) l ts kName y f = copied kName y f (λ M v g ρ s j. Iff·rfl)
+leaf-right (RT h n1 n2) l ts kName y f = copied kName y f (λ M v g ρ s j. Iff·rfl)
 leaf-right (DT1 m n1 n2) l ts kName y f = copied kName y f (λ M v g ρ s j. Iff·rfl)
 leaf-right (DT2 h n) l ts kName y f = copied kName y f (λ M v g ρ s j. Iff·rfl)
 leaf-right (AS n k) l ts kName y f =

@@ -8,13 +8,13 @@ use lib.ListN.{getD}
 use Rattle.finite.specs.Tests.{same}
 use Rattle.finite.specs.Laws.Bools.{either, look}
 use Rattle.finite.specs.Laws.Below.{equal?}
-use Rattle.finite.specs.Laws.Reflect.{same-iff, not-iff, and-iff, or-iff}
+use Rattle.finite.specs.Laws.Reflect.{same-iff, not-iff, and-iff, or-iff, cond-iff}
 use Rattle.limits.specs.Limits.{slots}
 use Rattle.semantics.specs.Form.{Way, along, against, every, Form, top}
 use Rattle.semantics.specs.Holds.{Env, Model, step, Holds}
-use Rattle.semantics.specs.Edit.{Edit, CN1, CN2, AP, DP, AT, DT1, DT2, AS, DS, edit}
+use Rattle.semantics.specs.Edit.{Edit, CN1, CN2, AP, DP, AT, RT, DT1, DT2, AS, DS, edit}
 use Rattle.semantics.specs.Table.{wayOf, atom, one, two}
-use Rattle.semantics.specs.Block.{Change, keep, added, cut, cutFrom, cutTo, cutOff, change, old, blockDia, blockBox}
+use Rattle.semantics.specs.Block.{Change, keep, added, onlyFrom, onlyTo, cut, cutFrom, cutTo, cutOff, change, old, blockDia, blockBox}
 use Rattle.semantics.specs.Laws.Ways.{everywhere}
 use Rattle.semantics.specs.Laws.Emit.{fill}
 
@@ -22,6 +22,8 @@ use Rattle.semantics.specs.Laws.Emit.{fill}
 unfoldable pub Changed : Change → Model → ℕ → ℕ → Type 0 → Type 0
 Changed keep M s t X = X
 Changed (added a b) M s t X = X ⊎ ((s ≡ M .place a) × (t ≡ M .place b))
+Changed (onlyFrom a b) M s t X = (X × (s ≢ M .place a)) ⊎ ((s ≡ M .place a) × (t ≡ M .place b))
+Changed (onlyTo a b) M s t X = (X × (t ≢ M .place b)) ⊎ ((t ≡ M .place b) × (s ≡ M .place a))
 Changed (cut a b) M s t X = X × ¬ ((s ≡ M .place a) × (t ≡ M .place b))
 Changed (cutFrom n) M s t X = X × (s ≢ M .place n)
 Changed (cutTo n) M s t X = X × (t ≢ M .place n)
@@ -48,6 +50,10 @@ module _ (M : Model) (s t : ℕ) where
   step-iff (AT m n1 n2) (against l) =
       either (look (same l m)) (λ e. rw (e, and-comm (same t _) _) (or-iff _ _ Iff·rfl (two-ends n2 n1))) (λ e. rw e Iff·rfl)
   step-iff (AT m n1 n2) every = Iff·rfl
+  step-iff (RT f n1 n2) (along l) = either (look (same l f)) (λ e. rw e (cond-iff _ _ _ (same-iff s _) (same-iff t _) Iff·rfl)) (λ e. rw e Iff·rfl)
+  step-iff (RT f n1 n2) (against l) =
+      either (look (same l f)) (λ e. rw e (cond-iff _ _ _ (same-iff t _) (same-iff s _) Iff·rfl)) (λ e. rw e Iff·rfl)
+  step-iff (RT f n1 n2) every = Iff·rfl
   step-iff (DT1 m n1 n2) (along l) = either (look (same l m)) (λ e. rw e (and-iff _ _ Iff·rfl (not-iff _ (two-ends n1 n2)))) (λ e. rw e Iff·rfl)
   step-iff (DT1 m n1 n2) (against l) =
       either (look (same l m)) (λ e. rw (e, and-comm (same t _) _) (and-iff _ _ Iff·rfl (not-iff _ (two-ends n2 n1)))) (λ e. rw e Iff·rfl)
@@ -80,6 +86,22 @@ module _ (ts : List Form) (p i : ℕ) (M : Model) (ρ : Env) (s : ℕ) where
         (λ r. inl (q .0, q .1, r, q .3))
         (λ r. inr (r .0, (q .0, q .1, everywhere M s (q .0), (r .1, q .3)))),
   )
+  dia-says (onlyFrom a b) = (
+    λ q. either q
+        (λ r. let u = r .1 in (u .0, u .1, inl (u .2, r .0), u .3))
+        (λ r. let u = r .1 in (u .0, u .1, inr (r .0, u .3 .0), u .3 .1)),
+    λ q. either (q .2)
+        (λ r. inl (r .1, (q .0, q .1, r .0, q .3)))
+        (λ r. inr (r .0, (q .0, q .1, everywhere M s (q .0), (r .1, q .3)))),
+  )
+  dia-says (onlyTo a b) = (
+    λ q. either q
+        (λ r. (r .0, r .1, inl (r .2, r .3 .0), r .3 .1))
+        (λ r. let u = r .1 in (u .0, u .1, inr (u .3 .0, r .0), u .3 .1)),
+    λ q. either (q .2)
+        (λ r. inl (q .0, q .1, r .0, (r .1, q .3)))
+        (λ r. inr (r .1, (q .0, q .1, everywhere M s (q .0), (r .0, q .3)))),
+  )
   dia-says (cut a b) = (
     λ q. either q
         (λ r. let u = r .1 in (u .0, u .1, (u .2, λ x. r .0 (x .0)), u .3))
@@ -108,6 +130,29 @@ module _ (ts : List Form) (p i : ℕ) (M : Model) (ρ : Env) (s : ℕ) where
       λ t k x. q t k (inl x),
       either (equal? s (M .place a))
           (λ e. inr (λ t k _. either (equal? t (M .place b)) (λ d. inr (q t k (inr (e, d)))) (λ d. inl d)))
+          (λ e. inl e),
+    ),
+  )
+  box-says (onlyFrom a b) = (
+    λ q t k x. either x
+        (λ r. either (q .0) (λ e. absurd (r .1 e)) (λ f. f t k (r .0)))
+        (λ r. either (q .1)
+        (λ n. absurd (n (r .0)))
+        (λ f. either (f t k (everywhere M s t)) (λ n. absurd (n (r .1))) (λ h. h))),
+    λ q. either (equal? s (M .place a))
+        (λ e. (inl e, inr (λ t k _. either (equal? t (M .place b)) (λ d. inr (q t k (inr (e, d)))) (λ d. inl d))))
+        (λ e. (inr (λ t k x. q t k (inl (x, e))), inl e)),
+  )
+  box-says (onlyTo a b) = (
+    λ q t k x. either x
+        (λ r. either (q .0 t k (r .0)) (λ e. absurd (r .1 e)) (λ h. h))
+        (λ r. either (q .1)
+        (λ n. absurd (n (r .1)))
+        (λ f. either (f t k (everywhere M s t)) (λ n. absurd (n (r .0))) (λ h. h))),
+    λ q. (
+      λ t k x. either (equal? t (M .place b)) (λ e. inl e) (λ e. inr (q t k (inl (x, e)))),
+      either (equal? s (M .place a))
+          (λ e. inr (λ t k _. either (equal? t (M .place b)) (λ d. inr (q t k (inr (d, e)))) (λ d. inl d)))
           (λ e. inl e),
     ),
   )

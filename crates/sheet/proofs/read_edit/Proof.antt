@@ -3,8 +3,12 @@ use Rattle.sheet.specs.Laws.Read.{read-past}
 use Rattle.sheet.specs.Bytes.{readEdit}
 use native.Mathlib.Omega.{arith}
 use Rattle.finite.specs.Laws.Arms.{missed}
+use borrow.Author.Needs.{needs}
 use Rattle.sheet.proofs.read_edit.Statement.{statement}
 use Rattle.sheet.proofs.read_edit.Tie as tie
+
+link-edit-requires : tie.Need-link-edit-requires
+link-edit-requires c κs = search needs
 
 returns : tie.Need-returns
 unfolding readEdit
@@ -24,7 +28,7 @@ returns-4 c = rw (c .match .keys4)
 
 returns-5 : tie.Need-returns-5
 unfolding readEdit
-returns-5 c = rw (c .match .keys5)
+returns-5 c = rw (c .before .match .keys5) (c .link-edit .ensures)
 
 returns-6 : tie.Need-returns-6
 unfolding readEdit
@@ -39,12 +43,13 @@ unfolding readEdit
 returns-8 c = rw (c .match .keys8)
 
 returns-9 : tie.Need-returns-9
-returns-9 c = read-past _ _ _ _ (missed 0 8 _ (c .match .rest) (omega arith))
+returns-9 c = read-past _ _ _ _ _ (missed 0 8 _ (c .match .rest) (omega arith))
 
 pub read-edit-spec : {M : Type 1} → statement M
 read-edit-spec =
     tie.close
     (tie.spec
+    link-edit-requires
     returns
     returns-2
     returns-3

@@ -1,19 +1,23 @@
 -- Bytes read as edits, and edits written as bytes.
 use mathlib.Core.Path.{_≡_, refl, sym, ap, _∙_}
 use mathlib.Core.List.{List, [], _∷_, _++_}
+use mathlib.Core.Bool.{Bool, true, false, not, _&&_}
 use Prim.Native.Nat.{ℕ, zero, suc, _+_, _*_, _/_, _≤_, _<_}
 use native.Mathlib.Nat.{add-assoc}
 use native.Mathlib.Omega.{arith}
 use lib.ListN.{length, getD, drop, length-append, List·getD-eq-default}
 use lib.Seq.{drop-cons, getD-drop}
-use Rattle.semantics.specs.Edit.{Edit, CN1, CN2, AP, DP, AT, DT1, DT2, AS, DS}
-use Rattle.sheet.specs.Bytes.{readEdit, fourAt, editAt, editsOf, editBytes, bytesOf}
+use Rattle.finite.specs.Tests.{same}
+use Rattle.finite.specs.Laws.Bools.{either, look, no-true, and-l, and-r, not-out}
+use Rattle.editions.specs.Edition.{second}
+use Rattle.semantics.specs.Edit.{Edit, CN1, CN2, AP, DP, AT, RT, DT1, DT2, AS, DS, functional}
+use Rattle.sheet.specs.Bytes.{linkEdit, readEdit, fourAt, editAt, editsOf, editBytes, bytesOf, inEdition, allInEdition}
 
 -- an operation past the last is read as the last
-pub read-past : (o x y z : ℕ) → 8 ≤ o → DS x ≡ readEdit o x y z
+pub read-past : (d o x y z : ℕ) → 8 ≤ o → DS x ≡ readEdit d o x y z
 unfolding readEdit
-read-past o x y z h =
-    sym (List·getD-eq-default (CN1 x y ∷ CN2 x y z ∷ AP x y ∷ DP x y ∷ AT x y z ∷ DT1 x y z ∷ DT2 x y ∷ AS x y ∷ []) (DS x) h)
+read-past d o x y z h =
+    sym (List·getD-eq-default (CN1 x y ∷ CN2 x y z ∷ AP x y ∷ DP x y ∷ linkEdit d x y z ∷ DT1 x y z ∷ DT2 x y ∷ AS x y ∷ []) (DS x) h)
 
 -- the four bytes of the next edit are those of the first edit of the rest
 pub four-next : {A : Type 0} (f : ℕ → ℕ → ℕ → ℕ → A) (s : List ℕ) (k : ℕ) → fourAt f s (suc k) ≡ fourAt f (drop 4 s) k
@@ -22,46 +26,86 @@ four-next f s k =
     rw e (simp (getD-drop, add-assoc))
 
 -- as many edits as four go into the length
-pub edits-length : (s : List ℕ) → length (editsOf s) ≡ length s / 4
+pub edits-length : (d : ℕ) (s : List ℕ) → length (editsOf d s) ≡ length s / 4
 unfolding editsOf
-edits-length [] = refl
-edits-length (o ∷ []) = refl
-edits-length (o ∷ x ∷ []) = refl
-edits-length (o ∷ x ∷ y ∷ []) = refl
-edits-length (o ∷ x ∷ y ∷ z ∷ s) = let ih : length (editsOf s) ≡ length s / 4 = edits-length s in omega arith
+edits-length d [] = refl
+edits-length d (o ∷ []) = refl
+edits-length d (o ∷ x ∷ []) = refl
+edits-length d (o ∷ x ∷ y ∷ []) = refl
+edits-length d (o ∷ x ∷ y ∷ z ∷ s) = let ih : length (editsOf d s) ≡ length s / 4 = edits-length d s in omega arith
 
-pub edits-at : (s : List ℕ) (k : ℕ) (d : Edit) → k < length s / 4 → getD (editsOf s) k d ≡ editAt s k
+pub edits-at : (d : ℕ) (s : List ℕ) (k : ℕ) (e : Edit) → k < length s / 4 → getD (editsOf d s) k e ≡ editAt d s k
 unfolding editsOf
-edits-at [] k d h = absurd (omega arith)
-edits-at (o ∷ []) k d h = absurd (omega arith)
-edits-at (o ∷ x ∷ []) k d h = absurd (omega arith)
-edits-at (o ∷ x ∷ y ∷ []) k d h = absurd (omega arith)
-edits-at (o ∷ x ∷ y ∷ z ∷ s) zero d h = refl
-edits-at (o ∷ x ∷ y ∷ z ∷ s) (suc k) d h = edits-at s k d (omega arith) ∙ sym (four-next readEdit (o ∷ x ∷ y ∷ z ∷ s) k)
+edits-at d [] k e h = absurd (omega arith)
+edits-at d (o ∷ []) k e h = absurd (omega arith)
+edits-at d (o ∷ x ∷ []) k e h = absurd (omega arith)
+edits-at d (o ∷ x ∷ y ∷ []) k e h = absurd (omega arith)
+edits-at d (o ∷ x ∷ y ∷ z ∷ s) zero e h = refl
+edits-at d (o ∷ x ∷ y ∷ z ∷ s) (suc k) e h = edits-at d s k e (omega arith) ∙ sym (four-next (readEdit d) (o ∷ x ∷ y ∷ z ∷ s) k)
 
 -- the edits from k on
-pub edits-drop : (s : List ℕ) (k : ℕ) → k < length s / 4 → drop k (editsOf s) ≡ editAt s k ∷ drop (suc k) (editsOf s)
-edits-drop s k h =
-    let l : k < length (editsOf s) = omega (arith, edits-length s) in
-    drop-cons (editsOf s) k (DS 0) l ∙ ap (λ e. e ∷ drop (suc k) (editsOf s)) (edits-at s k (DS 0) h)
+pub edits-drop : (d : ℕ) (s : List ℕ) (k : ℕ) → k < length s / 4 → drop k (editsOf d s) ≡ editAt d s k ∷ drop (suc k) (editsOf d s)
+edits-drop d s k h =
+    let l : k < length (editsOf d s) = omega (arith, edits-length d s) in
+    drop-cons (editsOf d s) k (DS 0) l ∙ ap (λ e. e ∷ drop (suc k) (editsOf d s)) (edits-at d s k (DS 0) h)
 
--- an edit's bytes read back as it
-pub read-back : (e : Edit) (s : List ℕ) → editsOf (editBytes e ++ s) ≡ e ∷ editsOf s
-unfolding editsOf editBytes readEdit
-read-back (CN1 n1 n2) s = refl
-read-back (CN2 n1 n2 f) s = refl
-read-back (AP n p) s = refl
-read-back (DP n p) s = refl
-read-back (AT m n1 n2) s = refl
-read-back (DT1 m n1 n2) s = refl
-read-back (DT2 f n) s = refl
-read-back (AS n k) s = refl
-read-back (DS n) s = refl
+-- an edit's bytes read back as it, in an edition that has it
+pub read-back : (d : ℕ) (e : Edit) → inEdition d e ≡ true → (s : List ℕ) → editsOf d (editBytes e ++ s) ≡ e ∷ editsOf d s
+unfolding editsOf editBytes readEdit linkEdit inEdition
+read-back d (CN1 n1 n2) h s = refl
+read-back d (CN2 n1 n2 f) h s = refl
+read-back d (AP n p) h s = refl
+read-back d (DP n p) h s = refl
+read-back d (AT m n1 n2) h s = let e : (same d second && functional m) ≡ false = no-true (not-out _ h) in rw e
+read-back d (RT f n1 n2) h s = rw h
+read-back d (DT1 m n1 n2) h s = refl
+read-back d (DT2 f n) h s = refl
+read-back d (AS n k) h s = refl
+read-back d (DS n) h s = refl
 
-pub edits-back : (es : List Edit) → editsOf (bytesOf es) ≡ es
-unfolding editsOf bytesOf
-edits-back [] = refl
-edits-back (e ∷ es) = read-back e (bytesOf es) ∙ ap (λ xs. e ∷ xs) (edits-back es)
+pub edits-back : (d : ℕ) (es : List Edit) → allInEdition d es ≡ true → editsOf d (bytesOf es) ≡ es
+unfolding editsOf bytesOf allInEdition
+edits-back d [] h = refl
+edits-back d (e ∷ es) h =
+    read-back d e (and-l _ _ h) (bytesOf es) ∙ ap (λ xs. e ∷ xs) (edits-back d es (and-r (inEdition d e) _ h))
+
+-- edition 1 reads as document 01 has it
+pub read-first : (o x y z : ℕ)
+    → readEdit 1 o x y z ≡ getD (CN1 x y ∷ CN2 x y z ∷ AP x y ∷ DP x y ∷ AT x y z ∷ DT1 x y z ∷ DT2 x y ∷ AS x y ∷ []) o (DS x)
+unfolding readEdit linkEdit same
+read-first o x y z = refl
+
+-- edition 2 adds general links as edition 1 does, and replaces the target of functional ones
+pub read-second : (m n1 n2 : ℕ) → (functional m ≡ false → readEdit second 4 m n1 n2 ≡ AT m n1 n2) × (functional m ≡ true → readEdit second 4 m n1 n2 ≡ RT m n1 n2)
+unfolding readEdit linkEdit same
+read-second m n1 n2 = (λ e. rw e, λ e. rw e)
+
+-- operation 4, as the code tests it
+module _ (d m n1 n2 : ℕ) {b : Bool} (e : b ≡ functional m) where
+  pub link-second : (same d second && b) ≡ true → RT m n1 n2 ≡ linkEdit d m n1 n2
+  unfolding linkEdit
+  link-second p = let q : (same d second && functional m) ≡ true = rw (← e) p in rw q
+
+  pub link-first : (same d second && b) ≡ false → AT m n1 n2 ≡ linkEdit d m n1 n2
+  unfolding linkEdit
+  link-first p = let q : (same d second && functional m) ≡ false = rw (← e) p in rw q
+
+-- what is read is an edit of the edition
+link-in : (d m n1 n2 : ℕ) → inEdition d (linkEdit d m n1 n2) ≡ true
+unfolding linkEdit inEdition
+link-in d m n1 n2 = either (look (same d second && functional m)) (λ e. rw (e, inEdition) e) (λ e. rw (e, inEdition) (ap not e))
+
+pub read-in : (d o x y z : ℕ) → inEdition d (readEdit d o x y z) ≡ true
+unfolding readEdit inEdition
+read-in d zero x y z = refl
+read-in d (suc zero) x y z = refl
+read-in d (suc (suc zero)) x y z = refl
+read-in d (suc (suc (suc zero))) x y z = refl
+read-in d (suc (suc (suc (suc zero)))) x y z = link-in d x y z
+read-in d (suc (suc (suc (suc (suc zero))))) x y z = refl
+read-in d (suc (suc (suc (suc (suc (suc zero)))))) x y z = refl
+read-in d (suc (suc (suc (suc (suc (suc (suc zero))))))) x y z = refl
+read-in d (suc (suc (suc (suc (suc (suc (suc (suc o)))))))) x y z = refl
 
 pub four-bytes : (e : Edit) → length (editBytes e) ≡ 4
 unfolding editBytes
@@ -70,6 +114,7 @@ four-bytes (CN2 n1 n2 f) = refl
 four-bytes (AP n p) = refl
 four-bytes (DP n p) = refl
 four-bytes (AT m n1 n2) = refl
+four-bytes (RT f n1 n2) = refl
 four-bytes (DT1 m n1 n2) = refl
 four-bytes (DT2 f n) = refl
 four-bytes (AS n k) = refl

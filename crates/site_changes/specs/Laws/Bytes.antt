@@ -9,7 +9,7 @@ use native.Mathlib.Decide.{decLt}
 use lib.ListN.{length, getD, set}
 use lib.Seq.{getD-set-same, getD-set-other}
 use Rattle.finite.specs.Tests.{same, bit}
-use Rattle.finite.specs.Laws.Bools.{either, look, clash, both, no-true, and-in, and-l, and-r, or-out, or-r, not-in, not-out, cond-comes, cond-was}
+use Rattle.finite.specs.Laws.Bools.{either, look, clash, both, no-true, and-in, and-l, and-r, or-out, not-in, not-out, cond-comes, cond-was}
 use Rattle.finite.specs.Laws.Below.{equal?, same-eq, same-refl, eq-same, ne-same}
 use Rattle.bitset.specs.Set.{setBytes, has, Is, inserted, removed}
 use Rattle.bitset.specs.Laws.Part.{back, back-below, back-above, back-has}
@@ -21,9 +21,10 @@ use Rattle.site.specs.Layout.{siteBytes, labelAt, nameAt, targetAt, rowAt}
 use Rattle.site.specs.Site.{siteOf}
 use Rattle.site.specs.Laws.Read.{present-is, present-in, marked-is, marked-in, place-is, row-is, target-is, link-in, functional-in}
 use Rattle.site.specs.Laws.Target.{nil-none, target-byte}
-use Rattle.going.specs.Joins.{joins}
-use Rattle.site_changes.specs.Change.{withName, withSlot, withoutSlot, withLabel, withoutLabel, withLink, withoutLink, withoutTarget}
-use Rattle.site_changes.specs.Laws.Cases.{cond-yes, cond-no, same-by, takes, Changes, puts-changes, takes-changes, at-cond, cond-off}
+use Rattle.going.specs.Joins.{neitherNil, joins}
+use Rattle.going.specs.Laws.Goes.{end-there}
+use Rattle.site_changes.specs.Change.{withName, withSlot, withoutSlot, withLabel, withoutLabel, withLink, withoutLink, withTarget, withoutTarget}
+use Rattle.site_changes.specs.Laws.Cases.{cond-yes, cond-no, same-by, takes, Changes, puts-changes, takes-changes, at-cond, cond-off, alone-put}
 use Rattle.site_changes.specs.Laws.Areas.{same-fields, present-kept, marked-kept, place-kept-at, place-kept, row-kept, target-kept, link-kept, presents-are, marks-are, links-are}
 
 -- ---- a name's byte
@@ -238,16 +239,47 @@ unfolding joins
 joined S f x y hg hf hx hb j =
     let u : ℕ = target (siteOf S) f x in
     let b : u ≡ getD S (targetAt f x) 0 = target-byte S f x hg hf hx hb in
-    let ends : (not (same x 0) && not (same y 0)) ≡ true = and-l _ _ j in
-    let free : (not (functional f) || (same u 0 || same u y)) ≡ true = and-r (not (same x 0) && not (same y 0)) _ j in (
+    let free : (not (functional f) || (same u 0 || same u y)) ≡ true = and-r (neitherNil x y) _ j in (
       either
           (or-out (not (functional f)) _ free)
           (λ p. absurd (not-out (functional f) p (functional-in f hg hf)))
           (λ p. either (or-out (same u 0) (same u y) p) (λ q. inl (sym b ∙ same-eq q)) (λ q. inr (sym b ∙ same-eq q))),
-      λ z. not-out (same y 0) (and-r (not (same x 0)) _ ends) (eq-same z),
+      end-there x y (and-l _ _ j),
     )
 
 module _ (S : List ℕ) (f x : ℕ) (len : length S ≡ siteBytes) (hg : generalLinks ≤ f) (hf : f < links) (hx : x < slots) where
+  -- where the link leads from slot x, by its byte
+  leads : (t : ℕ) → siteOf S .link f x t ≡ true → (getD S (targetAt f x) 0 ≡ t) × (not (same t 0) ≡ true)
+  leads t p =
+      let b = getD S (targetAt f x) 0 in
+      let e : (same b t && not (same t 0)) ≡ true = sym (target-is S f x t hg hf hx (link-in S f x t p .1 .1)) ∙ p in
+      (same-eq (and-l (same b t) _ e), and-r (same b t) _ e)
+
+  -- the target becomes y, whatever it was
+  pub target-set : (y : ℕ) → y ≢ 0 → y < slots → {S′ : List ℕ} → S′ ≡ set S (targetAt f x) y → siteOf S′ ≡ withTarget (siteOf S) f x y
+  unfolding withTarget
+  target-set y ne hy c =
+      let N : ℕ → ℕ → ℕ → Bool = siteOf S .link in
+      let here : (same f f && same x x) ≡ true = and-in (same-refl f) (same-refl x) in
+      ap siteOf c
+      ∙ target-put S f x y (λ l s t. cond (same l f && same s x) (same t y) (N l s t)) len hg hf hx
+      (λ l s t p. sym (cond-no (same t y) (N l s t) p))
+      (λ t ht.
+      both
+      (λ p. cond-yes (same t y) (N f x t) here ∙ eq-same (sym (same-eq (and-l (same y t) _ p))))
+      (λ p.
+      let e : t ≡ y = same-eq (sym (cond-yes (same t y) (N f x t) here) ∙ p) in
+      and-in (eq-same (sym e)) (not-in (λ q. ne (sym e ∙ same-eq q)))))
+      (λ l s t p.
+      either
+      (look (same l f && same s x))
+      (λ q.
+      let a = same-eq (and-l (same l f) (same s x) q) in
+      let b = same-eq (and-r (same l f) (same s x) q) in
+      let e : t ≡ y = same-eq (sym (cond-yes (same t y) (N l s t) q) ∙ p) in
+      (omega arith, (omega arith, omega arith)))
+      (λ q. link-in S l s t (sym (cond-no (same t y) (N l s t) q) ∙ p)))
+
   pub target-taken : {S′ : List ℕ} → S′ ≡ set S (targetAt f x) 0 → siteOf S′ ≡ withoutTarget (siteOf S) f x
   unfolding withoutTarget
   target-taken c =
@@ -271,9 +303,7 @@ module _ (S : List ℕ) (f x : ℕ) (len : length S ≡ siteBytes) (hg : general
     where
       gone : (t : ℕ) → t < slots → (siteOf S .link f x t && not (same t y)) ≡ false
       gone t ht =
-          no-true (λ p.
-          let e : (same (getD S (targetAt f x) 0) t && not (same t 0)) ≡ true = sym (target-is S f x t hg hf hx ht) ∙ and-l (siteOf S .link f x t) _ p in
-          not-out (same t y) (and-r (siteOf S .link f x t) _ p) (eq-same (sym (same-eq (and-l (same (getD S (targetAt f x) 0) t) _ e)) ∙ w)))
+          no-true (λ p. not-out (same t y) (and-r (siteOf S .link f x t) _ p) (eq-same (sym (leads t (and-l (siteOf S .link f x t) _ p) .0) ∙ w)))
 
   -- the target is another, and stays
   pub link-other : (y : ℕ) → getD S (targetAt f x) 0 ≢ y → siteOf S ≡ withoutLink (siteOf S) f x y
@@ -294,51 +324,34 @@ module _ (S : List ℕ) (f x : ℕ) (len : length S ≡ siteBytes) (hg : general
           (λ q.
           cond-yes (siteOf S .link l s t && not (same s x && same t y)) (siteOf S .link l s t) q
           ∙ and-in p (not-in (λ b.
-          let r = link-in S l s t p in
           let d = same-eq (and-l (same s x) (same t y) b) in
           let e : siteOf S .link f x t ≡ true = ap₂ (λ (a b : ℕ). siteOf S .link a b t) (sym (same-eq q)) (sym d) ∙ p in
-          let h : (same (getD S (targetAt f x) 0) t && not (same t 0)) ≡ true = sym (target-is S f x t hg hf hx (r .1 .1)) ∙ e in
-          w (same-eq (and-l (same (getD S (targetAt f x) 0) t) _ h) ∙ same-eq (and-r (same s x) (same t y) b)))))
+          w (leads t e .0 ∙ same-eq (and-r (same s x) (same t y) b)))))
           (λ q. cond-no (siteOf S .link l s t && not (same s x && same t y)) (siteOf S .link l s t) q ∙ p)
 
   -- there is no target, or it is y: it becomes y
   pub link-put : (y : ℕ) → y < slots → getD S (targetAt f x) 0 < slots → joins (siteOf S) f x y ≡ true
       → {S′ : List ℕ} → S′ ≡ set S (targetAt f x) y → siteOf S′ ≡ withLink (siteOf S) f x y
-  unfolding withLink
+  unfolding withTarget withLink
   link-put y hy hb j c =
-      let N : ℕ → ℕ → ℕ → Bool = siteOf S .link in
-      ap siteOf c
-      ∙ target-put S f x y (λ l s t. cond (same l f) (N l s t || (same s x && same t y)) (N l s t)) len hg hf hx
-      (λ l s t p. cond-off _||_ puts-changes (N l s t) (same l f) (same s x) (same t y) p)
-      (λ t ht. both (λ p. cond-yes (N f x t || (same x x && same t y)) (N f x t) (same-refl f) ∙ or-r (N f x t) _ (and-in (same-refl x) (to t p))) (λ p. from t ht (cond-comes _||_ or-out (N f x t) (same f f) (same x x && same t y) p)))
-      (λ l s t p.
-      either
-      (cond-comes _||_ or-out (N l s t) (same l f) (same s x && same t y) p)
-      (link-in S l s t)
-      (λ r.
-      let e = same-eq (r .0) in
-      let d = same-eq (and-l (same s x) (same t y) (r .1)) in
-      let g = same-eq (and-r (same s x) (same t y) (r .1)) in
-      (omega arith, (omega arith, omega arith))))
+      target-set y (old .1) hy c
+      ∙ same-fields (record {
+        present-same = λ s. refl;
+        marked-same = λ p s. refl;
+        place-same = λ n. refl;
+        link-same = λ l s t. alone-put (siteOf S .link l s t) (same l f) (same s x) (same t y) (only l s t);
+      })
     where
-      to : (t : ℕ) → (same y t && not (same t 0)) ≡ true → same t y ≡ true
-      to t p = eq-same (sym (same-eq (and-l (same y t) _ p)))
-
       -- the byte is 0 or y, and y is not 0
       old : ((getD S (targetAt f x) 0 ≡ 0) ⊎ (getD S (targetAt f x) 0 ≡ y)) × (y ≢ 0)
       old = joined S f x y hg hf hx hb j
 
-      from : (t : ℕ) → t < slots → (siteOf S .link f x t ≡ true) ⊎ ((same f f ≡ true) × ((same x x && same t y) ≡ true)) → (same y t && not (same t 0)) ≡ true
-      from t ht c =
-          either c
-          (λ p.
-          let e : (same (getD S (targetAt f x) 0) t && not (same t 0)) ≡ true = sym (target-is S f x t hg hf hx ht) ∙ p in
-          let w = same-eq (and-l (same (getD S (targetAt f x) 0) t) _ e) in
-          let nz = and-r (same (getD S (targetAt f x) 0) t) _ e in
-          either (old .0) (λ z. absurd (not-out (same t 0) nz (eq-same (sym w ∙ z)))) (λ z. and-in (eq-same (sym z ∙ w)) nz))
-          (λ r.
-          let e = same-eq (and-r (same x x) (same t y) (r .1)) in
-          and-in (eq-same (sym e)) (not-in (λ q. old .1 (sym e ∙ same-eq q))))
+      only : (l s t : ℕ) → (same l f && same s x) ≡ true → siteOf S .link l s t ≡ true → same t y ≡ true
+      only l s t q p =
+          let e = same-eq (and-l (same l f) (same s x) q) in
+          let d = same-eq (and-r (same l f) (same s x) q) in
+          let w = leads t (ap₂ (λ (a b : ℕ). siteOf S .link a b t) (sym e) (sym d) ∙ p) in
+          either (old .0) (λ z. absurd (not-out (same t 0) (w .1) (eq-same (sym (w .0) ∙ z)))) (λ z. eq-same (sym (w .0) ∙ z))
 
 -- ---- a general link's row, lent whole
 

@@ -55,6 +55,13 @@ module _ (g : Bool → Bool → Bool) (ch : Changes g) where
   cond-off a true false d p = sym (ch .keeps a)
   cond-off a false c d p = refl
 
+-- where a test passes, d alone is d put in, if nothing else is there
+pub alone-put : (a b c d : Bool) → ((b && c) ≡ true → a ≡ true → d ≡ true) → cond (b && c) d a ≡ cond b (a || (c && d)) a
+alone-put true true true d h = h refl refl
+alone-put false true true d h = refl
+alone-put a true false d h = sym (or-false a)
+alone-put a false c d h = refl
+
 -- ---- one more turn of a loop: e is "this one", b is "one before it"
 
 pub below-more : (q i : ℕ) → below q (i + 1) ≡ (below q i || same q i)

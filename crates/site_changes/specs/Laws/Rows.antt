@@ -7,8 +7,8 @@ use Rattle.finite.specs.Tests.{same}
 use Rattle.finite.specs.Laws.Bools.{either, look}
 use Rattle.finite.specs.Laws.Below.{same-eq, ne-same}
 use Rattle.semantics.specs.Holds.{Model}
-use Rattle.semantics.specs.Edit.{CN1, CN2, AP, DP, AT, DT1, DT2, AS, DS, target, edit}
-use Rattle.site_changes.specs.Change.{withName, withSlot, withoutSlot, withLabel, withoutLabel, withLink, withoutLink, withoutTarget, withoutLabels, withoutNames, withoutLinks}
+use Rattle.semantics.specs.Edit.{CN1, CN2, AP, DP, AT, DT1, DT2, AS, DS, RT, target, edit}
+use Rattle.site_changes.specs.Change.{withName, withSlot, withoutSlot, withLabel, withoutLabel, withLink, withoutLink, withTarget, withoutTarget, withoutLabels, withoutNames, withoutLinks}
 use Rattle.site_changes.specs.Laws.Cases.{cond-same}
 use Rattle.site_changes.specs.Laws.Loops.{marked-only}
 
@@ -61,6 +61,10 @@ module _ (M : Model) {M′ : Model} where
       k
       ∙ ap (λ (N : Model). withoutLinks N x) (h ∙ ap (λ (N : Model). withoutNames N x) (g ∙ ap (λ (N : Model). withoutLabels N x) f))
       ∙ ap (λ (z : ℕ). withoutLinks (withoutNames (withoutLabels (withoutSlot M z) z) z) z) e
+
+  pub row-RT : (f n1 n2 : ℕ) {x y : ℕ} → x ≡ M .place n1 → y ≡ M .place n2 → M′ ≡ withTarget M f x y → M′ ≡ edit (RT f n1 n2) M
+  unfolding edit withTarget
+  row-RT f n1 n2 e g h = h ∙ ap₂ (λ (z w : ℕ). withTarget M f z w) e g
 
 -- AP with a name at nil changes nothing
 pub row-AP-nil : (M : Model) (n p : ℕ) {x : ℕ} → x ≡ M .place n → x ≡ 0 → M ≡ edit (AP n p) M

@@ -36,6 +36,9 @@ spell-spec =
     (λ c. c .match .keys9)
     (λ c κs. tt)
     (λ c κs. tt)
+    (λ c. c .match .keys10)
+    (λ c κs. omega arith)
+    (λ c κs. tt)
     (λ c. let p = c .before .before .before in let q = p .before .before in
     spells-by (p .e .given .1) (q .before .pre) (q .known .ensures) (c .before .leaf-row .ensures) (c .by-row .ensures))
     (λ c. let p = c .before .before .before in let q = p .before .before in
@@ -53,4 +56,6 @@ spell-spec =
     (λ c. let p = c .before .before .before in let q = p .before .before in
     spells-by (p .e8 .given .1) (q .before .pre) (q .known .ensures) (c .before .as-row .ensures) (c .by-row8 .ensures))
     (λ c. let p = c .before .before .before in let q = p .before .before in
-    spells-by (p .e9 .given .1) (q .before .pre) (q .known .ensures) (c .before .ds-row .ensures) (c .by-row9 .ensures)))
+    spells-by (p .e9 .given .1) (q .before .pre) (q .known .ensures) (c .before .ds-row .ensures) (c .by-row9 .ensures))
+    (λ c. let p = c .before .before .before in let q = p .before .before in
+    spells-by (p .e10 .given .1) (q .before .pre) (q .known .ensures) (c .before .way-row4 .ensures) (c .by-row10 .ensures)))

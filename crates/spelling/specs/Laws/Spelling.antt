@@ -10,9 +10,9 @@ use Rattle.finite.specs.Laws.Bools.{either, look}
 use Rattle.finite.specs.Laws.Below.{below-in, below-out, below-not}
 use Rattle.limits.specs.Limits.{links, everyWay}
 use Rattle.semantics.specs.Form.{Way, along, against, every}
-use Rattle.semantics.specs.Edit.{Edit, CN1, CN2, AP, DP, AT, DT1, DT2, AS, DS, legal}
+use Rattle.semantics.specs.Edit.{Edit, CN1, CN2, AP, DP, AT, RT, DT1, DT2, AS, DS, legal}
 use Rattle.semantics.specs.Table.{kindOf, wayOf}
-use Rattle.semantics.specs.Block.{Change, keep, added, cut, cutFrom, cutTo, cutOff, change, Block, old, blockDia, blockBox, blockLeaf, block}
+use Rattle.semantics.specs.Block.{Change, keep, added, onlyFrom, onlyTo, cut, cutFrom, cutTo, cutOff, change, Block, old, blockDia, blockBox, blockLeaf, block}
 use Rattle.semantics.specs.Laws.Edits.{Legal, legal-out, functional-small}
 use Rattle.condition.specs.Laws.Limits.{each-kind, kind-past}
 use Rattle.sheet.specs.declared.Op.{Op}
@@ -36,6 +36,12 @@ unfolding change onWay
 change-at m a b (along l) = refl
 change-at m a b (against l) = refl
 change-at m a b every = refl
+
+change-rt : (f a b : ℕ) (w : Way) → onWay w f (onlyFrom a b) (onlyTo b a) keep ≡ change (RT f a b) w
+unfolding change onWay
+change-rt f a b (along l) = refl
+change-rt f a b (against l) = refl
+change-rt f a b every = refl
 
 change-dt1 : (m a b : ℕ) (w : Way) → onWay w m (cut a b) (cut b a) keep ≡ change (DT1 m a b) w
 unfolding change onWay
@@ -116,6 +122,11 @@ module _ (p t u : ℕ) where
       each-kind _ refl refl refl refl refl refl refl refl
       (choose-way dia (row a b) (wayOf p) m (added a b) (added b a) (change-at m a b (wayOf p)) refl refl refl)
       (choose-way box (row a b) (wayOf p) m (added a b) (added b a) (change-at m a b (wayOf p)) refl refl refl) refl refl
+      (λ k h. rw (kind-past k h, known-past k h) refl)
+  right (RT f a b) l =
+      each-kind _ refl refl refl refl refl refl refl refl
+      (choose-way dia (row a b) (wayOf p) f (onlyFrom a b) (onlyTo b a) (change-rt f a b (wayOf p)) refl refl refl)
+      (choose-way box (row a b) (wayOf p) f (onlyFrom a b) (onlyTo b a) (change-rt f a b (wayOf p)) refl refl refl) refl refl
       (λ k h. rw (kind-past k h, known-past k h) refl)
   right (DT1 m a b) l =
       each-kind _ refl refl refl refl refl refl refl refl

@@ -5,7 +5,7 @@ use mathlib.Core.Bool.{true}
 use Prim.Native.Nat.{ℕ}
 use Rattle.finite.specs.Laws.Bools.{either, look}
 use Rattle.semantics.specs.Holds.{Env, Model}
-use Rattle.semantics.specs.Edit.{Edit, CN1, CN2, AP, DP, AT, DT1, DT2, AS, DS, functional}
+use Rattle.semantics.specs.Edit.{Edit, CN1, CN2, AP, DP, AT, RT, DT1, DT2, AS, DS, functional}
 use Rattle.semantics.specs.Table.{Node, formOf}
 use Rattle.semantics.specs.Block.{rewriteTable}
 use Rattle.rounds.specs.Makes.{Makes}
@@ -20,6 +20,7 @@ own-loopless (CN2 n1 n2 f) n = refl
 own-loopless (AP y p) n = refl
 own-loopless (DP y p) n = refl
 own-loopless (AT m n1 n2) n = either (look (functional m)) (λ f. rw f (emit-loopless _ n refl)) (λ f. rw f (emit-loopless _ n refl))
+own-loopless (RT f n1 n2) n = emit-loopless _ n refl
 own-loopless (DT1 m n1 n2) n = refl
 own-loopless (DT2 f y) n = refl
 own-loopless (AS y k) n = emit-loopless _ n refl

@@ -3,7 +3,7 @@ use mathlib.Core.Path.{_≡_, refl, sym, _∙_, subst}
 use mathlib.Core.Logic.{_⊎_, inl, inr, _↔_, Iff·trans}
 use mathlib.Core.Option.{Option, none, some}
 use mathlib.Core.List.{List}
-use mathlib.Core.Bool.{Bool, true, false, _&&_, _||_}
+use mathlib.Core.Bool.{Bool, true, false, not, _&&_, _||_}
 use Prim.Native.Nat.{ℕ, suc, _<_}
 use native.Mathlib.Omega.{arith}
 use Rattle.finite.specs.Tests.{same, below}
@@ -13,7 +13,7 @@ use Rattle.finite.specs.Laws.Reflect.{not-iff, and-iff}
 use Rattle.limits.specs.Limits.{slots, names, everyWay}
 use Rattle.semantics.specs.Form.{Form, top, here, name, neg, or, and, dia, slot, occ, even, along}
 use Rattle.semantics.specs.Holds.{Env, Model, step, Holds}
-use Rattle.semantics.specs.Edit.{Edit, CN1, CN2, AP, DP, AT, DT1, DT2, AS, DS, functional, target, legal, goes, Valid}
+use Rattle.semantics.specs.Edit.{Edit, CN1, CN2, AP, DP, AT, RT, DT1, DT2, AS, DS, functional, target, legal, goes, Valid}
 use Rattle.semantics.specs.Table.{wayOf, atom, one, two, leafFits, unaryFits}
 use Rattle.semantics.specs.Block.{Block, _&_}
 use Rattle.semantics.specs.Laws.Ways.{way-along, everywhere}
@@ -95,11 +95,20 @@ somewhere-fits f g = and-in E-fits (and-in f g)
 nowhere-fits : {a b : Bool} → a ≡ true → b ≡ true → (same 0 0 && (below everyWay (suc everyWay) && (a && b))) ≡ true
 nowhere-fits f g = and-in (same-refl 0) (somewhere-fits f g)
 
--- AT's condition, by whether the link is functional
+-- AT's condition, by whether the link is functional, and RT's
 module _ (m n1 n2 : ℕ) (l1 : below n1 names ≡ true) (l2 : below n2 names ≡ true) where
   neither-fits : (n : ℕ) → blockFits n (neitherNil n1 n2) ≡ true
   unfolding blockFits unaryFits leafFits
   neither-fits n = and-in (nowhere-fits l1 nil-fits) (nowhere-fits l2 nil-fits)
+
+  neither-says : (ts : List Form) (M : Model) → Valid M → (ρ : Env) (s : ℕ)
+      → ((not (same (M .place n1) 0) && not (same (M .place n2) 0)) ≡ true) ↔ Holds M ρ (fill ts (neitherNil n1 n2)) s
+  unfolding fill atom one two Holds
+  neither-says ts M v ρ s = and-iff _ _ (not-iff _ (nil-says M v ρ s n1)) (not-iff _ (nil-says M v ρ s n2))
+
+  rehomed-right : Condition (RT m n1 n2) (neitherNil n1 n2)
+  unfolding fill atom one two occ even evenBlock goes
+  rehomed-right = record { fits = neither-fits; evens = λ ts. refl; no-variable = λ ts b v. refl; says = neither-says }
 
   general-right : functional m ≡ false → Condition (AT m n1 n2) (neitherNil n1 n2)
   unfolding fill atom one two occ even evenBlock goes Holds
@@ -107,8 +116,7 @@ module _ (m n1 n2 : ℕ) (l1 : below n1 names ≡ true) (l2 : below n2 names ≡
     fits = neither-fits;
     evens = λ ts. refl;
     no-variable = λ ts b v. refl;
-    says = λ ts M v ρ s.
-        rw f (Iff·trans (λ p. and-l _ _ p, λ p. and-in p refl) (and-iff _ _ (not-iff _ (nil-says M v ρ s n1)) (not-iff _ (nil-says M v ρ s n2))));
+    says = λ ts M v ρ s. rw f (Iff·trans (λ p. and-l _ _ p, λ p. and-in p refl) (neither-says ts M v ρ s));
   }
 
   functional-right : functional m ≡ true → Condition (AT m n1 n2) (neitherNil n1 n2 & freeOrThere m n1 n2)
@@ -122,7 +130,7 @@ module _ (m n1 n2 : ℕ) (l1 : below n1 names ≡ true) (l2 : below n2 names ≡
         no-variable = λ ts b v. refl;
         says = λ ts M v ρ s.
             rw (f, way-along m small)
-            (and-iff _ _ (and-iff _ _ (not-iff _ (nil-says M v ρ s n1)) (not-iff _ (nil-says M v ρ s n2))) (target-says M v ρ s m n1 n2 f));
+            (and-iff _ _ (neither-says ts M v ρ s) (target-says M v ρ s m n1 n2 f));
       }
 
 pub own-right : (e : Edit) → legal e ≡ true → Right e (own e)
@@ -134,6 +142,7 @@ own-right (DP n p) l = λ M. refl
 own-right (AT m n1 n2) l =
     let r = legal-out (AT m n1 n2) l in
     either (look (functional m)) (λ f. rw f (functional-right m n1 n2 (r .0) (r .1) f)) (λ f. rw f (general-right m n1 n2 (r .0) (r .1) f))
+own-right (RT f n1 n2) l = let r = legal-out (RT f n1 n2) l in rehomed-right f n1 n2 (r .0) (r .1)
 own-right (DT1 m n1 n2) l = λ M. refl
 own-right (DT2 f n) l = λ M. refl
 own-right (AS n k) l =

@@ -22,7 +22,7 @@ add-result-3 : tie.Need-add-result-3
 add-result-3 c = omega arith
 
 returns : tie.Need-returns
-returns c = omega arith
+returns c = (omega arith, omega arith)
 
 pub quad-spec : {M : Type 1} → statement M
 quad-spec =

@@ -1,4 +1,4 @@
--- The distances of an accepted file stay inside it.
+-- The distances of a file that item 2 does not refuse stay inside it.
 use native.Mathlib.Omega.{arith}
 use Rattle.trailer.specs.File.{startOf}
 use Rattle.trailer.specs.Laws.Verdict.{laid}
@@ -9,17 +9,17 @@ use Rattle.trailer.proofs.start.Tie as tie
 sub-result : tie.Need-sub-result
 sub-result c = omega (arith, laid _ (c .before .pre .0) .enough)
 
-read-distance-requires : tie.Need-read-distance-requires
-read-distance-requires c κs = (laid _ (c .before .pre .0) .enough, c .before .pre .1)
+read-number-requires : tie.Need-read-number-requires
+read-number-requires c κs = (laid _ (c .before .pre .0) .enough, omega arith)
 
 sub-result-2 : tie.Need-sub-result-2
 sub-result-2 c =
     let p = c .before .before .pre in
-    omega (arith, c .read-distance .ensures, distance-in _ (laid _ (p .0)) _ (p .1))
+    omega (arith, c .read-number .ensures .0, distance-in _ (laid _ (p .0)) _ (p .1))
 
 returns : tie.Need-returns
 unfolding startOf
-returns c = (omega (arith, c .read-distance .ensures), omega arith)
+returns c = (omega (arith, c .read-number .ensures .0), omega arith)
 
 pub start-spec : {M : Type 1} → statement M
-start-spec = tie.close (tie.spec sub-result read-distance-requires sub-result-2 returns)
+start-spec = tie.close (tie.spec sub-result read-number-requires sub-result-2 returns)

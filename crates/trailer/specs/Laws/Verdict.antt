@@ -1,5 +1,5 @@
--- What item 2 says of a file's length and distances, and what a verdict on it is.
-use mathlib.Core.Path.{_≡_, sym, _∙_}
+-- What items 2 and 18 say of a file's length, distances and edition, and what a verdict on it is.
+use mathlib.Core.Path.{_≡_, sym, ap, _∙_}
 use mathlib.Core.Bool.{true, false, not, _||_}
 use mathlib.Core.List.{List}
 use Prim.Native.Nat.{ℕ, _≤_, _<_}
@@ -10,16 +10,18 @@ use Rattle.finite.specs.Laws.Bools.{either, look, or-none}
 use Rattle.finite.specs.Laws.Below.{same-eq, eq-same, below-in, below-not, not-below}
 use Rattle.verdict.specs.declared.Verdict.the-variants.{Accepted, Refused}
 use Rattle.verdict.specs.Laws.{refused}
-use Rattle.trailer.specs.File.{trailerBytes, fileLimit, trailerAt, distance}
-use Rattle.trailer.specs.Refusal.{item2, trailerVerdict}
+use Rattle.editions.specs.Edition.{known, editionVerdict}
+use Rattle.editions.specs.Laws.{edition-known, edition-refused}
+use Rattle.trailer.specs.File.{trailerBytes, fileLimit, trailerAt, number}
+use Rattle.trailer.specs.Refusal.{item2, editionIn, trailerVerdict}
 
 -- a file that item 2 does not refuse
 pub record Laid (file : List ℕ) : Type 0 where
   pub enough : trailerBytes ≤ length file
   pub at-most : length file ≤ fileLimit
-  pub sheet-first : distance 0 file ≤ distance 1 file
-  pub condition-next : distance 1 file ≤ distance 2 file
-  pub site-last : distance 2 file ≡ trailerAt file
+  pub sheet-first : number 0 file ≤ number 1 file
+  pub condition-next : number 1 file ≤ number 2 file
+  pub site-last : number 2 file ≡ trailerAt file
 
 pub laid : (file : List ℕ) → item2 file ≡ false → Laid file
 unfolding item2
@@ -58,24 +60,53 @@ too-long file l h = rw (below-not _ _ l, below-in _ _ h)
 
 pub by-distances :
     (file : List ℕ) {x y z : ℕ}
-    → x ≡ distance 0 file → y ≡ distance 1 file → z ≡ distance 2 file
+    → x ≡ number 0 file → y ≡ number 1 file → z ≡ number 2 file
     → trailerBytes ≤ length file → length file ≤ fileLimit
     → (below y x || below z y || not (same z (trailerAt file))) ≡ item2 file
 unfolding item2
 by-distances file p q r l h = rw (p, q, r, below-not _ _ l, below-not _ _ h)
 
--- the verdict by the test, and back
+-- the edition by the test
+pub edition-none : (file : List ℕ) → item2 file ≡ true → editionIn file ≡ 0
+unfolding editionIn
+edition-none file p = rw p
+
+pub edition-fourth : (file : List ℕ) → item2 file ≡ false → editionIn file ≡ number 3 file
+unfolding editionIn
+edition-fourth file p = rw p
+
+-- the verdict by the tests, and back
 pub trailer-refused : (file : List ℕ) → item2 file ≡ true → trailerVerdict file ≡ Refused 2 0
 unfolding trailerVerdict
 trailer-refused file p = rw p
 
-pub trailer-accepted : (file : List ℕ) → item2 file ≡ false → trailerVerdict file ≡ Accepted
+pub trailer-edition : (file : List ℕ) → item2 file ≡ false → trailerVerdict file ≡ editionVerdict (editionIn file)
 unfolding trailerVerdict
-trailer-accepted file p = rw p
+trailer-edition file p = rw p
+
+pub trailer-unknown : (file : List ℕ) → item2 file ≡ false → known (editionIn file) ≡ false → trailerVerdict file ≡ Refused 18 0
+trailer-unknown file p k = trailer-edition file p ∙ edition-refused _ k
+
+pub trailer-accepted : (file : List ℕ) → item2 file ≡ false → known (editionIn file) ≡ true → trailerVerdict file ≡ Accepted
+trailer-accepted file p k = trailer-edition file p ∙ edition-known _ k
+
+accepted-unmet : (file : List ℕ) → trailerVerdict file ≡ Accepted → item2 file ≡ false
+accepted-unmet file v = either (look (item2 file)) (λ p. refused (sym (trailer-refused file p) ∙ v)) (λ p. p)
 
 pub accepted-laid : (file : List ℕ) → trailerVerdict file ≡ Accepted → Laid file
-accepted-laid file v =
-    either (look (item2 file)) (λ p. refused (sym (trailer-refused file p) ∙ v)) (λ p. laid file p)
+accepted-laid file v = laid file (accepted-unmet file v)
 
-pub laid-accepted : (file : List ℕ) → Laid file → trailerVerdict file ≡ Accepted
-laid-accepted file l = trailer-accepted file (unrefused file l)
+pub accepted-known : (file : List ℕ) → trailerVerdict file ≡ Accepted → editionVerdict (editionIn file) ≡ Accepted
+accepted-known file v = sym (trailer-edition file (accepted-unmet file v)) ∙ v
+
+pub laid-accepted : (file : List ℕ) → Laid file → known (editionIn file) ≡ true → trailerVerdict file ≡ Accepted
+laid-accepted file l k = trailer-accepted file (unrefused file l) k
+
+-- a file that is refused, with either number, has no known edition
+pub refused-unknown : (file : List ℕ) {n w : ℕ} → trailerVerdict file ≡ Refused n w → known (editionIn file) ≡ false
+unfolding known same
+refused-unknown file v =
+    either
+    (look (item2 file))
+    (λ p. ap known (edition-none file p))
+    (λ p. either (look (known (editionIn file))) (λ k. refused (sym v ∙ trailer-accepted file p k)) (λ k. k))

@@ -1,48 +1,49 @@
 -- The four bytes are inside the trailer.
+use native.Mathlib.Omega.{arith}
 use borrow.Author.Needs.{needs}
-use Rattle.trailer.specs.File.{distance}
-use Rattle.trailer.proofs.read_distance.Statement.{statement}
-use Rattle.trailer.proofs.read_distance.Tie as tie
+use Rattle.trailer.specs.File.{number}
+use Rattle.trailer.proofs.read_number.Statement.{statement}
+use Rattle.trailer.proofs.read_number.Tie as tie
 
 sub-at : tie.Need-sub-at
-sub-at c = search needs
+sub-at c = omega arith
 
 mul-at : tie.Need-mul-at
-mul-at c = search needs
+mul-at c = omega arith
 
 add-at : tie.Need-add-at
-add-at c = search needs
+add-at c = omega arith
 
 shared-slice-read-quad : tie.Need-shared-slice-read-quad
-shared-slice-read-quad c = search needs
+shared-slice-read-quad c = omega arith
 
 add-quad : tie.Need-add-quad
-add-quad c = search needs
+add-quad c = omega arith
 
 shared-slice-read-quad-2 : tie.Need-shared-slice-read-quad-2
-shared-slice-read-quad-2 c = search needs
+shared-slice-read-quad-2 c = omega arith
 
 add-quad-2 : tie.Need-add-quad-2
-add-quad-2 c = search needs
+add-quad-2 c = omega arith
 
 shared-slice-read-quad-3 : tie.Need-shared-slice-read-quad-3
-shared-slice-read-quad-3 c = search needs
+shared-slice-read-quad-3 c = omega arith
 
 add-quad-3 : tie.Need-add-quad-3
-add-quad-3 c = search needs
+add-quad-3 c = omega arith
 
 shared-slice-read-quad-4 : tie.Need-shared-slice-read-quad-4
-shared-slice-read-quad-4 c = search needs
+shared-slice-read-quad-4 c = omega arith
 
 quad-requires : tie.Need-quad-requires
 quad-requires c κs = search needs
 
 returns : tie.Need-returns
-unfolding distance
+unfolding number
 returns c = c .quad .ensures
 
-pub read-distance-spec : {M : Type 1} → statement M
-read-distance-spec =
+pub read-number-spec : {M : Type 1} → statement M
+read-number-spec =
     tie.close
     (tie.spec
     sub-at

@@ -1,10 +1,10 @@
--- `test_jobs::checksum` stays inside the slice, and its number below the prime.
+-- `pieces::checksum` stays inside the slice, and its number below the prime.
 use Prim.Native.Nat.{_≤_, _<_, _-_}
 use native.Mathlib.Omega.{arith}
 use borrow.Author.Needs.{needs}
 use lib.ListN.{length}
-use Rattle.test_jobs.proofs.checksum.Statement.{statement}
-use Rattle.test_jobs.proofs.checksum.Tie as tie
+use Rattle.pieces.proofs.checksum.Statement.{statement}
+use Rattle.pieces.proofs.checksum.Tie as tie
 
 abbrev Inv-loop : tie.InvT-loop
 Inv-loop bytes h₀ k₀ h k = (k ≤ length bytes) × (h < 4294967291)

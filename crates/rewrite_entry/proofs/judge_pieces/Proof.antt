@@ -1,0 +1,42 @@
+-- The items in order: the condition, the sheet.
+use borrow.Author.Needs.{needs}
+use Rattle.rewrite_entry.specs.Laws.Rewriting.{judged-refused, judged-next}
+use Rattle.rewrite_entry.proofs.judge_pieces.Statement.{statement}
+use Rattle.rewrite_entry.proofs.judge_pieces.Tie as tie
+
+no-masks-requires : tie.Need-no-masks-requires
+no-masks-requires c κs = search needs
+
+slice-aggregate-check : tie.Need-slice-aggregate-check
+slice-aggregate-check c = search needs
+
+check-requires : tie.Need-check-requires
+check-requires c κs = search needs
+
+enum-told : tie.Need-enum-told
+enum-told c = search needs
+
+check-requires-2 : tie.Need-check-requires-2
+check-requires-2 c κs = search needs
+
+enum-known-v : tie.Need-enum-known-v
+enum-known-v c = search needs
+
+returns : tie.Need-returns
+returns c = judged-next (c .before .before .before .before .check .ensures .verdict) (c .before .enum-told .given .1) (c .check2 .ensures)
+
+returns-2 : tie.Need-returns-2
+returns-2 c = judged-refused _ (c .before .before .before .before .check .ensures .verdict) (c .before .v .given .1)
+
+pub judge-pieces-spec : {M : Type 1} → statement M
+judge-pieces-spec =
+    tie.close
+    (tie.spec
+    no-masks-requires
+    slice-aggregate-check
+    check-requires
+    enum-told
+    check-requires-2
+    enum-known-v
+    returns
+    returns-2)
