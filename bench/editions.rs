@@ -68,7 +68,7 @@ fn going_through() -> Vec<Row> {
 }
 
 fn jobs() -> Vec<Row> {
-    let sites = [("sparse", inputs::random(SLOTS, 2)), ("dense", inputs::homed())];
+    let sites = [("sparse", inputs::random(SLOTS, 2)), ("dense", inputs::full(SLOTS))];
     let along = |(along, way): (&str, usize)| {
         let of = |(what, site): &(&str, Vec<u8>)| {
             let call = |sheet, edition| Call::job_of(site.clone(), inputs::reach(way), sheet, edition);
@@ -98,15 +98,15 @@ fn compare_edits(two_builds: bool) {
 
 /// Item 18 comes before what a site, a condition and a sheet are refused for.
 fn compare_numbers(two_builds: bool) {
-    let sites = [inputs::site_a(), vec![0; SITE]];
-    let inputs = sites.iter().flat_map(|site| [inputs::reach(GENERAL), Vec::new()].map(|cond| (site, cond)));
-    let all = inputs.flat_map(|(site, cond)| [vec![4, 4, 1, 2], vec![9; 4], vec![0; 3]].map(|sheet| (site, cond.clone(), sheet)));
-    for (edition, (site, cond, sheet)) in all.flat_map(|input| NUMBERS.map(|edition| (edition, input.clone()))) {
+    let (sites, conds) = ([inputs::site_a(), vec![0; SITE]], [inputs::reach(GENERAL), Vec::new()]);
+    let sheets = [vec![4, 4, 1, 2], vec![9; 4], vec![0; 3]];
+    let pieces = sites.iter().flat_map(|site| conds.iter().flat_map(|cond| sheets.iter().map(|sheet| (site.clone(), cond.clone(), sheet.clone()))));
+    for ((site, cond, sheet), edition) in pieces.flat_map(|pieces| NUMBERS.map(|edition| (pieces.clone(), edition))) {
         let what = format!("edition {edition}");
         compared(&what, &Call::Apply(site.clone(), sheet.clone(), edition), two_builds);
         compared(&what, &Call::Rewrite(cond.clone(), sheet.clone(), edition), two_builds);
         compared(&what, &Call::Through(sheet.clone(), edition), two_builds);
-        compared(&what, &Call::job_of(site.clone(), cond, sheet, edition), two_builds);
+        compared(&what, &Call::job_of(site, cond, sheet, edition), two_builds);
     }
 }
 

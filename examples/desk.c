@@ -69,21 +69,21 @@ static int lists(const uint8_t *site, const uint8_t *cond, size_t cond_len, uint
 /* Whether the condition lists these slots on the site that the sheet leaves, and the rewritten condition lists them on A. */
 static int both_list(const uint8_t *cond, size_t cond_len, const uint8_t *sheet, size_t sheet_len, uint8_t slots)
 {
-    struct desk_applied a = desk_apply(site_a, sizeof site_a, sheet, sheet_len, result, sizeof result);
-    struct desk_rewritten w = desk_rewrite(cond, cond_len, sheet, sheet_len, table, sizeof table);
+    struct desk_applied a = desk_apply(site_a, sizeof site_a, sheet, sheet_len, DESK_EDITION_1, result, sizeof result);
+    struct desk_rewritten w = desk_rewrite(cond, cond_len, sheet, sheet_len, DESK_EDITION_1, table, sizeof table);
     return a.reason == DESK_OK && w.reason == DESK_OK && lists(result, cond, cond_len, slots) &&
            lists(site_a, table, DESK_NODE_BYTES * w.nodes, slots);
 }
 
 static uint32_t nodes(const uint8_t *sheet, size_t sheet_len)
 {
-    return desk_rewrite(condition_r, sizeof condition_r, sheet, sheet_len, table, sizeof table).nodes;
+    return desk_rewrite(condition_r, sizeof condition_r, sheet, sheet_len, DESK_EDITION_1, table, sizeof table).nodes;
 }
 
 /* Whether the sheet is refused because its first edit does not go through on A, and the result is all zeros. */
 static int does_not_go_through(const uint8_t *sheet, size_t sheet_len)
 {
-    struct desk_applied r = desk_apply(site_a, sizeof site_a, sheet, sheet_len, result, sizeof result);
+    struct desk_applied r = desk_apply(site_a, sizeof site_a, sheet, sheet_len, DESK_EDITION_1, result, sizeof result);
     int zeros = 1;
     for (size_t k = 0; k < sizeof result; k++)
         zeros &= result[k] == 0;
@@ -95,7 +95,7 @@ static int does_not_go_through(const uint8_t *sheet, size_t sheet_len)
 static int through(const uint8_t *sheet, size_t sheet_len, uint32_t count, int works)
 {
     uint8_t wanted[DESK_SET_BYTES];
-    struct desk_rewritten t = desk_through(sheet, sheet_len, table, sizeof table);
+    struct desk_rewritten t = desk_through(sheet, sheet_len, DESK_EDITION_1, table, sizeof table);
     struct desk_listed r = desk_list(site_a, sizeof site_a, table, DESK_NODE_BYTES * t.nodes, 0, set, sizeof set, work, sizeof work);
     memset(wanted, works ? 0xff : 0, sizeof wanted);
     return t.reason == DESK_OK && t.nodes == count && r.reason == DESK_OK && r.count == (works ? (uint32_t)DESK_SLOT_COUNT : 0) &&
@@ -251,14 +251,31 @@ static void check_names(void)
     uint8_t site[DESK_SITE_BYTES];
     memcpy(site, site_a, sizeof site);
     memset(site + DESK_NAME_AT(8), 2, DESK_NAME_COUNT - 8);
-    struct desk_applied r = desk_apply(site, sizeof site, cn1, sizeof cn1, result, sizeof result);
+    struct desk_applied r = desk_apply(site, sizeof site, cn1, sizeof cn1, DESK_EDITION_1, result, sizeof result);
     check("A with names 8 to 47 at 2, CN1 47 2: name 47 at 3, name 46 at 2",
           r.reason == DESK_OK && result[DESK_NAME_AT(LAST)] == 3 && result[DESK_NAME_AT(LAST - 1)] == 2);
     check("condition \"name 47\" lists {3}", lists(result, last, sizeof last, S3));
-    r = desk_apply(site, sizeof site, ds, sizeof ds, result, sizeof result);
+    r = desk_apply(site, sizeof site, ds, sizeof ds, DESK_EDITION_1, result, sizeof result);
     check("DS 47: names 8 and 47 at 0", r.reason == DESK_OK && result[DESK_NAME_AT(8)] == 0 && result[DESK_NAME_AT(LAST)] == 0);
-    r = desk_apply(site, BYTES_FOR_16, ds, sizeof ds, result, sizeof result);
+    r = desk_apply(site, BYTES_FOR_16, ds, sizeof ds, DESK_EDITION_1, result, sizeof result);
     check("34,352 bytes, a site for 16 names: refused, 3", r.reason == DESK_SITE_LENGTH && r.where == 0);
+}
+
+/* AT 4 1 2: slot 2 has another target. In edition 1 it does not go through; in edition 2 the old target is replaced. */
+static void check_editions(void)
+{
+    static const uint8_t at[] = {4, 4, 1, 2};
+    check("AT 4 1 2 in edition 1: refused, 13", does_not_go_through(at, sizeof at));
+    struct desk_applied a = desk_apply(site_a, sizeof site_a, at, sizeof at, DESK_EDITION_2, result, sizeof result);
+    check("in edition 2: slot 2 leads to 3, slot 3 to 2",
+          a.reason == DESK_OK && result[DESK_TARGET_AT(4, 2)] == 3 && result[DESK_TARGET_AT(4, 3)] == 2);
+    struct desk_rewritten w = desk_rewrite(condition_r, sizeof condition_r, at, sizeof at, DESK_EDITION_2, table, sizeof table);
+    check("R {1} after; rewritten, 14 nodes, {1}", lists(result, condition_r, sizeof condition_r, S1) && w.reason == DESK_OK &&
+          w.nodes == 14 && lists(site_a, table, DESK_NODE_BYTES * w.nodes, S1));
+    w = desk_through(at, sizeof at, DESK_EDITION_2, table, sizeof table);
+    check("its condition for going through: 13 nodes", w.reason == DESK_OK && w.nodes == 13);
+    a = desk_apply(site_a, sizeof site_a, at, sizeof at, DESK_EDITION_2 + 1, result, sizeof result);
+    check("in edition 3: refused, 18", a.reason == DESK_EDITION && a.where == 0 && result[0] == 0);
 }
 
 /* ---- the job */
@@ -279,9 +296,10 @@ static struct desk_done run(const uint8_t *cond, size_t cond_len, const uint8_t 
     memcpy(file, site_a, sizeof site_a);
     memcpy(cond_at, cond, cond_len);
     memcpy(sheet_at, sheet, sheet_len);
-    put_number(trailer, (uint32_t)(trailer - sheet_at));
-    put_number(trailer + 4, (uint32_t)(trailer - cond_at));
-    put_number(trailer + 8, (uint32_t)(trailer - file));
+    put_number(trailer + DESK_TO_SHEET_AT, (uint32_t)(trailer - sheet_at));
+    put_number(trailer + DESK_TO_CONDITION_AT, (uint32_t)(trailer - cond_at));
+    put_number(trailer + DESK_TO_SITE_AT, (uint32_t)(trailer - file));
+    put_number(trailer + DESK_EDITION_AT, DESK_EDITION_1);
     return desk_job(file, (size_t)(trailer - file) + DESK_TRAILER_BYTES, limit, result, sizeof result, table, sizeof table, set, sizeof set,
                     today, sizeof today, classes, sizeof classes, work, sizeof work);
 }
@@ -325,6 +343,7 @@ int main(void)
     check_chains();
     check_classes();
     check_names();
+    check_editions();
     check_job();
     check_job_rounds();
     return differences != 0;

@@ -94,10 +94,10 @@ static void build_site(uint8_t *site, int pulled)
     site[DESK_NAME_AT(PULLED)] = (uint8_t)pulled;
 }
 
-static void put_distance(uint8_t *at, size_t distance)
+static void put_number(uint8_t *at, size_t number)
 {
-    for (int k = 0; k < DESK_DISTANCE_BYTES; k++)
-        at[k] = (uint8_t)(distance >> k * CHAR_BIT);
+    for (int k = 0; k < DESK_NUMBER_BYTES; k++)
+        at[k] = (uint8_t)(number >> k * CHAR_BIT);
 }
 
 /* Builds the file of a job and returns its length. */
@@ -107,9 +107,10 @@ static size_t build_file(uint8_t *file, const uint8_t *site, const uint8_t *cond
     memcpy(file, site, DESK_SITE_BYTES);
     memcpy(cond_at, cond, cond_len);
     memcpy(sheet_at, sheet, sheet_len);
-    put_distance(trailer + DESK_TO_SHEET_AT, sheet_len);
-    put_distance(trailer + DESK_TO_CONDITION_AT, cond_len + sheet_len);
-    put_distance(trailer + DESK_TO_SITE_AT, DESK_SITE_BYTES + cond_len + sheet_len);
+    put_number(trailer + DESK_TO_SHEET_AT, sheet_len);
+    put_number(trailer + DESK_TO_CONDITION_AT, cond_len + sheet_len);
+    put_number(trailer + DESK_TO_SITE_AT, DESK_SITE_BYTES + cond_len + sheet_len);
+    put_number(trailer + DESK_EDITION_AT, DESK_EDITION_1);
     return DESK_SITE_BYTES + cond_len + sheet_len + DESK_TRAILER_BYTES;
 }
 
@@ -137,7 +138,7 @@ struct check {
 
 static int build_check(struct check *check)
 {
-    check->built = desk_through(pull, sizeof pull, check->table, sizeof check->table);
+    check->built = desk_through(pull, sizeof pull, DESK_EDITION_1, check->table, sizeof check->table);
     return refused(check->built.reason, check->built.where);
 }
 

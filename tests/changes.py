@@ -748,7 +748,7 @@ def random_marks(rng):
 
 # ---- cases of re-homing
 
-# AT 6 2 3 in edition 2: the four blocks, with label 3 before them as node 0, whose image is T; the first words of each are its text
+# the four blocks of AT 6 2 3 in edition 2, node by node, each below its text; node 0, which is T, is label 3
 BLOCKS = {
     # n1 ! T <f> & n1 n2 T & <E> & |
     (8, 6): (
@@ -772,7 +772,7 @@ BLOCKS = {
 
 
 def blocks_by_hand():
-    """Each block as it is written out, on a site where slot 2 has no target by link 6."""
+    """Each block as it is written out, on a site where the slot of name 2 has another target."""
     label, edits = (2, 3, 0, 0), sheet((4, 6, 2, 3))
     for (kind, way), block in BLOCKS.items():
         condition = pieces.table(label, (kind, way, 0, 0))
@@ -781,8 +781,8 @@ def blocks_by_hand():
 
 
 def second_uplink():
-    """The specification's second uplink, with its numbers: slot 1 is a gateway, slot 2 a relay that leads no further, slot 3 a probe with an uplink
-    to it, which gets one to the gateway. R says that an uplink chain leads to a gateway."""
+    """The second uplink of docs/SPEC.md, with the numbers that are written there: slot 1 is a gateway, slot 2 a relay that leads no further, slot 3 a
+    probe with an uplink to it, which gets one to the gateway. R says that an uplink chain leads to a gateway."""
     site, edits = with_bytes(A, (NAMES_AT + 1, 1), (target_at(4, 2), 0)), sheet((4, 4, 2, 1))
     after = with_bytes(site, (target_at(4, 3), 1))
     assert [apply(site, edits, edition) for edition in EDITIONS] == [(None, (13, 0)), (after, None)]

@@ -142,12 +142,12 @@ enum { LONG_FROM = 8, LONGEST = 17 };                           /* steps; so man
 enum { BY_E, BY_WAY, BY_NUMBER, BY_ABSENCE, STARTS };           /* why item 17 is met, if for one cause alone: the way is E, or over E; the start
                                                                  * is over 255, or absent */
 
-/* What AT of edition 2 finds on links 4 to 7: no target; the same one; another one, which it replaces by a third slot or by the slot itself; or one
- * that an edit before it has put in another's place. */
-enum { NO_TARGET, SAME_TARGET, OTHER_TARGET, TO_ITSELF, MOVED_AGAIN, HOMINGS };
+/* What AT of edition 2 finds on links 4 to 7: no target; the same one; another one, so that it re-homes the slot, to a third slot or to itself; and
+ * one to which an edit before it has re-homed the slot. */
+enum { NO_TARGET, SAME_TARGET, OTHER_TARGET, TO_ITSELF, AGAIN, TARGETS };
 
 /* How the two editions of a sheet compare: no AT on links 4 to 7; with it, the same site, only edition 2 goes through, or neither does. */
-enum { ALIKE, SAME_SITE, SECOND_ALONE, NEITHER, PAIRS };
+enum { ALIKE, SAME_SITE, SECOND_ALONE, NEITHER, COMPARISONS };
 enum { BOTH_WAYS = 2 * FUNCTIONAL };                            /* ways 4 to 7, and their reverses */
 
 static struct {
@@ -173,9 +173,9 @@ static struct {
     unsigned long set_ways[EVERYWHERE];                      /* sets with more than the start */
     unsigned long tried[2];                                  /* sets and chains that trying all chains gave too */
     unsigned long exact[2];                                  /* and with which the list of the loop agreed */
-    unsigned long homings[HOMINGS];                          /* of sheets that went through */
-    unsigned long pairs[PAIRS];                              /* sheets in both editions */
-    unsigned long moved[2][BOTH_WAYS];                       /* diamonds and boxes over a link that moves, in jobs of edition 2 */
+    unsigned long targets[TARGETS];                          /* of sheets that went through */
+    unsigned long over[2][BOTH_WAYS];                        /* diamonds and boxes over a link by which a slot is re-homed, in jobs that were done */
+    unsigned long editions[COMPARISONS];                     /* sheets in both editions */
 } met;
 
 /* Each node that the last one of the condition reaches. */
@@ -259,36 +259,36 @@ static void meet_mark(const struct model *model, const uint8_t *edit)
     }
 }
 
-/* The targets that the last sheet that went through has put in the place of others, by links 4 to 7. */
+/* What the last sheet that went through has re-homed: by which links, and which slots. */
 static struct {
     bool link[LINKS], slot[LINKS][SLOTS];
-} moved;
+} rehomed;
 
-static bool is_homing(const uint8_t *edit)
+static bool is_functional_at(const uint8_t *edit)
 {
     return edit[0] == AT && edit[1] >= GENERAL;
 }
 
-static void meet_homing(const struct model *model, const uint8_t *edit)
+static void meet_target(const struct model *model, const uint8_t *edit)
 {
-    if (edition != DESK_EDITION_2 || !is_homing(edit))
+    if (edition != DESK_EDITION_2 || !is_functional_at(edit))
         return;
     const int link = edit[1], from = model->name[edit[2]], to = model->name[edit[3]], old = model_target(model, link, from);
-    const bool moves = old != DESK_NIL && old != to;
-    met.homings[NO_TARGET] += old == DESK_NIL;
-    met.homings[SAME_TARGET] += old == to;
-    met.homings[OTHER_TARGET] += moves && to != from;
-    met.homings[TO_ITSELF] += moves && to == from;
-    met.homings[MOVED_AGAIN] += moves && moved.slot[link][from];
-    moved.slot[link][from] |= moves;
-    moved.link[link] |= moves;
+    const bool rehomes = old != DESK_NIL && old != to;
+    met.targets[NO_TARGET] += old == DESK_NIL;
+    met.targets[SAME_TARGET] += old == to;
+    met.targets[OTHER_TARGET] += rehomes && to != from;
+    met.targets[TO_ITSELF] += rehomes && to == from;
+    met.targets[AGAIN] += rehomes && rehomed.slot[link][from];
+    rehomed.slot[link][from] |= rehomes;
+    rehomed.link[link] |= rehomes;
 }
 
-static void meet_moved(const uint8_t *node)
+static void meet_over(const uint8_t *node)
 {
     const int link = node[1] % LINKS;
-    if ((node[0] == DIAMOND || node[0] == BOX) && node[1] != EVERYWHERE && moved.link[link])
-        met.moved[node[0] == BOX][link - GENERAL + (node[1] < LINKS ? 0 : FUNCTIONAL)]++;
+    if ((node[0] == DIAMOND || node[0] == BOX) && node[1] != EVERYWHERE && rehomed.link[link])
+        met.over[node[0] == BOX][link - GENERAL + (node[1] < LINKS ? 0 : FUNCTIONAL)]++;
 }
 
 /* From edit to edit, since names and links move. */
@@ -296,10 +296,10 @@ static void meet_effects(void)
 {
     static struct model model;
     model_read(&model, site.at);
-    memset(&moved, 0, sizeof moved);
+    memset(&rehomed, 0, sizeof rehomed);
     for (size_t k = 0; k < sheet.length; k += DESK_EDIT_BYTES) {
         meet_mark(&model, sheet.at + k);
-        meet_homing(&model, sheet.at + k);
+        meet_target(&model, sheet.at + k);
         model_edit(&model, sheet.at + k, edition);
     }
 }
@@ -697,11 +697,11 @@ static void ask(struct answers *a, uint32_t in_edition)
     edition = kept;
 }
 
-static bool has_homing(void)
+static bool has_functional_at(void)
 {
     bool found = false;
     for (size_t k = 0; k + 1 < sheet.length; k += DESK_EDIT_BYTES)
-        found |= is_homing(sheet.at + k);
+        found |= is_functional_at(sheet.at + k);
     return found;
 }
 
@@ -713,7 +713,7 @@ static void try_editions(void)
     ask(&one, DESK_EDITION_1);
     ask(&two, DESK_EDITION_2);
     const bool first = one.applied.reason == DESK_OK, second = two.applied.reason == DESK_OK, stuck = one.applied.reason == DESK_NOT_THROUGH;
-    if (!has_homing() && memcmp(&one, &two, sizeof one) != 0)
+    if (!has_functional_at() && memcmp(&one, &two, sizeof one) != 0)
         fail("a sheet without AT on links 4 to 7", "edition 2 from edition 1");
     if (!stuck && (one.applied.reason != two.applied.reason || memcmp(one.to.site, two.to.site, sizeof one.to.site) != 0))
         fail("desk_apply", "edition 2 from edition 1, which is not stuck,");
@@ -722,9 +722,9 @@ static void try_editions(void)
     if (one.done.reason == DESK_OK && two.done.reason == DESK_OK && memcmp(one.to.after, two.to.after, sizeof one.to.after) != 0)
         fail("desk_job", "the list of edition 2 from that of edition 1");
     if (two.done.reason == DESK_OK && edition == DESK_EDITION_2)
-        for_reached(meet_moved);
+        for_reached(meet_over);
     if (first || stuck)
-        met.pairs[!has_homing() ? ALIKE : first ? SAME_SITE : second ? SECOND_ALONE : NEITHER]++;
+        met.editions[!has_functional_at() ? ALIKE : first ? SAME_SITE : second ? SECOND_ALONE : NEITHER]++;
 }
 
 /* The rounds of the condition on the site; one more than the highest limit for more. */
@@ -1184,6 +1184,7 @@ static void try_through_on_a(void)
         append(&sheet, on_a[k].sheet, (size_t)(DESK_EDIT_BYTES * on_a[k].edits));
         expect_works(on_a[k].from != NEVER && on_a[k].from <= edition, "a sheet that works on site A, or does not");
         try_entry(THROUGH, entries[THROUGH].lengths);
+        try_entry(APPLY, entries[APPLY].lengths);
     }
 }
 
@@ -1237,8 +1238,8 @@ static void try_full_through(void)
     expect_through(DESK_TABLE_FULL, 0, "through to a node more than a table has");
 }
 
-/* Edition 2. DS 0 makes 1 + 6 nodes, 39 AS 6 * 39 + 39 * 38 more, DS 1 in front of them 3 * 39 + 6, and an AT behind CN2 12 + 10; with 15 AT more these
- * are 2,048. The last own condition fits exactly, and there is no room for another one. */
+/* Edition 2. DS 0 makes 1 + 6 nodes, 39 AS 6 * 39 + 39 * 38 more, DS 1 in front of them 3 * 39 + 6, and an AT behind CN2 12 + 10; with 15 AT more
+ * these are 2,048. The last own condition fits exactly, and there is no room for another one. */
 static void try_full_second(void)
 {
     for (int more = 0; more <= 1; more++) {
@@ -1292,8 +1293,8 @@ static void expect_file(uint32_t reason, uint32_t count, const char *what)
     expect(try_entry(JOB, entries[JOB].lengths) == reason, what);
 }
 
-/* Files of up to 17 zeros, with an edition as the last number: too short for a trailer; a trailer alone, with three empty pieces; and a byte that is in
- * no piece. */
+/* Files of up to 17 bytes, all zeros but an edition at the end: too short for a trailer; a trailer alone, with three empty pieces; and a byte that is
+ * in no piece. */
 static void try_short_files(void)
 {
     for (uint32_t number = 0; number <= 3; number++)
@@ -2975,7 +2976,7 @@ static void try_known_chains(void)
 
 /* Names 1 to 4 at slots 1 to 4, label 0 on 1 and 3. By each link 2, 3 and 4 lead to 1, but by this functional one the slot has another target, or
  * none. */
-static void build_homes(int link, int from, int old)
+static void build_targets(int link, int from, int old)
 {
     site.length = DESK_SITE_BYTES;
     memset(site.at, 0, site.length);
@@ -2993,14 +2994,16 @@ static void build_homes(int link, int from, int old)
     site.at[target_at(link, from)] = (uint8_t)old;
 }
 
-/* Label 0 below a diamond or a box. */
-static void build_over(int kind, int way)
+/* Label 0 below a diamond or a box, and nots over it up to so many nodes. */
+static void build_over(int kind, int way, int count)
 {
     build_label(0);
     add_node(kind, way, 0, 0);
+    for (int last = 1; last < count - 1; last++)
+        add_node(NOT, 0, last, 0);
 }
 
-/* Whether such a condition, of a functional link's way, holds at a slot of the site, by the bytes of the site. */
+/* Whether such a condition without nots, over a functional link, holds at a slot of the site, by the bytes of the site. */
 static bool holds(const uint8_t *at, int kind, int way, int slot)
 {
     const uint8_t *targets = at + target_at(way % LINKS, 0), *labelled = at + LABELS_AT;
@@ -3015,7 +3018,7 @@ static bool holds(const uint8_t *at, int kind, int way, int slot)
 
 /* AT of the link from one slot to another, with the condition at hand over it: the site that it leaves differs in one target alone, and both lists of
  * the job are what that site says. */
-static void try_homing(int link, int from, int to, int kind, int way)
+static void try_target(int link, int from, int to, int kind, int way)
 {
     static struct answers a;
     static uint8_t wanted[DESK_SITE_BYTES], set[DESK_SET_BYTES];
@@ -3040,14 +3043,14 @@ static void try_homing(int link, int from, int to, int kind, int way)
 }
 
 /* From each of three slots, without a target and with each, to each of four. */
-static void try_homings(void)
+static void try_targets(void)
 {
     for (int k = 0; k < 3 * 5 * 4 * 4 * FUNCTIONAL; k++) {
         const int from = 1 + k % 3, old = k / 3 % 5, to = 1 + k / 15 % 4, form = k / 60 % 4, link = GENERAL + k / 240;
         const int kind = form % 2 ? BOX : DIAMOND, way = form / 2 ? link + LINKS : link;
-        build_homes(link, from, old);
-        build_over(kind, way);
-        try_homing(link, from, to, kind, way);
+        build_targets(link, from, old);
+        build_over(kind, way, 2);
+        try_target(link, from, to, kind, way);
     }
 }
 
@@ -3055,16 +3058,16 @@ static void try_homings(void)
 static void try_second_targets(void)
 {
     for (int link = 0; link < GENERAL; link++) {
-        build_homes(GENERAL, 2, 1);
+        build_targets(GENERAL, 2, 1);
         build_sheet(AT, link, 2, 3);
         expect(applied()[row_at(link, 2)] == (1 << 1 | 1 << 3), "two targets by a general link");
         try_entry(APPLY, entries[APPLY].lengths);
     }
 }
 
-/* Label 0 below a diamond or a box, through AT m 1 2: the nodes behind the label, as the specification has them. */
 enum { WAY = 255 }; /* for a parameter: the way of the old node */
 
+/* Label 0 below a diamond or a box, through AT m 1 2: the nodes behind the label, as the specification has them. */
 static const struct block {
     bool replaces; /* AT of edition 2 on links 4 to 7 */
     int kind, back, count;
@@ -3094,34 +3097,34 @@ static const struct block {
       {BOX, 16, 8, 0}, {OR, 0, 5, 9}, {AND, 0, 3, 10}}},
 };
 
-/* The block through AT of this link, byte for byte; a node over it has the block's last node as its child. Then full tables of nots over it. */
-static void try_block(const struct block *b, int link)
+/* The block through AT of this link, byte for byte, with a not over it, whose child is the block's last node. */
+static void try_block(const struct block *b, int link, int way)
 {
     static uint8_t table[DESK_TABLE_BYTES], wanted[DESK_TABLE_BYTES];
-    const int way = b->back ? link + LINKS : link, grown = b->count - 1;
     build_label(0);
     for (int k = 0; k < b->count; k++)
         add_node(b->nodes[k][0], b->nodes[k][1] == WAY ? way : b->nodes[k][1], b->nodes[k][2], b->nodes[k][3]);
     add_node(NOT, 0, b->count, 0);
     memset(wanted, 0, sizeof wanted);
     memcpy(wanted, cond.at, cond.length);
-    build_over(b->kind, way);
-    add_node(NOT, 0, 1, 0);
+    build_over(b->kind, way, 3);
     build_sheet(AT, link, 1, 2);
     expect_rewrite(DESK_OK, (uint32_t)b->count + 2, "the nodes of a block through AT");
     desk_rewrite(cond.at, cond.length, sheet.at, sheet.length, edition, table, sizeof table);
     expect(memcmp(table, wanted, sizeof wanted) == 0, "a block through AT");
+}
+
+/* One, 8 and 64 of them in full tables, and in tables that would have a node more. Each has one diamond or box by the way again. */
+static void try_full_block(const struct block *b, int link, int way)
+{
     for (int times = 1; times <= DESK_EDITS_MAX; times *= 8) {
         sheet.length = 0;
         add_edits(times, AT, link, 1, 2);
-        build_over(b->kind, way);
-        for (int last = 1; last < DESK_NODES_MAX - grown * times; last++) {
-            if (last == DESK_NODES_MAX - grown * times - 1)
-                expect_rewrite(DESK_OK, DESK_NODES_MAX, "a full table through AT");
-            add_node(NOT, 0, last, 0);
+        for (int more = 0; more <= 1; more++) {
+            build_over(b->kind, way, DESK_NODES_MAX - (b->count - 1) * times + more);
+            expect_rewrite(more ? DESK_TABLE_FULL : DESK_OK, more ? 0 : DESK_NODES_MAX, "a full table through AT");
+            try_entry(REWRITE, entries[REWRITE].lengths);
         }
-        expect_rewrite(DESK_TABLE_FULL, 0, "a node more than a table has, through AT");
-        try_entry(REWRITE, entries[REWRITE].lengths);
     }
 }
 
@@ -3129,16 +3132,17 @@ static void try_blocks(void)
 {
     for (size_t k = 0; k < sizeof blocks / sizeof *blocks; k++)
         for (int link = 0; link < LINKS; link++)
-            if (blocks[k].replaces == (edition == DESK_EDITION_2 && link >= GENERAL))
-                try_block(&blocks[k], link);
+            if (blocks[k].replaces == (edition == DESK_EDITION_2 && link >= GENERAL)) {
+                const int way = blocks[k].back ? link + LINKS : link;
+                try_block(&blocks[k], link, way);
+                try_full_block(&blocks[k], link, way);
+            }
 }
 
-/* One node of this kind over a label, or alone; a variable is bound. */
+/* One node of this kind, over a label if it has children; a variable is bound. */
 static void build_kind(int kind, int param)
 {
     build_label(1);
-    if (kind == VARIABLE)
-        param = 0;
     add_node(kind, param, 0, 0);
     if (kind == VARIABLE)
         add_node(MU, 0, 1, 0);
@@ -3162,7 +3166,7 @@ static void try_kinds(void)
 /* Each operation, by each link that it takes, from a slot that has a target by all functional links. */
 static void try_every_edit(void)
 {
-    build_homes(GENERAL, 2, 1);
+    build_targets(GENERAL, 2, 1);
     for (int op = 0; op < OPERATIONS; op++)
         for (int link = 0; link < LINKS; link++) {
             const char *kinds = operands[op];
@@ -3178,10 +3182,10 @@ static void try_every_edit(void)
 }
 
 /* A slot that takes one target after another, 64 times. In edition 1 the second edit is stuck. */
-static void try_many_homings(void)
+static void try_many_targets(void)
 {
     static struct answers a;
-    build_homes(4, 4, DESK_NIL);
+    build_targets(4, 4, DESK_NIL);
     build_r();
     sheet.length = 0;
     for (int k = 0; k < DESK_EDITS_MAX; k++)
@@ -3198,49 +3202,52 @@ static void try_many_homings(void)
     try_all();
 }
 
-/* A gateway, 1, with label 0. Relay 2 leads to it by link 4, relay 3 nowhere. Probe 4 leads to one of them, and probe 5 to probe 4. Names 2 to 4 are
- * at their slots. */
-static void build_probes(int uplink)
+/* What the library says of the second uplink below. */
+static void expect_second_uplink(const struct answers *a)
 {
-    site.length = DESK_SITE_BYTES;
-    memset(site.at, 0, site.length);
-    site.at[0] = 0x3f;
-    put_slot(site.at + LABELS_AT, 1);
-    for (int n = 2; n <= 4; n++)
-        site.at[NAMES_AT + n] = (uint8_t)n;
-    site.at[target_at(4, 2)] = 1;
-    site.at[target_at(4, 4)] = (uint8_t)uplink;
-    site.at[target_at(4, 5)] = 4;
+    static const uint8_t both[DESK_SET_BYTES] = {0x0a};
+    const struct desk_done done = {.after = 2, .today = 2, .nodes = 14, .classes = 5, .after_rounds = 3, .today_rounds = 3};
+    const struct desk_done refused = {.reason = DESK_NOT_THROUGH};
+    if (edition == DESK_EDITION_1) {
+        expect(a->applied.reason == DESK_NOT_THROUGH && a->applied.where == 0, "a second uplink in edition 1");
+        expect(memcmp(&a->done, &refused, sizeof refused) == 0, "a job with a second uplink in edition 1");
+        return;
+    }
+    expect(a->applied.reason == DESK_OK && site.at[595] == 2 && a->to.site[595] == 1, "a second uplink in edition 2");
+    expect(memcmp(&a->done, &done, sizeof done) == 0, "a job with a second uplink in edition 2");
+    expect(memcmp(a->to.after, both, sizeof both) == 0 && memcmp(a->to.today, both, sizeof both) == 0, "the gateway and the probe, after and today");
 }
 
-/* Probe 4 takes a second uplink while the first is live. An uplink chain leads to the gateway from {1, 2}, and with the probes from {1, 2, 4, 5}. */
-static void try_probe(int uplink, int second)
+/* The specification's probe, slot 3, with a live uplink to a relay, slot 2, that leads no further. It takes a second uplink, to the gateway, slot 1.
+ * R says that an uplink chain leads to a gateway. */
+static void try_second_uplink(void)
 {
     static struct answers a;
-    static const uint8_t chains[2] = {0x06, 0x36}, slots[] = {5, 4, 2, 1};
-    const uint8_t before = chains[uplink == 2], after = chains[second == 2];
-    uint8_t set[DESK_SET_BYTES] = {0x38};
-    build_probes(uplink);
+    static const uint8_t stays[DESK_SET_BYTES] = {0x0c}, leads_on[] = {3, 1};
+    static const int gateway[] = {1}, with_probe[] = {1, 3};
+    const bool second = edition == DESK_EDITION_2;
+    build_a();
+    site.at[NAMES_AT + 1] = 1;
+    site.at[target_at(4, 2)] = DESK_NIL;
     build_r();
-    build_sheet(AT, 4, 4, second);
-    expect_works(edition == DESK_EDITION_2, "a second uplink works in edition 2 alone");
+    build_sheet(AT, 4, 2, 1);
+    expect_set(true, 1, gateway, "an uplink chain leads to the gateway before");
+    expect_rewrite(DESK_OK, second ? 14 : 11, "R through a second uplink");
+    expect_through(DESK_OK, second ? 13 : 26, "through a second uplink");
+    expect_works(second, "a second uplink works in edition 2 alone");
     ask(&a, edition);
-    if (edition == DESK_EDITION_1) {
-        expect(a.applied.reason == DESK_NOT_THROUGH && a.done.reason == DESK_NOT_THROUGH && a.done.where == 0, "a second uplink in edition 1");
-    } else {
-        expect(a.done.reason == DESK_OK && a.done.nodes == 14 && a.to.after[0] == after && a.to.today[0] == after, "the gateway behind a second uplink");
-        expect(memcmp(a.to.site, a.to.job_site, DESK_SITE_BYTES) == 0 && a.to.site[target_at(4, 4)] == second, "a second uplink");
-        memcpy(site.at, a.to.site, DESK_SITE_BYTES);
-    }
-    const bool connected = (edition == DESK_EDITION_2 ? after : before) == chains[1];
-    expect_list(DESK_OK, connected ? 4 : 2, "the places with an uplink chain to the gateway");
+    expect_second_uplink(&a);
+    try_all();
+    chain_start = 3;
     build_label(0);
-    chain_way = 4;
-    chain_start = 5;
-    if (connected)
-        expect_steps(3, slots, "the uplink chain of the probe behind");
-    else
-        expect_enclosed(set, "the uplinks of the probe behind");
+    expect_enclosed(stays, "no uplink chain before");
+    if (second) {
+        memcpy(site.at, a.to.site, DESK_SITE_BYTES);
+        expect_steps(1, leads_on, "the uplink chain after");
+        build_r();
+        expect_set(true, 2, with_probe, "an uplink chain leads to the gateway after");
+    }
+    chain_start = 1;
 }
 
 /* No edition but 1 and 2, whatever else is wrong behind item 2: the four that take a sheet refuse it, and give nothing. */
@@ -3284,24 +3291,23 @@ static void try_edition_order(void)
     limit = larger = DESK_LIMIT_MAX;
 }
 
-/* What edition 2 changes, or might have, in both. */
+/* What differs between the editions, or might, in both; and then what edition 2 alone has, or edition 1 has had before. */
 static void try_known_editions(void)
 {
     for (edition = DESK_EDITION_1; edition <= DESK_EDITION_2; edition++) {
         try_through_tables();
         try_through_on_a();
         try_through_runs();
-        try_homings();
+        try_targets();
         try_second_targets();
         try_blocks();
         try_every_edit();
-        try_many_homings();
-        try_probe(3, 2);
-        try_probe(2, 3);
-        try_link_ends();
-        try_rewritten_paths();
+        try_many_targets();
+        try_second_uplink();
     }
     edition = DESK_EDITION_2;
+    try_link_ends();
+    try_rewritten_paths();
     try_full_second();
     try_edition_order();
     edition = DESK_EDITION_1;
@@ -3390,10 +3396,10 @@ static const struct row {
     {"edit, through", met.through, OPERATIONS, ALL(OPERATIONS)},
     {"edit, not through", met.stuck, OPERATIONS, 1u << AT | 1u << AS | 1u << DS},
     {"AP, effect", met.effects, EFFECTS, ALL(EFFECTS)},
-    {"AT 2, target", met.homings, HOMINGS, ALL(HOMINGS)},
-    {"AT 2, diamond", met.moved[0], BOTH_WAYS, ALL(BOTH_WAYS)},
-    {"AT 2, box", met.moved[1], BOTH_WAYS, ALL(BOTH_WAYS)},
-    {"editions", met.pairs, PAIRS, ALL(PAIRS)},
+    {"re-home, target", met.targets, TARGETS, ALL(TARGETS)},
+    {"re-home, diamond", met.over[0], BOTH_WAYS, ALL(BOTH_WAYS)},
+    {"re-home, box", met.over[1], BOTH_WAYS, ALL(BOTH_WAYS)},
+    {"both editions", met.editions, COMPARISONS, ALL(COMPARISONS)},
     {"label refused", met.strays, STRAYS, ALL(STRAYS)},
     {"list, rounds", met.standings, STANDINGS, ALL(STANDINGS)},
     {"job, rounds", met.shareds, SHAREDS, ALL(SHAREDS)},

@@ -155,6 +155,27 @@ def by_hand():
     yield A, pieces.table((12, 200, 0, 0), *((5, 0, i, 0) for i in range(NODES - 1))), sheet(*[(0, 1, 2)] * EDITS)
 
 
+def first_met(item, file):
+    """The file, of which this is said to be the first item."""
+    assert judged(bytes(file))[0] == (item, 0), (item, file[-TRAILER_BYTES:].hex())
+    return file
+
+
+def other_trailers():
+    """Trailers without the edition, and parts of one; with a site of 4 bytes the distances then pass. The last distance as it would be there, and four
+    numbers in other orders."""
+    end = len(J) - TRAILER_BYTES
+    for n in range(TRAILER_BYTES - NUMBER_BYTES, TRAILER_BYTES):
+        yield J[:end + n]
+        yield J[:end] + J[-n:]
+        yield bytes(n)
+    yield job(A, R, b"")[:-NUMBER_BYTES]
+    yield first_met(18, job(A[:4], R, sheet((4,)))[:-NUMBER_BYTES])
+    yield with_trailer(J, 4, 34, end + NUMBER_BYTES)
+    for numbers in (1, 4, 34, end), (4, 34, 1, end), (4, 34, end, end), (34, 34, 34, 2), (0, 0, 1, 1):
+        yield with_trailer(J, *numbers)
+
+
 def files():
     """Item 2: each of its reasons, and what just passes."""
     end = len(J) - TRAILER_BYTES
@@ -180,17 +201,7 @@ def files():
         yield with_trailer(J, 4 + high, 34 + high, end)
     yield J[1:]
     yield J + b"\0"
-    # a trailer without its edition, and parts of one, with a site of 4 bytes too, whose distances then pass; the last distance as it would be
-    # then; and four numbers in other orders
-    for n in range(12, TRAILER_BYTES):
-        yield J[:end + n]
-        yield J[:end] + J[-n:]
-        yield bytes(n)
-    yield job(A, R, b"")[:-NUMBER_BYTES]
-    yield job(A[:4], R, sheet((4,)))[:-NUMBER_BYTES]
-    yield with_trailer(J, 4, 34, end + NUMBER_BYTES)
-    for numbers in (1, 4, 34, end), (4, 34, 1, end), (4, 34, end, end), (34, 34, 34, 2), (0, 0, 1, 1):
-        yield with_trailer(J, *numbers)
+    yield from other_trailers()
     # equal distances: empty pieces
     yield job(A, R, b"")
     yield job(A, b"", DT2)
@@ -407,12 +418,6 @@ def by_copies():
         yield with_bytes(site, (NAMES_AT + 1, 40 + LEAVES), (NAMES_AT + 2, leaves[1])), one, sheet((5, 1, 1, 2), (0, 1, 0), (0, 2, 0))
 
 
-def first_met(item, file):
-    """The file, of which this is said to be the first item."""
-    assert judged(bytes(file))[0] == (item, 0), (item, file[-TRAILER_BYTES:].hex())
-    return file
-
-
 def editions():
     """Item 18: each of its numbers in files that are accepted in edition 1, in edition 2 or in both; beside what item 2 refuses just so, and
     beside each fault of the pieces."""
@@ -434,9 +439,17 @@ def editions():
             yield first_met(18, job(*case, UNKNOWN[k % 5]))
 
 
+def second_uplink():
+    """The second uplink of docs/SPEC.md as a job, with the lines that are written there."""
+    lines = ["after 2 0a" + 31 * "00", "today 2 0a" + 31 * "00", "nodes 14", "classes 5"]
+    for three in changes.second_uplink():
+        assert [answer(job(*three, edition))[:4] for edition in EDITIONS] == [["refused 13 0"], lines]
+        yield three
+
+
 def rehomings():
     """What changes.py has, as jobs, with the tables that come to their limit; both loops for each single edit."""
-    yield from changes.second_uplink()
+    yield from second_uplink()
     yield from changes.between_relays()
     for k, (x, y) in enumerate(changes.single_rehomings()):
         f = GENERAL + (k + 1) % FUNCTIONAL

@@ -290,7 +290,7 @@ static void random_condition(void)
         random_nest();
     else
         random_table();
-    if (one_in(3)) /* a link that an edit may move */
+    if (one_in(3)) /* a link by which an edit may re-home a slot */
         add_node(one_in(2) ? DIAMOND : BOX, some_link(GENERAL) + (one_in(2) ? LINKS : 0), node_count() - 1, 0);
     for (int v = 0; v < VARIABLES && !one_in(60); v++) {
         int last = node_count() - 1;
@@ -338,9 +338,9 @@ static int some_seen_link(void)
     return some_link(GENERAL);
 }
 
-/* AT from a slot that has a target by a functional link, if the site has such a link: to another place for the most part, also to the same one and
- * to itself. */
-static void random_homing(uint8_t *edit)
+/* AT from a slot that has a target by a functional link, if the site has such a link: it re-homes the slot for the most part, also to itself; or the
+ * target is the same. */
+static void random_rehoming(uint8_t *edit)
 {
     const int link = one_in(4) ? some_link(GENERAL) : some_seen_link();
     const struct arcs *arcs = &model.link[link];
@@ -354,20 +354,20 @@ static void random_homing(uint8_t *edit)
     edit[3] = (uint8_t)to;
 }
 
-/* Edits that go through, for the most part. Some sheets have more of those that may not, some have more that do not, and some have many links that
- * move. Some of edition 1 were meant for edition 2. */
+/* Edits that go through, for the most part. Some sheets have more of those that may not, some have more that do not, and some re-home many slots.
+ * Some of edition 1 were meant for edition 2. */
 static void random_sheet(void)
 {
     static const int asking[] = {AT, AT, AT, AS, DS, CN1};
-    const bool asks = one_in(4), homes = one_in(2);
+    const bool asks = one_in(4), rehomes = one_in(2);
     const uint32_t meant = one_in(4) ? DESK_EDITION_2 : edition;
     const int stray = one_in(8) ? 5 : 100;
     int wanted = one_in(30) ? between(7, DESK_EDITS_MAX) : one_in(3) ? between(0, 6) : between(0, 3);
     uint8_t edit[DESK_EDIT_BYTES];
     sheet.length = 0;
     for (int tries = 0; tries < 20 * wanted && (int)sheet.length / DESK_EDIT_BYTES < wanted; tries++) {
-        if (homes && !one_in(3))
-            random_homing(edit);
+        if (rehomes && !one_in(3))
+            random_rehoming(edit);
         else
             random_edit(edit, asks && !one_in(4) ? asking[below(sizeof asking / sizeof *asking)] : below(OPERATIONS));
         if (model_edit(&model, edit, meant) || one_in(stray))

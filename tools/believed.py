@@ -22,6 +22,7 @@ ROOTS = [
     "crates/demands/specs/Job.antt",
     "crates/demands/specs/Rounds.antt",
     "crates/demands/specs/Chain.antt",
+    "crates/demands/specs/Editions.antt",
     "crates/job_text/specs/Text.antt",
 ]
 

@@ -8,3 +8,5 @@ pub mod Job
 pub mod Same
 pub mod Rounds
 pub mod Chain
+pub mod Both
+pub mod Editions

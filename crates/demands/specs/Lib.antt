@@ -10,5 +10,7 @@ pub mod Job
 pub mod Rounds
 -- the demand on the chain
 pub mod Chain
+-- the demands on the edition
+pub mod Editions
 -- what is proved of them
 pub mod Laws

@@ -72,8 +72,15 @@ fn show_applied(v: Verdict, site: &[u8], result: &[u8]) -> bool {
 
 // Applies and prints; true where the sheet is applied.
 fn apply(site: &[u8], sheet: &[u8], edition: u32, result: &mut [u8]) -> bool {
-    let applied = show_applied(apply_entry::apply(site, sheet, edition, result), site, result);
-    pieces::say(!short_site_is_refused(site, sheet, edition), b" short buffer taken");
+    let applied = show_applied(
+        apply_entry::apply(site, sheet, edition, result),
+        site,
+        result,
+    );
+    pieces::say(
+        !short_site_is_refused(site, sheet, edition),
+        b" short buffer taken",
+    );
     io::write_all(STDOUT_FILENO, b"\n");
     applied
 }
@@ -111,7 +118,10 @@ fn show_rewritten(r: Rewriting, result: &[u8]) {
 fn rewrite(cond: &[u8], sheet: &[u8], edition: u32, result: &mut [u8]) -> usize {
     let r = rewrite_entry::rewrite(cond, sheet, edition, result);
     show_rewritten(r, result);
-    pieces::say(!short_table_is_refused(cond, sheet, edition), b" short buffer taken");
+    pieces::say(
+        !short_table_is_refused(cond, sheet, edition),
+        b" short buffer taken",
+    );
     io::write_all(STDOUT_FILENO, b"\n");
     NODE_BYTES * rewriting::nodes(r) as usize
 }
@@ -164,7 +174,10 @@ fn through(sheet: &[u8], edition: u32, result: &mut [u8]) -> usize {
     io::write_all(STDOUT_FILENO, b"through ");
     let r = rewrite_entry::through(sheet, edition, result);
     show_rewritten(r, result);
-    pieces::say(!short_through_is_refused(sheet, edition), b" short buffer taken");
+    pieces::say(
+        !short_through_is_refused(sheet, edition),
+        b" short buffer taken",
+    );
     io::write_all(STDOUT_FILENO, b"\n");
     NODE_BYTES * rewriting::nodes(r) as usize
 }

@@ -13,9 +13,10 @@ use Rattle.verdict.specs.Verdict.{reasonOf, _then_}
 use Rattle.verdict.specs.declared.Verdict.{Verdict}
 use Rattle.verdict.specs.declared.Verdict.the-variants.{Accepted, Refused}
 use Rattle.semantics.specs.Form.{closed}
-use Rattle.semantics.specs.Edit.{sheetGoes}
-use Rattle.semantics.specs.Table.{formOf}
-use Rattle.semantics.specs.Block.{rewriteTable}
+use Rattle.semantics.specs.Holds.{Model}
+use Rattle.semantics.specs.Edit.{Edit, sheetGoes}
+use Rattle.semantics.specs.Table.{Node, formOf}
+use Rattle.semantics.specs.Block.{Pass, rewriteTable}
 use Rattle.editions.specs.Edition.{known, editionVerdict}
 use Rattle.site.specs.Layout.{siteBytes}
 use Rattle.site.specs.Site.{siteOf}
@@ -53,9 +54,9 @@ pub not-early : {k : ℕ} (v w : Verdict) → Never k v → reasonOf (v then w) 
 not-early Accepted w h e = refl
 not-early (Refused n p) w h e = absurd (h .never e)
 
-pub rounds-item : (limit n : ℕ) → Never 16 (roundsVerdict limit n)
+pub rounds-item : {k : ℕ} (limit n : ℕ) → 15 < k → Never k (roundsVerdict limit n)
 unfolding roundsVerdict
-rounds-item limit n = other (below limit n) 15 0 Accepted (λ e. absurd (omega (arith, e))) (accepts (omega arith))
+rounds-item limit n h = other (below limit n) 15 0 Accepted (λ e. absurd (omega (arith, e, h))) (accepts (omega (arith, h)))
 
 -- ---- the items of a job
 
@@ -71,13 +72,13 @@ module _ {k : ℕ} (late : 14 < k) where
   item : (b : Bool) (n w : ℕ) (v : Verdict) → n ≤ 14 → Never k v → Never k (cond b (Refused n w) v)
   item b n w v h i = other b n w v (λ e. absurd (omega (arith, e, h, late))) i
 
-  site-items : (S : List ℕ) → Never k (siteVerdict S)
+  pub site-items : (S : List ℕ) → Never k (siteVerdict S)
   unfolding siteVerdict
   site-items S =
       item (not (same (length S) siteBytes)) 3 0 _ (omega arith)
       (item (item4 (siteOf S)) 4 0 _ (omega arith) (item (item5 (siteOf S)) 5 0 _ (omega arith) (item (item6 (siteOf S)) 6 0 _ (omega arith) none)))
 
-  condition-items : (S : List ℕ) → Never k (conditionVerdict S)
+  pub condition-items : (S : List ℕ) → Never k (conditionVerdict S)
   unfolding conditionVerdict
   condition-items S =
       let n = length (tableOf S) in
@@ -85,7 +86,7 @@ module _ {k : ℕ} (late : 14 < k) where
       (item (below (firstUnfit S) n) 8 (firstUnfit S) _ (omega arith)
       (item (below (firstUneven S) n) 9 (firstUneven S) _ (omega arith) (item (not (closed (formOf (tableOf S)))) 10 (n - 1) _ (omega arith) none)))
 
-  sheet-items : (s : List ℕ) → Never k (sheetVerdict s)
+  pub sheet-items : (s : List ℕ) → Never k (sheetVerdict s)
   unfolding sheetVerdict
   sheet-items s =
       let n = length s / 4 in
@@ -95,21 +96,23 @@ module _ {k : ℕ} (late : 14 < k) where
       (λ e. rw e (item (below w n) 12 w Accepted (omega arith) none))
       (λ e. rw e (item true 11 0 Accepted (omega arith) none))
 
-  goes-items : (edition : ℕ) (site sheet : List ℕ) → Never k (goesVerdict (editsOf edition sheet) (siteOf site))
+  pub goes-items : (es : List Edit) (M : Model) → Never k (goesVerdict es M)
   unfolding goesVerdict
-  goes-items edition site sheet =
-      let es = editsOf edition sheet in
-      item (not (sheetGoes es (siteOf site))) 13 (stuckAt es (siteOf site)) Accepted (omega arith) none
+  goes-items es M = item (not (sheetGoes es M)) 13 (stuckAt es M) Accepted (omega arith) none
 
-  pieces-items : (edition : ℕ) (site table sheet : List ℕ) → Never k (piecesVerdict edition site table sheet)
-  unfolding piecesVerdict lengthVerdict
+  pub length-items : (pass : Pass) (es : List Edit) (xs : List Node) → Never k (lengthVerdict pass es xs)
+  unfolding lengthVerdict
+  length-items pass es xs = item (tooLong pass es xs) 14 0 Accepted (omega arith) none
+
+  pub pieces-items : (edition : ℕ) (site table sheet : List ℕ) → Never k (piecesVerdict edition site table sheet)
+  unfolding piecesVerdict
   pieces-items edition site table sheet =
       let es = editsOf edition sheet in
       never-then (siteVerdict site) _ (site-items site)
       (never-then (conditionVerdict table) _ (condition-items table)
       (never-then (sheetVerdict sheet) _ (sheet-items sheet)
-      (never-then (goesVerdict es (siteOf site)) (lengthVerdict rewriteTable es (tableOf table)) (goes-items edition site sheet)
-      (item (tooLong rewriteTable es (tableOf table)) 14 0 Accepted (omega arith) none))))
+      (never-then (goesVerdict es (siteOf site)) (lengthVerdict rewriteTable es (tableOf table)) (goes-items es (siteOf site))
+      (length-items rewriteTable es (tableOf table)))))
 
   -- ---- listing, and the job: all their items but 1, 15 and 16
 

@@ -214,7 +214,7 @@ unfolding DemandHighestList
 highest-list limit site table set set′ work work′ reason fault f p q r =
     let n = r .made in
     let d = list-limit-first (length set) (length work) limit site table n p q in
-    let u = never-then (pairVerdict site table) (roundsVerdict limit n) (list-early (omega arith) site table) (rounds-item limit n) in
+    let u = never-then {k = 16} (pairVerdict site table) (roundsVerdict limit n) (list-early (omega arith) site table) (rounds-item limit n (omega arith)) in
     highest limit u (r .returned .reason-is ∙ ap reasonOf d) (r .returned .fault-is ∙ ap faultOf d)
 
 job-limit-first : (b : Buffers) (limit : ℕ) (file : List ℕ) (a t : ℕ) → Sized b
@@ -228,7 +228,7 @@ highest-job limit file b b′ reason fault after today nodes classes s r =
     let a = r .after-made in
     let t = r .today-made in
     let d = job-limit-first b limit file a t s in
-    let both = never-then (roundsVerdict limit a) (roundsVerdict limit t) (rounds-item limit a) (rounds-item limit t) in
+    let both = never-then {k = 16} (roundsVerdict limit a) (roundsVerdict limit t) (rounds-item limit a (omega arith)) (rounds-item limit t (omega arith)) in
     let u = never-then (jobItems file) (listsVerdict limit a t) (job-early (omega arith) (omega arith) file) both in
     highest limit u (r .returned .reason-is ∙ ap reasonOf d) (r .returned .fault-is ∙ ap faultOf d)
 
