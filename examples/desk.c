@@ -1,5 +1,6 @@
 /* The desk called from C, on the examples of docs/SPEC.md, "A worked job" and "More examples": site A, the condition R and the job J, built
- * byte by byte. Each answer is compared with the one that the specification gives. The program returns 1 if an answer differs. */
+ * byte by byte. Each answer is compared with the one that the specification gives; what is the same in both editions is asked in both. The
+ * program returns 1 if an answer differs. */
 #include "desk.h"
 
 #include <stdio.h>
@@ -52,38 +53,41 @@ static const uint8_t even[] = {4, 0, 0, 0, 0, 0, 5, 0, 0, 0, 0, 0, 5, 0, 1, 0, 0
 /* ---- asking */
 
 static uint8_t site_a[DESK_SITE_BYTES];
+static uint32_t edition = DESK_EDITION_1; /* of the sheets that are asked about */
 static uint8_t result[DESK_SITE_BYTES], table[DESK_TABLE_BYTES], set[DESK_SET_BYTES], classes[DESK_CLASSES_BYTES], work[DESK_WORK_BYTES];
 static uint8_t chain[DESK_CHAIN_BYTES];
 
-/* Whether the condition lists exactly the slots s whose bit, of weight 2 to the power s, is in `slots`. */
-static int lists(const uint8_t *site, const uint8_t *cond, size_t cond_len, uint8_t slots)
+/* Whether the condition lists exactly the slots s whose bit, of weight 2 to the power s, is in `slots`; ~slots stands for all others. */
+static int lists(const uint8_t *site, const uint8_t *cond, size_t cond_len, int slots)
 {
-    const uint8_t wanted[DESK_SET_BYTES] = {slots};
+    uint8_t wanted[DESK_SET_BYTES];
     struct desk_listed r = desk_list(site, DESK_SITE_BYTES, cond, cond_len, DESK_LIMIT_MAX, set, sizeof set, work, sizeof work);
     uint32_t count = 0;
-    for (int slot = 0; slot < 8; slot++)
-        count += slots >> slot & 1;
+    memset(wanted, slots < 0 ? 0xff : 0, sizeof wanted);
+    wanted[0] = (uint8_t)slots;
+    for (int slot = 0; slot < DESK_SLOT_COUNT; slot++)
+        count += wanted[slot / 8] >> slot % 8 & 1;
     return r.reason == DESK_OK && r.where == 0 && r.count == count && memcmp(set, wanted, sizeof set) == 0;
 }
 
 /* Whether the condition lists these slots on the site that the sheet leaves, and the rewritten condition lists them on A. */
-static int both_list(const uint8_t *cond, size_t cond_len, const uint8_t *sheet, size_t sheet_len, uint8_t slots)
+static int both_list(const uint8_t *cond, size_t cond_len, const uint8_t *sheet, size_t sheet_len, int slots)
 {
-    struct desk_applied a = desk_apply(site_a, sizeof site_a, sheet, sheet_len, DESK_EDITION_1, result, sizeof result);
-    struct desk_rewritten w = desk_rewrite(cond, cond_len, sheet, sheet_len, DESK_EDITION_1, table, sizeof table);
+    struct desk_applied a = desk_apply(site_a, sizeof site_a, sheet, sheet_len, edition, result, sizeof result);
+    struct desk_rewritten w = desk_rewrite(cond, cond_len, sheet, sheet_len, edition, table, sizeof table);
     return a.reason == DESK_OK && w.reason == DESK_OK && lists(result, cond, cond_len, slots) &&
            lists(site_a, table, DESK_NODE_BYTES * w.nodes, slots);
 }
 
-static uint32_t nodes(const uint8_t *sheet, size_t sheet_len)
+static uint32_t nodes(const uint8_t *cond, size_t cond_len, const uint8_t *sheet, size_t sheet_len)
 {
-    return desk_rewrite(condition_r, sizeof condition_r, sheet, sheet_len, DESK_EDITION_1, table, sizeof table).nodes;
+    return desk_rewrite(cond, cond_len, sheet, sheet_len, edition, table, sizeof table).nodes;
 }
 
 /* Whether the sheet is refused because its first edit does not go through on A, and the result is all zeros. */
 static int does_not_go_through(const uint8_t *sheet, size_t sheet_len)
 {
-    struct desk_applied r = desk_apply(site_a, sizeof site_a, sheet, sheet_len, DESK_EDITION_1, result, sizeof result);
+    struct desk_applied r = desk_apply(site_a, sizeof site_a, sheet, sheet_len, edition, result, sizeof result);
     int zeros = 1;
     for (size_t k = 0; k < sizeof result; k++)
         zeros &= result[k] == 0;
@@ -95,7 +99,7 @@ static int does_not_go_through(const uint8_t *sheet, size_t sheet_len)
 static int through(const uint8_t *sheet, size_t sheet_len, uint32_t count, int works)
 {
     uint8_t wanted[DESK_SET_BYTES];
-    struct desk_rewritten t = desk_through(sheet, sheet_len, DESK_EDITION_1, table, sizeof table);
+    struct desk_rewritten t = desk_through(sheet, sheet_len, edition, table, sizeof table);
     struct desk_listed r = desk_list(site_a, sizeof site_a, table, DESK_NODE_BYTES * t.nodes, 0, set, sizeof set, work, sizeof work);
     memset(wanted, works ? 0xff : 0, sizeof wanted);
     return t.reason == DESK_OK && t.nodes == count && r.reason == DESK_OK && r.count == (works ? (uint32_t)DESK_SLOT_COUNT : 0) &&
@@ -176,19 +180,17 @@ static void check_sheets(void)
 {
     static const uint8_t dt2[] = {6, 4, 1, 0}, ds[] = {8, 1, 0, 0};
     static const uint8_t cn1_dt2[] = {0, 1, 2, 0, 6, 4, 1, 0}, dt2_cn1[] = {6, 4, 1, 0, 0, 1, 2, 0};
-    static const uint8_t as_4[] = {7, 3, 4, 0}, as_3[] = {7, 3, 3, 0}, at_12[] = {4, 4, 1, 2}, at_11[] = {4, 4, 1, 1};
+    static const uint8_t as_4[] = {7, 3, 4, 0}, as_3[] = {7, 3, 3, 0};
     static const uint8_t cn2_1[] = {1, 1, 1, 4}, cn2_3[] = {1, 1, 3, 4};
     check("DT2 4 1: R {1}", both_list(condition_r, sizeof condition_r, dt2, sizeof dt2, S1));
-    check("DT2 4 1: R has 8 nodes", nodes(dt2, sizeof dt2) == 8);
+    check("DT2 4 1: R has 8 nodes", nodes(condition_r, sizeof condition_r, dt2, sizeof dt2) == 8);
     check("DS 1: R {1}", both_list(condition_r, sizeof condition_r, ds, sizeof ds, S1));
-    check("DS 1: R has 14 nodes", nodes(ds, sizeof ds) == 14);
+    check("DS 1: R has 14 nodes", nodes(condition_r, sizeof condition_r, ds, sizeof ds) == 14);
     check("DS 1: name 1 goes to 0", both_list(name_1, sizeof name_1, ds, sizeof ds, 1) && result[DESK_NAMES_AT + 1] == 0);
     check("CN1 1 2 then DT2 4 1: R {1, 2}", both_list(condition_r, sizeof condition_r, cn1_dt2, sizeof cn1_dt2, S1 | S2));
     check("the other order {1}", both_list(condition_r, sizeof condition_r, dt2_cn1, sizeof dt2_cn1, S1));
     check("AS 3 4: condition \"name 3\" lists {4}", both_list(name_3, sizeof name_3, as_4, sizeof as_4, S4));
     check("AS 3 3: refused, 13", does_not_go_through(as_3, sizeof as_3));
-    check("AT 4 1 2: refused, 13", does_not_go_through(at_12, sizeof at_12));
-    check("AT 4 1 1: refused, 13", does_not_go_through(at_11, sizeof at_11));
     check("CN2 1 1 4: name 1 at 1", both_list(name_1, sizeof name_1, cn2_1, sizeof cn2_1, S1) && result[DESK_NAMES_AT + 1] == 1);
     check("CN2 1 3 4: at 0", both_list(name_1, sizeof name_1, cn2_3, sizeof cn2_3, 1) && result[DESK_NAMES_AT + 1] == 0);
 }
@@ -196,7 +198,7 @@ static void check_sheets(void)
 static void check_through(void)
 {
     static const uint8_t dt2[] = {6, 4, 1, 0}, ds[] = {8, 1, 0, 0}, as_4[] = {7, 3, 4, 0}, as_3[] = {7, 3, 3, 0};
-    static const uint8_t at_0[] = {4, 0, 1, 2}, at_12[] = {4, 4, 1, 2}, at_11[] = {4, 4, 1, 1}, twice[] = {8, 1, 0, 0, 8, 1, 0, 0};
+    static const uint8_t at_0[] = {4, 0, 1, 2}, twice[] = {8, 1, 0, 0, 8, 1, 0, 0};
     check("through no edit: 1 node, works", through(dt2, 0, 1, 1));
     check("through DT2 4 1: 1 node, works", through(dt2, sizeof dt2, 1, 1));
     check("through DS 1: 7 nodes, works", through(ds, sizeof ds, 7, 1));
@@ -204,8 +206,57 @@ static void check_through(void)
     check("through AS 3 4: 7 nodes, works", through(as_4, sizeof as_4, 7, 1));
     check("through AS 3 3: 7 nodes, does not", through(as_3, sizeof as_3, 7, 0));
     check("through AT 0 1 2: 13 nodes, works", through(at_0, sizeof at_0, 13, 1));
-    check("through AT 4 1 2: 26 nodes, does not", through(at_12, sizeof at_12, 26, 0));
-    check("through AT 4 1 1: 26 nodes, does not", through(at_11, sizeof at_11, 26, 0));
+}
+
+/* AT by link 4 from slot 2, which has slot 1 as its target: to slot 3, to itself, and with an end at nil. */
+static const uint8_t at_12[] = {4, 4, 1, 2}, at_11[] = {4, 4, 1, 1}, at_13[] = {4, 4, 1, 3}, at_31[] = {4, 4, 3, 1};
+
+static void check_edition_1(void)
+{
+    edition = DESK_EDITION_1;
+    check("AT 4 1 2 in edition 1: refused, 13", does_not_go_through(at_12, sizeof at_12));
+    check("AT 4 1 1 in edition 1: refused, 13", does_not_go_through(at_11, sizeof at_11));
+    check("through AT 4 1 2 in edition 1: 26 nodes, does not", through(at_12, sizeof at_12, 26, 0));
+    check("through AT 4 1 1 in edition 1: 26 nodes, does not", through(at_11, sizeof at_11, 26, 0));
+}
+
+/* Slot 2 is re-homed. */
+static void check_edition_2(void)
+{
+    static const uint8_t box_4[] = {2, 0, 0, 0, 0, 0, 9, 4, 0, 0, 0, 0}, back[] = {3, 1, 0, 0, 0, 0, 8, DESK_REVERSE(4), 0, 0, 0, 0};
+    static const uint8_t box_back[] = {3, 1, 0, 0, 0, 0, 9, DESK_REVERSE(4), 0, 0, 0, 0};
+    edition = DESK_EDITION_2;
+    check("AT 4 1 2 in edition 2: R {1}", both_list(condition_r, sizeof condition_r, at_12, sizeof at_12, S1));
+    check("slot 2 leads to 3, slot 3 to 2", result[DESK_TARGET_AT(4, 2)] == 3 && result[DESK_TARGET_AT(4, 3)] == 2);
+    check("R has 14 nodes", nodes(condition_r, sizeof condition_r, at_12, sizeof at_12) == 14);
+    check("box 4 of label 0: all but 2 and 3", both_list(box_4, sizeof box_4, at_12, sizeof at_12, ~(S2 | S3)));
+    check("it has 12 nodes", nodes(box_4, sizeof box_4, at_12, sizeof at_12) == 12);
+    check("diamond 4- of name 1: {3}", both_list(back, sizeof back, at_12, sizeof at_12, S3));
+    check("it has 11 nodes", nodes(back, sizeof back, at_12, sizeof at_12) == 11);
+    check("box 4- of name 1: all but 2", both_list(box_back, sizeof box_back, at_12, sizeof at_12, ~S2));
+    check("it has 12 nodes", nodes(box_back, sizeof box_back, at_12, sizeof at_12) == 12);
+    check("through AT 4 1 2 in edition 2: 13 nodes, works", through(at_12, sizeof at_12, 13, 1));
+    check("AT 4 1 1: diamond 4- of name 1 {2}", both_list(back, sizeof back, at_11, sizeof at_11, S2));
+    check("AT 4 1 3: refused, 13", does_not_go_through(at_13, sizeof at_13));
+    check("AT 4 3 1: refused, 13", does_not_go_through(at_31, sizeof at_31));
+}
+
+/* A probe, slot 3, has a live uplink to a relay, slot 2, which leads no further. It takes a second uplink, to the gateway, slot 1. */
+static void check_second_uplink(void)
+{
+    static const uint8_t at_21[] = {4, 4, 2, 1};
+    site_a[DESK_NAME_AT(1)] = 1;
+    site_a[DESK_TARGET_AT(4, 2)] = DESK_NIL;
+    check("a second uplink: R {1} before", lists(site_a, condition_r, sizeof condition_r, S1));
+    edition = DESK_EDITION_1;
+    check("AT 4 2 1 in edition 1: refused, 13", does_not_go_through(at_21, sizeof at_21));
+    check("through it: 26 nodes, does not", through(at_21, sizeof at_21, 26, 0));
+    edition = DESK_EDITION_2;
+    check("AT 4 2 1 in edition 2: R {1, 3}", both_list(condition_r, sizeof condition_r, at_21, sizeof at_21, S1 | S3));
+    check("the probe's uplink is slot 1", result[DESK_TARGET_AT(4, 3)] == 1);
+    check("R has 14 nodes", nodes(condition_r, sizeof condition_r, at_21, sizeof at_21) == 14);
+    check("through it: 13 nodes, works", through(at_21, sizeof at_21, 13, 1));
+    build_a(site_a);
 }
 
 static void check_chains(void)
@@ -251,38 +302,21 @@ static void check_names(void)
     uint8_t site[DESK_SITE_BYTES];
     memcpy(site, site_a, sizeof site);
     memset(site + DESK_NAME_AT(8), 2, DESK_NAME_COUNT - 8);
-    struct desk_applied r = desk_apply(site, sizeof site, cn1, sizeof cn1, DESK_EDITION_1, result, sizeof result);
+    struct desk_applied r = desk_apply(site, sizeof site, cn1, sizeof cn1, edition, result, sizeof result);
     check("A with names 8 to 47 at 2, CN1 47 2: name 47 at 3, name 46 at 2",
           r.reason == DESK_OK && result[DESK_NAME_AT(LAST)] == 3 && result[DESK_NAME_AT(LAST - 1)] == 2);
     check("condition \"name 47\" lists {3}", lists(result, last, sizeof last, S3));
-    r = desk_apply(site, sizeof site, ds, sizeof ds, DESK_EDITION_1, result, sizeof result);
+    r = desk_apply(site, sizeof site, ds, sizeof ds, edition, result, sizeof result);
     check("DS 47: names 8 and 47 at 0", r.reason == DESK_OK && result[DESK_NAME_AT(8)] == 0 && result[DESK_NAME_AT(LAST)] == 0);
-    r = desk_apply(site, BYTES_FOR_16, ds, sizeof ds, DESK_EDITION_1, result, sizeof result);
+    r = desk_apply(site, BYTES_FOR_16, ds, sizeof ds, edition, result, sizeof result);
     check("34,352 bytes, a site for 16 names: refused, 3", r.reason == DESK_SITE_LENGTH && r.where == 0);
-}
-
-/* AT 4 1 2: slot 2 has another target. In edition 1 it does not go through; in edition 2 the old target is replaced. */
-static void check_editions(void)
-{
-    static const uint8_t at[] = {4, 4, 1, 2};
-    check("AT 4 1 2 in edition 1: refused, 13", does_not_go_through(at, sizeof at));
-    struct desk_applied a = desk_apply(site_a, sizeof site_a, at, sizeof at, DESK_EDITION_2, result, sizeof result);
-    check("in edition 2: slot 2 leads to 3, slot 3 to 2",
-          a.reason == DESK_OK && result[DESK_TARGET_AT(4, 2)] == 3 && result[DESK_TARGET_AT(4, 3)] == 2);
-    struct desk_rewritten w = desk_rewrite(condition_r, sizeof condition_r, at, sizeof at, DESK_EDITION_2, table, sizeof table);
-    check("R {1} after; rewritten, 14 nodes, {1}", lists(result, condition_r, sizeof condition_r, S1) && w.reason == DESK_OK &&
-          w.nodes == 14 && lists(site_a, table, DESK_NODE_BYTES * w.nodes, S1));
-    w = desk_through(at, sizeof at, DESK_EDITION_2, table, sizeof table);
-    check("its condition for going through: 13 nodes", w.reason == DESK_OK && w.nodes == 13);
-    a = desk_apply(site_a, sizeof site_a, at, sizeof at, DESK_EDITION_2 + 1, result, sizeof result);
-    check("in edition 3: refused, 18", a.reason == DESK_EDITION && a.where == 0 && result[0] == 0);
 }
 
 /* ---- the job */
 
 static void put_number(uint8_t *at, uint32_t number)
 {
-    for (int k = 0; k < 4; k++)
+    for (int k = 0; k < DESK_NUMBER_BYTES; k++)
         at[k] = (uint8_t)(number >> 8 * k);
 }
 
@@ -299,7 +333,7 @@ static struct desk_done run(const uint8_t *cond, size_t cond_len, const uint8_t 
     put_number(trailer + DESK_TO_SHEET_AT, (uint32_t)(trailer - sheet_at));
     put_number(trailer + DESK_TO_CONDITION_AT, (uint32_t)(trailer - cond_at));
     put_number(trailer + DESK_TO_SITE_AT, (uint32_t)(trailer - file));
-    put_number(trailer + DESK_EDITION_AT, DESK_EDITION_1);
+    put_number(trailer + DESK_EDITION_AT, edition);
     return desk_job(file, (size_t)(trailer - file) + DESK_TRAILER_BYTES, limit, result, sizeof result, table, sizeof table, set, sizeof set,
                     today, sizeof today, classes, sizeof classes, work, sizeof work);
 }
@@ -333,18 +367,42 @@ static void check_job_rounds(void)
     check("limit 5: refused, 15", r.reason == DESK_ROUNDS && r.after_rounds == 0 && r.today_rounds == 0);
 }
 
+/* Beside a sheet and in a file; nothing is given. */
+static void check_unknown_editions(void)
+{
+    static const uint32_t numbers[] = {0, 3, 257, UINT32_MAX};
+    static const uint8_t dt2[] = {6, 4, 1, 0};
+    int refused = 1;
+    for (size_t k = 0; k < sizeof numbers / sizeof *numbers; k++) {
+        edition = numbers[k];
+        struct desk_applied a = desk_apply(site_a, sizeof site_a, dt2, sizeof dt2, edition, result, sizeof result);
+        struct desk_rewritten w = desk_rewrite(condition_r, sizeof condition_r, dt2, sizeof dt2, edition, table, sizeof table);
+        refused &= a.reason == DESK_EDITION && a.where == 0 && result[0] == 0 && w.reason == DESK_EDITION && w.nodes == 0;
+        w = desk_through(dt2, sizeof dt2, edition, table, sizeof table);
+        struct desk_done r = run(condition_r, sizeof condition_r, dt2, sizeof dt2, DESK_LIMIT_MAX);
+        refused &= w.reason == DESK_EDITION && w.nodes == 0 && r.reason == DESK_EDITION && r.where == 0 && r.nodes == 0 && result[0] == 0;
+    }
+    check("editions 0, 3, 257 and 4,294,967,295: refused, 18", refused);
+}
+
 int main(void)
 {
     build_a(site_a);
     check_lists();
     check_rounds();
-    check_sheets();
-    check_through();
     check_chains();
     check_classes();
-    check_names();
-    check_editions();
-    check_job();
-    check_job_rounds();
+    for (edition = DESK_EDITION_1; edition <= DESK_EDITION_2; edition++) {
+        printf("in edition %u\n", (unsigned)edition);
+        check_sheets();
+        check_through();
+        check_names();
+        check_job();
+        check_job_rounds();
+    }
+    check_edition_1();
+    check_edition_2();
+    check_second_uplink();
+    check_unknown_editions();
     return differences != 0;
 }

@@ -1,6 +1,7 @@
 /* A cooperative plans to pull a probe. Does the plan work on the site as it is? Which places will still have a chain of uplinks to a gateway,
- * and over which places does it go? Which fans will no longer be driven by a connected probe? Everything that this program uses is explained in
- * docs/SPEC.md and include/desk.h. It prints examples/plan.out, and returns 1 if a call is refused.
+ * and over which places does it go? Which fans will no longer be driven by a connected probe? And what if another probe is given a new uplink
+ * first? Everything that this program uses is explained in docs/SPEC.md and include/desk.h. It prints examples/plan.out, and returns 1 if a call is
+ * refused.
  *
  *     rt staticlib desk
  *     gcc -std=c11 -Iinclude examples/plan.c target/staticlib/libdesk.a -o plan && ./plan
@@ -15,7 +16,8 @@
 
 enum { GATEWAY, RELAY, PROBE, FAN };                            /* labels */
 enum { DRIVES, UPLINK = DESK_GENERAL_LINKS };                   /* links: a probe drives any number of fans; a place has at most one uplink */
-enum { PULLED = 1 };                                            /* names: the probe to be pulled; name 0 is always at nil */
+enum { PULLED = 1, KEPT, NEW_UPLINK };                          /* names: the probe to be pulled, another one, and where its uplink is to go;
+                                                                 * name 0 is always at nil */
 enum { CONNECTED };                                             /* variables */
 enum { OFF_SITE = DESK_NIL, OFFICE, HILL, BARN, ORCHARD, BIN_1, BIN_2, HAY, SEED, FAN_1, FAN_2, FAN_3, FAN_4, PLACES }; /* slots */
 
@@ -64,6 +66,19 @@ static const uint8_t idle_fan[] = {
 
 static const uint8_t pull[] = {DESK_EDIT_INIT(DESK_OP_DS, PULLED, 0, 0)};
 
+/* The probe to be kept has a live uplink, over the one to be pulled. Only in edition 2 can it take a second one and drop the first. */
+static const uint8_t keep_and_pull[] = {DESK_EDIT_INIT(DESK_OP_AT, UPLINK, KEPT, NEW_UPLINK), DESK_EDIT_INIT(DESK_OP_DS, PULLED, 0, 0)};
+
+struct sheet {
+    const uint8_t *at;
+    size_t length;
+    uint32_t edition;
+};
+
+static const struct sheet pulling = {pull, sizeof pull, DESK_EDITION_1};
+static const struct sheet keeping_1 = {keep_and_pull, sizeof keep_and_pull, DESK_EDITION_1};
+static const struct sheet keeping_2 = {keep_and_pull, sizeof keep_and_pull, DESK_EDITION_2};
+
 /* A planner does not wait for more rounds than these. The conditions above take a few, one for each place on the longest chain. */
 enum { ROUNDS_MOST = 10000 };
 
@@ -79,7 +94,7 @@ static int has_slot(const uint8_t *set, int slot)
     return (set[DESK_SET_BYTE(slot)] & DESK_SET_WEIGHT(slot)) != 0;
 }
 
-static void build_site(uint8_t *site, int pulled)
+static void build_site(uint8_t *site)
 {
     memset(site, 0, DESK_SITE_BYTES);
     put_slot(site + DESK_PRESENT_AT, OFF_SITE);
@@ -91,7 +106,9 @@ static void build_site(uint8_t *site, int pulled)
             if (places[slot].drives[k] != OFF_SITE)
                 put_slot(site + DESK_ROW_AT(DRIVES, slot), places[slot].drives[k]);
     }
-    site[DESK_NAME_AT(PULLED)] = (uint8_t)pulled;
+    site[DESK_NAME_AT(PULLED)] = BIN_2;
+    site[DESK_NAME_AT(KEPT)] = SEED;
+    site[DESK_NAME_AT(NEW_UPLINK)] = BARN;
 }
 
 static void put_number(uint8_t *at, size_t number)
@@ -101,17 +118,17 @@ static void put_number(uint8_t *at, size_t number)
 }
 
 /* Builds the file of a job and returns its length. */
-static size_t build_file(uint8_t *file, const uint8_t *site, const uint8_t *cond, size_t cond_len, const uint8_t *sheet, size_t sheet_len)
+static size_t build_file(uint8_t *file, const uint8_t *site, const uint8_t *cond, size_t cond_len, const struct sheet *sheet)
 {
-    uint8_t *cond_at = file + DESK_SITE_BYTES, *sheet_at = cond_at + cond_len, *trailer = sheet_at + sheet_len;
+    uint8_t *cond_at = file + DESK_SITE_BYTES, *sheet_at = cond_at + cond_len, *trailer = sheet_at + sheet->length;
     memcpy(file, site, DESK_SITE_BYTES);
     memcpy(cond_at, cond, cond_len);
-    memcpy(sheet_at, sheet, sheet_len);
-    put_number(trailer + DESK_TO_SHEET_AT, sheet_len);
-    put_number(trailer + DESK_TO_CONDITION_AT, cond_len + sheet_len);
-    put_number(trailer + DESK_TO_SITE_AT, DESK_SITE_BYTES + cond_len + sheet_len);
-    put_number(trailer + DESK_EDITION_AT, DESK_EDITION_1);
-    return DESK_SITE_BYTES + cond_len + sheet_len + DESK_TRAILER_BYTES;
+    memcpy(sheet_at, sheet->at, sheet->length);
+    put_number(trailer + DESK_TO_SHEET_AT, sheet->length);
+    put_number(trailer + DESK_TO_CONDITION_AT, cond_len + sheet->length);
+    put_number(trailer + DESK_TO_SITE_AT, DESK_SITE_BYTES + cond_len + sheet->length);
+    put_number(trailer + DESK_EDITION_AT, sheet->edition);
+    return DESK_SITE_BYTES + cond_len + sheet->length + DESK_TRAILER_BYTES;
 }
 
 /* ---- asking */
@@ -136,9 +153,9 @@ struct check {
     struct desk_rewritten built;
 };
 
-static int build_check(struct check *check)
+static int build_check(struct check *check, const struct sheet *sheet)
 {
-    check->built = desk_through(pull, sizeof pull, DESK_EDITION_1, check->table, sizeof check->table);
+    check->built = desk_through(sheet->at, sheet->length, sheet->edition, check->table, sizeof check->table);
     return refused(check->built.reason, check->built.where);
 }
 
@@ -152,11 +169,11 @@ static int ask_check(const struct check *check, const uint8_t *site, int *works)
     return refused(listed.reason, listed.where);
 }
 
-/* Lists a condition before and after the probe is pulled. Returns 0 if neither call was refused. */
-static int ask(struct plan *plan, const uint8_t *site, const uint8_t *cond, size_t cond_len)
+/* Lists a condition before and after the sheet. Returns 0 if neither call was refused. */
+static int ask(struct plan *plan, const uint8_t *site, const uint8_t *cond, size_t cond_len, const struct sheet *sheet)
 {
     static uint8_t file[DESK_FILE_BYTES_MAX], table[DESK_TABLE_BYTES], classes[DESK_CLASSES_BYTES], work[DESK_WORK_BYTES];
-    size_t length = build_file(file, site, cond, cond_len, pull, sizeof pull);
+    size_t length = build_file(file, site, cond, cond_len, sheet);
     plan->listed = desk_list(site, DESK_SITE_BYTES, cond, cond_len, ROUNDS_MOST, plan->before, sizeof plan->before, work, sizeof work);
     plan->done = desk_job(file, length, ROUNDS_MOST, plan->site_after, sizeof plan->site_after, table, sizeof table,
                           plan->after, sizeof plan->after, plan->today, sizeof plan->today, classes, sizeof classes, work, sizeof work);
@@ -230,15 +247,14 @@ static int show_uplinks(const uint8_t *before, const uint8_t *after)
     return 0;
 }
 
-int main(void)
+/* The probe is pulled. Returns 0 if no call was refused. */
+static int show_pulling(const uint8_t *site)
 {
-    static uint8_t site[DESK_SITE_BYTES];
     static struct plan chains, fans;
     static struct check check;
     int now = 0, again = 0;
-    build_site(site, BIN_2);
-    if (build_check(&check) || ask_check(&check, site, &now) || ask(&chains, site, chain, sizeof chain) ||
-        ask(&fans, site, idle_fan, sizeof idle_fan) || ask_check(&check, chains.site_after, &again))
+    if (build_check(&check, &pulling) || ask_check(&check, site, &now) || ask(&chains, site, chain, sizeof chain, &pulling) ||
+        ask(&fans, site, idle_fan, sizeof idle_fan, &pulling) || ask_check(&check, chains.site_after, &again))
         return 1;
     printf("To be pulled: %s\n", places[BIN_2].name);
     printf("Does that work? A condition of %u nodes says: today %s, once it is done %s\n", (unsigned)check.built.nodes,
@@ -255,4 +271,30 @@ int main(void)
     print_set("  before", fans.before);
     print_set("  after", fans.after);
     return 0;
+}
+
+/* Another probe takes a second uplink first. Returns 0 if no call was refused. */
+static int show_keeping(const uint8_t *site)
+{
+    static struct plan chains, fans;
+    static struct check first, second;
+    static struct uplinks then;
+    int in_1 = 0, in_2 = 0;
+    if (build_check(&first, &keeping_1) || ask_check(&first, site, &in_1) || build_check(&second, &keeping_2) ||
+        ask_check(&second, site, &in_2) || ask(&chains, site, chain, sizeof chain, &keeping_2) ||
+        ask(&fans, site, idle_fan, sizeof idle_fan, &keeping_2) || ask_uplinks(&then, chains.site_after, SEED))
+        return 1;
+    printf("\nWith a second uplink first, from %s to %s:\n", places[SEED].name, places[BARN].name);
+    printf("  does that work today? in edition 1 %s, in edition 2 %s\n", in_1 ? "yes" : "no", in_2 ? "yes" : "no");
+    printf("  an uplink chain leads to a gateway: %u places before, %u after\n", (unsigned)chains.listed.count, (unsigned)chains.done.after);
+    print_uplinks("after", &then);
+    print_set("  fans that no connected probe drives, after", fans.after);
+    return 0;
+}
+
+int main(void)
+{
+    static uint8_t site[DESK_SITE_BYTES];
+    build_site(site);
+    return show_pulling(site) || show_keeping(site);
 }

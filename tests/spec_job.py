@@ -12,6 +12,7 @@ Prints what differs, and then exits with 1. Run at the repository's top: tests/s
 import re
 import sys
 
+sys.dont_write_bytecode = True  # the gate leaves nothing beside the scripts
 from changes import show_table
 from pieces import table as as_bytes
 

@@ -9,13 +9,13 @@ ghost use Rattle.semantics.specs.Edit.{AT, AS, DS, RT, legal, goes};
 ghost use Rattle.site.specs.Layout.{siteBytes};
 ghost use Rattle.site.specs.Site.{siteOf};
 ghost use Rattle.sheet.specs.Bytes.{editOf};
-ghost use Rattle.going.specs.Joins.{neitherNil, joins};
+ghost use Rattle.going.specs.Joins.{endsOnSite, joins};
 use sheet::Op;
 use site::GENERAL_LINKS;
 
 // Is neither end of a link nil?
-fn neither_nil(s: usize, t: usize) -> bool
-    ensures { λ r. ⌜ r ≡ neitherNil s t ⌝ }
+fn ends_on_site(s: usize, t: usize) -> bool
+    ensures { λ r. ⌜ r ≡ endsOnSite s t ⌝ }
 {
     (s != 0) & (t != 0)
 }
@@ -25,7 +25,7 @@ fn can_join(site: &[u8], m: usize, s: usize, t: usize) -> bool
     requires { ⌜ (length (now site) ≡ siteBytes) × ((m < links) × ((s < setSlots) × (t < setSlots))) ⌝ }
     ensures { λ r. ⌜ r ≡ joins (siteOf (now (site .entry))) m s t ⌝ }
 {
-    if !neither_nil(s, t) {
+    if !ends_on_site(s, t) {
         return false;
     }
     if m < GENERAL_LINKS {
@@ -68,7 +68,7 @@ fn both_on_site(site: &[u8], f: u8, n1: u8, n2: u8) -> bool
 {
     let s = site::place(site, n1 as usize);
     let t = site::place(site, n2 as usize);
-    neither_nil(s, t)
+    ends_on_site(s, t)
 }
 
 // The edit goes through on the site.

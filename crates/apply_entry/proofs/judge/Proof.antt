@@ -1,6 +1,7 @@
 -- The items in order: the result, the edition, then the site and the sheet.
 use native.Mathlib.Omega.{arith}
-use Rattle.apply_entry.specs.Laws.Applying.{judged-first, judged-second, judged-result, judged-rest}
+use Rattle.refusals.specs.Laws.Items.{then-refused, then-next}
+use Rattle.apply_entry.specs.Laws.Applying.{judged-result, judged-rest}
 use borrow.Author.Needs.{needs}
 use Rattle.apply_entry.proofs.judge.Statement.{statement}
 use Rattle.apply_entry.proofs.judge.Tie as tie
@@ -23,12 +24,12 @@ enum-known-v c = search needs
 returns-2 : tie.Need-returns-2
 returns-2 c =
     let a = c .before .before .before .before .before .before .before .args in
-    judged-rest (a .edition) (a .result) (a .site .now) (a .sheet .now) (omega arith) (judged-second (c .before .before .before .check .ensures) (c .before .enum-told .given .1) (c .judge-pieces .ensures))
+    judged-rest (a .edition) (a .result) (a .site .now) (a .sheet .now) (omega arith) (then-next (c .before .before .before .check .ensures) (c .before .enum-told .given .1) (c .judge-pieces .ensures))
 
 returns-3 : tie.Need-returns-3
 returns-3 c =
     let a = c .before .before .before .before .before .before .before .args in
-    judged-rest (a .edition) (a .result) (a .site .now) (a .sheet .now) (omega arith) (judged-first (c .before .before .before .check .ensures) _ (c .before .v .given .1))
+    judged-rest (a .edition) (a .result) (a .site .now) (a .sheet .now) (omega arith) (then-refused _ (c .before .before .before .check .ensures) (c .before .v .given .1))
 
 pub judge-spec : {M : Type 1} → statement M
 judge-spec =

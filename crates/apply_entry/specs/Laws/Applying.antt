@@ -28,14 +28,6 @@ use Rattle.apply_entry.specs.Inputs.{inputVerdict}
 
 -- ---- the inputs are judged
 
--- by two checks, the second where the first accepts
-module _ {u v : Verdict} (f : v ≡ u) where
-  pub judged-first : (w : Verdict) {item k : ℕ} → v ≡ Refused item k → Refused item k ≡ (u then w)
-  judged-first w g = rw (sym f ∙ g)
-
-  pub judged-second : v ≡ Accepted → {w r : Verdict} → r ≡ w → r ≡ (u then w)
-  judged-second g h = rw (sym f ∙ g) h
-
 module _ (edition n : ℕ) (site sheet : List ℕ) where
   pub judged-result : n ≢ siteBytes → Refused 1 0 ≡ inputVerdict edition n site sheet
   unfolding inputVerdict

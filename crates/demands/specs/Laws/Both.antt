@@ -4,7 +4,7 @@ use mathlib.Core.Path.{_≡_, refl, sym, _∙_, ap, fun-ext}
 use mathlib.Core.Logic.{inr}
 use mathlib.Core.Bool.{Bool, true, false, not, _&&_, _||_, cond}
 use mathlib.Core.List.{List, [], _∷_}
-use Prim.Native.Nat.{ℕ, zero, suc}
+use Prim.Native.Nat.{ℕ}
 use lib.ListN.{length}
 use Rattle.finite.specs.Tests.{same}
 use Rattle.finite.specs.Laws.Bools.{either, look, clash, both, and-in, and-l, and-r, or-l, or-r, or-out}
@@ -22,6 +22,7 @@ use Rattle.site.specs.Laws.Valid.{site-valid}
 use Rattle.site.specs.Laws.Same.{same-site}
 use Rattle.sheet.specs.Bytes.{linkEdit, readEdit, editsOf}
 use Rattle.sheet.specs.Refusal.{sheetVerdict}
+use Rattle.sheet.specs.Laws.Read.{read-both}
 use Rattle.sheet.specs.Laws.Accepted.{accepted-sheet}
 use Rattle.applying.specs.Refusal.{goesVerdict}
 use Rattle.applying.specs.Laws.Goes as applying
@@ -61,21 +62,13 @@ Kept : (d e : Edit) (M : Model) → Type 0
 Kept d e M = (goes e M ≡ true) × (edit e M ≡ edit d M)
 
 module _ (M : Model) (v : Valid M) where
-  link-kept : (m n1 n2 : ℕ) → goes (AT m n1 n2) M ≡ true → Kept (AT m n1 n2) (linkEdit second m n1 n2) M
+  link-kept : (m n1 n2 : ℕ) → goes (linkEdit 1 m n1 n2) M ≡ true → Kept (linkEdit 1 m n1 n2) (linkEdit second m n1 n2) M
   unfolding Kept linkEdit same
   link-kept m n1 n2 g = either (look (functional m)) (λ o. rw o (replaced-added m n1 n2 M v o g)) (λ o. rw o (g, refl))
 
   edit-kept : (o x y z : ℕ) → goes (readEdit 1 o x y z) M ≡ true → Kept (readEdit 1 o x y z) (readEdit second o x y z) M
-  unfolding Kept readEdit linkEdit same
-  edit-kept zero x y z g = (g, refl)
-  edit-kept (suc zero) x y z g = (g, refl)
-  edit-kept (suc (suc zero)) x y z g = (g, refl)
-  edit-kept (suc (suc (suc zero))) x y z g = (g, refl)
-  edit-kept (suc (suc (suc (suc zero)))) x y z g = link-kept x y z g
-  edit-kept (suc (suc (suc (suc (suc zero))))) x y z g = (g, refl)
-  edit-kept (suc (suc (suc (suc (suc (suc zero)))))) x y z g = (g, refl)
-  edit-kept (suc (suc (suc (suc (suc (suc (suc zero))))))) x y z g = (g, refl)
-  edit-kept (suc (suc (suc (suc (suc (suc (suc (suc o)))))))) x y z g = (g, refl)
+  unfolding Kept
+  edit-kept o x y z = read-both (λ d e. goes d M ≡ true → Kept d e M) 1 second x y z (λ e g. (g, refl)) (link-kept x y z) o
 
 -- ---- a sheet
 

@@ -13,11 +13,11 @@ place-requires c κs = let s = c .before in let r = legal-RT (s .args .f) (s .ar
 place-requires-2 : tie.Need-place-requires-2
 place-requires-2 c κs = let s = c .before .before in let r = legal-RT (s .args .f) (s .args .n1) (s .args .n2) (s .pre .1) in omega arith
 
-neither-nil-requires : tie.Need-neither-nil-requires
-neither-nil-requires c κs = search needs
+ends-on-site-requires : tie.Need-ends-on-site-requires
+ends-on-site-requires c κs = search needs
 
 returns : tie.Need-returns
-returns c = let s = c .before .before .before .before in goes-RT (siteOf (s .args .site .now)) (s .args .f) (s .args .n1) (s .args .n2) (c .before .before .place .ensures .0) (c .before .place2 .ensures .0) (c .neither-nil .ensures)
+returns c = let s = c .before .before .before .before in goes-RT (siteOf (s .args .site .now)) (s .args .f) (s .args .n1) (s .args .n2) (c .before .before .place .ensures .0) (c .before .place2 .ensures .0) (c .ends-on-site .ensures)
 
 pub both-on-site-spec : {M : Type 1} → statement M
-both-on-site-spec = tie.close (tie.spec place-requires place-requires-2 neither-nil-requires returns)
+both-on-site-spec = tie.close (tie.spec place-requires place-requires-2 ends-on-site-requires returns)

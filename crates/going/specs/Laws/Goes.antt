@@ -10,7 +10,7 @@ use Rattle.limits.specs.Limits.{links, generalLinks}
 use Rattle.semantics.specs.Holds.{Model}
 use Rattle.semantics.specs.Edit.{AT, AS, DS, RT, functional, target, goes}
 use Rattle.site.specs.Laws.Read.{functional-in}
-use Rattle.going.specs.Joins.{neitherNil, joins}
+use Rattle.going.specs.Joins.{endsOnSite, joins}
 
 -- at the places of its names
 module _ (M : Model) {b : Bool} where
@@ -18,9 +18,9 @@ module _ (M : Model) {b : Bool} where
   unfolding goes joins
   goes-AT m n1 n2 e f h = h ∙ ap₂ (joins M m) e f
 
-  pub goes-RT : (f n1 n2 : ℕ) {x y : ℕ} → x ≡ M .place n1 → y ≡ M .place n2 → b ≡ neitherNil x y → b ≡ goes (RT f n1 n2) M
+  pub goes-RT : (f n1 n2 : ℕ) {x y : ℕ} → x ≡ M .place n1 → y ≡ M .place n2 → b ≡ endsOnSite x y → b ≡ goes (RT f n1 n2) M
   unfolding goes
-  goes-RT f n1 n2 e g h = h ∙ ap₂ neitherNil e g
+  goes-RT f n1 n2 e g h = h ∙ ap₂ endsOnSite e g
 
   pub goes-AS : (n k : ℕ) → b ≡ M .present k → not b ≡ goes (AS n k) M
   unfolding goes
@@ -31,11 +31,11 @@ unfolding goes
 goes-DS M n e = ap (λ (z : ℕ). not (same z 0)) e
 
 -- the end that a link leads to is not nil
-pub end-there : (x y : ℕ) → neitherNil x y ≡ true → y ≢ 0
+pub end-there : (x y : ℕ) → endsOnSite x y ≡ true → y ≢ 0
 end-there x y p e = not-out (same y 0) (and-r (not (same x 0)) _ p) (eq-same e)
 
 -- when a link can be added, test by test
-module _ (M : Model) (m x y : ℕ) {b : Bool} (h : b ≡ neitherNil x y) where
+module _ (M : Model) (m x y : ℕ) {b : Bool} (h : b ≡ endsOnSite x y) where
   pub joins-nil : b ≡ false → false ≡ joins M m x y
   unfolding joins
   joins-nil e = rw (sym h ∙ e)

@@ -121,6 +121,13 @@ pub then-out : (v w : Verdict) → v then w ≡ Accepted → (v ≡ Accepted) ×
 then-out Accepted w e = (refl, e)
 then-out (Refused n k) w e = refused e
 
+-- v is the outcome of the first check: it refuses; it accepts, and u is the outcome of the second
+pub then-refused : {a v : Verdict} (b : Verdict) {item w : ℕ} → v ≡ a → v ≡ Refused item w → Refused item w ≡ a then b
+then-refused b j e = rw (← j, e) refl
+
+pub then-next : {a b v u : Verdict} → v ≡ a → v ≡ Accepted → u ≡ b → u ≡ a then b
+then-next j e h = rw (← j, e) h
+
 -- ---- items have the numbers 1 to `lastItem`, so the reason 0 says that the inputs are accepted
 
 pub record Numbered (v : Verdict) : Type 0 where

@@ -1,6 +1,6 @@
 -- The items in order: the condition, the sheet.
 use borrow.Author.Needs.{needs}
-use Rattle.rewrite_entry.specs.Laws.Rewriting.{judged-refused, judged-next}
+use Rattle.refusals.specs.Laws.Items.{then-refused, then-next}
 use Rattle.rewrite_entry.proofs.judge_pieces.Statement.{statement}
 use Rattle.rewrite_entry.proofs.judge_pieces.Tie as tie
 
@@ -23,10 +23,10 @@ enum-known-v : tie.Need-enum-known-v
 enum-known-v c = search needs
 
 returns : tie.Need-returns
-returns c = judged-next (c .before .before .before .before .check .ensures .verdict) (c .before .enum-told .given .1) (c .check2 .ensures)
+returns c = then-next (c .before .before .before .before .check .ensures .verdict) (c .before .enum-told .given .1) (c .check2 .ensures)
 
 returns-2 : tie.Need-returns-2
-returns-2 c = judged-refused _ (c .before .before .before .before .check .ensures .verdict) (c .before .v .given .1)
+returns-2 c = then-refused _ (c .before .before .before .before .check .ensures .verdict) (c .before .v .given .1)
 
 pub judge-pieces-spec : {M : Type 1} → statement M
 judge-pieces-spec =

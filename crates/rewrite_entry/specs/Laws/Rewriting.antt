@@ -33,17 +33,8 @@ use Rattle.rewrite_entry.specs.Refusal.{rewriteVerdict, throughVerdict}
 use Rattle.rewrite_entry.specs.Inputs.{inputVerdict, sheetInputVerdict}
 use Rattle.rewrite_entry.specs.Answered.{TableAnswered}
 
--- ---- the inputs are judged, by one check after another: v is the outcome of the first
+-- ---- the inputs are judged: item 1
 
--- it refuses
-pub judged-refused : {a v : Verdict} (b : Verdict) {item w : ℕ} → v ≡ a → v ≡ Refused item w → Refused item w ≡ a then b
-judged-refused b j e = rw (← j, e) refl
-
--- it accepts, and the second judges
-pub judged-next : {a b v u : Verdict} → v ≡ a → v ≡ Accepted → u ≡ b → u ≡ a then b
-judged-next j e h = rw (← j, e) h
-
--- item 1
 pub judged-result : {len : ℕ} (b : Verdict) → len ≢ tableBytes → Refused 1 0 ≡ bufferVerdict len tableBytes then b
 judged-result b h = rw (buffer-not h)
 

@@ -14,6 +14,7 @@ use Rattle.editions.specs.Edition.{second}
 use Rattle.semantics.specs.Edit.{Edit, CN1, CN2, AP, DP, AT, RT, DT1, DT2, AS, DS, functional, legal}
 use Rattle.sheet.specs.Bytes.{linkEdit, readEdit, fourAt, editBytes}
 use Rattle.sheet.specs.Refusal.{operands, unusedZero, editFits}
+use Rattle.sheet.specs.Laws.Read.{read-both}
 
 from-below : (m n : ℕ) → leb m n ≡ not (below n m)
 from-below m n =
@@ -40,16 +41,7 @@ link-legal d m n1 n2 =
     (λ e. rw (e, legal))
 
 pub legal-alike : (d o x y z : ℕ) → legal (readEdit d o x y z) ≡ legal (readEdit 1 o x y z)
-unfolding readEdit
-legal-alike d zero x y z = refl
-legal-alike d (suc zero) x y z = refl
-legal-alike d (suc (suc zero)) x y z = refl
-legal-alike d (suc (suc (suc zero))) x y z = refl
-legal-alike d (suc (suc (suc (suc zero)))) x y z = link-legal d x y z
-legal-alike d (suc (suc (suc (suc (suc zero))))) x y z = refl
-legal-alike d (suc (suc (suc (suc (suc (suc zero)))))) x y z = refl
-legal-alike d (suc (suc (suc (suc (suc (suc (suc zero))))))) x y z = refl
-legal-alike d (suc (suc (suc (suc (suc (suc (suc (suc o)))))))) x y z = refl
+legal-alike d o x y z = read-both (λ e f. legal e ≡ legal f) d 1 x y z (λ e. refl) (link-legal d x y z) o
 
 -- unused operands 0: the bytes are those of the edit that is read
 link-bytes : (d m n1 n2 : ℕ) → editBytes (linkEdit d m n1 n2) ≡ 4 ∷ m ∷ n1 ∷ n2 ∷ []

@@ -80,6 +80,20 @@ pub read-second : (m n1 n2 : ℕ) → (functional m ≡ false → readEdit secon
 unfolding readEdit linkEdit same
 read-second m n1 n2 = (λ e. rw e, λ e. rw e)
 
+-- what holds of every edit and itself, and of operation 4 in two editions, holds of what is read in them
+pub read-both : (R : Edit → Edit → Type 0) (c d x y z : ℕ) → ((e : Edit) → R e e) → R (linkEdit c x y z) (linkEdit d x y z)
+    → (o : ℕ) → R (readEdit c o x y z) (readEdit d o x y z)
+unfolding readEdit
+read-both R c d x y z r l zero = r (CN1 x y)
+read-both R c d x y z r l (suc zero) = r (CN2 x y z)
+read-both R c d x y z r l (suc (suc zero)) = r (AP x y)
+read-both R c d x y z r l (suc (suc (suc zero))) = r (DP x y)
+read-both R c d x y z r l (suc (suc (suc (suc zero)))) = l
+read-both R c d x y z r l (suc (suc (suc (suc (suc zero))))) = r (DT1 x y z)
+read-both R c d x y z r l (suc (suc (suc (suc (suc (suc zero)))))) = r (DT2 x y)
+read-both R c d x y z r l (suc (suc (suc (suc (suc (suc (suc zero))))))) = r (AS x y)
+read-both R c d x y z r l (suc (suc (suc (suc (suc (suc (suc (suc o)))))))) = r (DS x)
+
 -- operation 4, as the code tests it
 module _ (d m n1 n2 : ℕ) {b : Bool} (e : b ≡ functional m) where
   pub link-second : (same d second && b) ≡ true → RT m n1 n2 ≡ linkEdit d m n1 n2

@@ -21,7 +21,7 @@ use Rattle.site.specs.Layout.{siteBytes, labelAt, nameAt, targetAt, rowAt}
 use Rattle.site.specs.Site.{siteOf}
 use Rattle.site.specs.Laws.Read.{present-is, present-in, marked-is, marked-in, place-is, row-is, target-is, link-in, functional-in}
 use Rattle.site.specs.Laws.Target.{nil-none, target-byte}
-use Rattle.going.specs.Joins.{neitherNil, joins}
+use Rattle.going.specs.Joins.{endsOnSite, joins}
 use Rattle.going.specs.Laws.Goes.{end-there}
 use Rattle.site_changes.specs.Change.{withName, withSlot, withoutSlot, withLabel, withoutLabel, withLink, withoutLink, withTarget, withoutTarget}
 use Rattle.site_changes.specs.Laws.Cases.{cond-yes, cond-no, same-by, takes, Changes, puts-changes, takes-changes, at-cond, cond-off, alone-put}
@@ -239,7 +239,7 @@ unfolding joins
 joined S f x y hg hf hx hb j =
     let u : ℕ = target (siteOf S) f x in
     let b : u ≡ getD S (targetAt f x) 0 = target-byte S f x hg hf hx hb in
-    let free : (not (functional f) || (same u 0 || same u y)) ≡ true = and-r (neitherNil x y) _ j in (
+    let free : (not (functional f) || (same u 0 || same u y)) ≡ true = and-r (endsOnSite x y) _ j in (
       either
           (or-out (not (functional f)) _ free)
           (λ p. absurd (not-out (functional f) p (functional-in f hg hf)))
