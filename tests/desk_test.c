@@ -176,6 +176,7 @@ static struct {
     unsigned long targets[TARGETS];                          /* of sheets that went through */
     unsigned long over[2][BOTH_WAYS];                        /* diamonds and boxes over a link by which a slot is re-homed, in jobs that were done */
     unsigned long editions[COMPARISONS];                     /* sheets in both editions */
+    unsigned long sheets[2][2];                              /* sheets that did not go through, and that did, in each edition */
 } met;
 
 /* Each node that the last one of the condition reaches. */
@@ -537,6 +538,8 @@ static uint32_t try_apply(const size_t *lengths)
     check_buffers("desk_apply", 1, other.reason, -1);
     check_input("desk_apply", a);
     check_input("desk_apply", b);
+    if (other.reason == DESK_OK || other.reason == DESK_NOT_THROUGH)
+        met.sheets[other.reason == DESK_OK][edition == DESK_EDITION_2]++;
     if (other.reason == DESK_OK) {
         meet_edits(met.through, sheet.length / DESK_EDIT_BYTES);
         meet_operands();
@@ -3148,13 +3151,13 @@ static void build_kind(int kind, int param)
         add_node(MU, 0, 1, 0);
 }
 
-/* The edit at hand and a node of each kind, with each way and with the parameters 0 and 1. */
+/* The edit at hand and a node of each kind, with each way, with label 1, with names 2 and 3, and with others. */
 static void try_kinds(void)
 {
     static const int with_sheet[] = {APPLY, THROUGH, REWRITE, JOB};
     for (int kind = 0; kind < KINDS; kind++) {
-        const bool over = kind == DIAMOND || kind == BOX, leaf = LABEL <= kind && kind <= NAME;
-        for (int param = 0; param < (over ? WAYS : leaf ? 2 : 1); param++) {
+        const bool over = kind == DIAMOND || kind == BOX;
+        for (int param = 0; param < (over ? WAYS : kind == NAME ? 4 : kind == LABEL ? 2 : 1); param++) {
             build_kind(kind, param);
             build_file();
             for (size_t k = kind == 0 ? 0 : 2; k < sizeof with_sheet / sizeof *with_sheet; k++)
@@ -3163,20 +3166,33 @@ static void try_kinds(void)
     }
 }
 
+/* An operand for the edits below: names 2 and 3, label 1, an absent slot. */
+static int operand(int op, int number, int link)
+{
+    switch (operands[op][number]) {
+    case 'm':
+    case 'f':
+        return link;
+    case 'p':
+        return 1;
+    case 'k':
+        return 9;
+    case '-':
+        return 0;
+    }
+    return 2 + number % 2;
+}
+
 /* Each operation, by each link that it takes, from a slot that has a target by all functional links. */
 static void try_every_edit(void)
 {
     build_targets(GENERAL, 2, 1);
     for (int op = 0; op < OPERATIONS; op++)
         for (int link = 0; link < LINKS; link++) {
-            const char *kinds = operands[op];
-            const bool with_link = strchr(kinds, 'm') || strchr(kinds, 'f'), functional = strchr(kinds, 'f');
-            if (with_link ? functional && link < GENERAL : link > 0)
+            const bool any = strchr(operands[op], 'm'), functional = strchr(operands[op], 'f');
+            if (!any && (functional ? link < GENERAL : link > 0))
                 continue;
-            int values[3];
-            for (int k = 0; k < 3; k++)
-                values[k] = kinds[k] == 'm' || kinds[k] == 'f' ? link : kinds[k] == 'k' ? 9 : kinds[k] == '-' ? 0 : kinds[k] == 'p' ? 1 : 2 + k % 2;
-            build_sheet(op, values[0], values[1], values[2]);
+            build_sheet(op, operand(op, 0, link), operand(op, 1, link), operand(op, 2, link));
             try_kinds();
         }
 }
@@ -3400,6 +3416,8 @@ static const struct row {
     {"re-home, diamond", met.over[0], BOTH_WAYS, ALL(BOTH_WAYS)},
     {"re-home, box", met.over[1], BOTH_WAYS, ALL(BOTH_WAYS)},
     {"both editions", met.editions, COMPARISONS, ALL(COMPARISONS)},
+    {"edition, stuck", met.sheets[0], 2, ALL(2)},
+    {"edition, through", met.sheets[1], 2, ALL(2)},
     {"label refused", met.strays, STRAYS, ALL(STRAYS)},
     {"list, rounds", met.standings, STANDINGS, ALL(STANDINGS)},
     {"job, rounds", met.shareds, SHAREDS, ALL(SHAREDS)},
