@@ -69,7 +69,7 @@ edits-back d [] h = refl
 edits-back d (e ∷ es) h =
     read-back d e (and-l _ _ h) (bytesOf es) ∙ ap (λ xs. e ∷ xs) (edits-back d es (and-r (inEdition d e) _ h))
 
--- edition 1 reads as document 01 has it
+-- edition 1 reads operations 0 to 8 as the nine edits of docs/SPEC.md, "The sheet", without RT
 pub read-first : (o x y z : ℕ)
     → readEdit 1 o x y z ≡ getD (CN1 x y ∷ CN2 x y z ∷ AP x y ∷ DP x y ∷ AT x y z ∷ DT1 x y z ∷ DT2 x y ∷ AS x y ∷ []) o (DS x)
 unfolding readEdit linkEdit same
