@@ -6,5 +6,3 @@ pub mod Applying
 pub mod Answered
 -- what an inner function tests
 pub mod Inputs
--- what is proved of them
-pub mod Laws

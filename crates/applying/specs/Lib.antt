@@ -2,5 +2,3 @@
 pub mod Stuck
 pub mod Refusal
 pub mod Applies
--- what is proved of them
-pub mod Laws

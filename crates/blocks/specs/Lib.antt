@@ -1,5 +1,3 @@
 -- The rows of blocks as texts, written into the buffer of a rewritten table.
 pub mod Texts
 pub mod Write
--- what is proved of them
-pub mod Laws

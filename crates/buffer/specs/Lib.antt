@@ -1,2 +1,1 @@
 -- What is proved of loops that fill buffers.
-pub mod Laws

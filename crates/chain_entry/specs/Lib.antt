@@ -6,5 +6,3 @@ pub mod Answer
 pub mod Chaining
 -- what its inner functions promise
 pub mod Answered
--- what is proved of them
-pub mod Laws

@@ -3,4 +3,3 @@ pub mod Rows
 -- what they say
 pub mod Said
 -- and that it is so
-pub mod Laws

@@ -4,12 +4,12 @@ use Rattle.finite.specs.Tests.{any}
 use Rattle.bitset.specs.Set.{set_slots, has, Is}
 use Rattle.semantics.specs.Form.{Way}
 use Rattle.semantics.specs.Holds.{Set, Model}
-use Rattle.semantics.specs.Laws.Agree.{◌≐◌}
+use Rattle.semantics.specs.Agree.{◌≐◌}
 use Rattle.listing_sets.specs.Offsets.{set_at}
 use Rattle.chains.specs.Chain.{SomeChain, ReachedSet}
-use Rattle.chains.specs.Laws.Layers.{within, Rest}
-use Rattle.chains.specs.Laws.Shortest.{Away}
-use Rattle.chains.specs.Laws.Directed.{into, exact, meeting, Layered}
+use Rattle.chains.specs.Layers.{within, Rest}
+use Rattle.chains.specs.Shortest.{Away}
+use Rattle.chains.specs.Directed.{into, exact, meeting, Layered}
 
 -- r holds the slots outside the set from which the way w leads into `front`
 pub record Fresh (M : Model) (w : Way) (front set r : List ℕ) : Type 0 where

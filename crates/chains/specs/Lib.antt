@@ -2,5 +2,8 @@
 pub mod Chain
 -- their bytes, and the condition that says whether there is a chain
 pub mod Given
--- what is proved of them
-pub mod Laws
+pub mod Layers
+pub mod Reached
+pub mod Shortest
+pub mod Directed
+pub mod Loops

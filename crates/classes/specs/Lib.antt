@@ -1,5 +1,3 @@
 -- The class numbers of a site's slots, and the features of a slot.
 pub mod Classes
 pub mod Features
--- what is proved of them
-pub mod Laws

@@ -2,7 +2,7 @@
 ghost use Rattle.std.specs.Prelude.{◌≡◌, ◌+◌, ◌*◌, ◌≤◌, ◌<◌, length, get_or};
 ghost use Rattle.finite.specs.Tests.{same, any, all};
 ghost use Rattle.bitset.specs.Set.{set_bytes, set_slots};
-ghost use Rattle.semantics.specs.Laws.Refine.{bisimilar_in};
+ghost use Rattle.semantics.specs.Refine.{bisimilar_in};
 ghost use Rattle.site.specs.Layout.{site_bytes, rows_bytes};
 ghost use Rattle.site.specs.Site.{site_of};
 ghost use Rattle.partition.specs.Gains.{Gains};

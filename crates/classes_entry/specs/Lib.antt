@@ -6,5 +6,3 @@ pub mod Answer
 pub mod Classing
 -- what its inner function promises
 pub mod Answered
--- what is proved of them
-pub mod Laws

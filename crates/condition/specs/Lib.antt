@@ -2,5 +2,3 @@
 pub mod Bytes
 pub mod Limits
 pub mod Refusal
--- what is proved of them
-pub mod Laws

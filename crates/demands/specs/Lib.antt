@@ -12,5 +12,3 @@ pub mod Rounds
 pub mod Chain
 -- the demands on the edition
 pub mod Editions
--- what is proved of them
-pub mod Laws

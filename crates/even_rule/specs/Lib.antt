@@ -4,5 +4,3 @@ pub mod Free
 pub mod Judged
 -- how the pass keeps them
 pub mod Masks
--- what is proved of them
-pub mod Laws

@@ -2,5 +2,3 @@
 pub mod Tests
 -- numbers that are bytes
 pub mod Bytes
--- what is proved of them
-pub mod Laws

@@ -1,1 +1,1 @@
-// Tests of numbers below a bound: definitions and laws alone, in specs/.
+// Tests of numbers below a bound: definitions and laws alone, in specs/ and proofs/.

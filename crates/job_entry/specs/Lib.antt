@@ -4,5 +4,3 @@ pub mod Refusal
 pub mod Answered
 -- item 1 by one test
 pub mod Steps
--- what is proved of them
-pub mod Laws

@@ -7,5 +7,3 @@ pub mod Answer
 pub mod Job
 -- what it and its parts answer
 pub mod Steps
--- what is proved of them
-pub mod Laws

@@ -2,5 +2,3 @@
 pub mod Text
 -- what it is to write text into a buffer
 pub mod Put
--- what is proved of them
-pub mod Laws

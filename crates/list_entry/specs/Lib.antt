@@ -8,5 +8,3 @@ pub mod Listing
 pub mod Answered
 -- how its inputs are judged
 pub mod Inputs
--- what is proved of them
-pub mod Laws

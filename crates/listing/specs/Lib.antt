@@ -4,5 +4,3 @@ pub mod Listed
 pub mod Limited
 -- what the evaluator keeps
 pub mod State
--- what is proved of them
-pub mod Laws

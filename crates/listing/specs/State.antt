@@ -4,9 +4,9 @@ use Rattle.std.specs.Prelude.{◌≡◌, List, true, ℕ, suc, ◌+◌, ◌-◌,
 use Rattle.semantics.specs.Form.{free}
 use Rattle.semantics.specs.Holds.{Set, Env}
 use Rattle.semantics.specs.Table.{tree_at, nodes_fit, even_table}
-use Rattle.semantics.specs.Laws.Eval.{eval}
-use Rattle.semantics.specs.Laws.Agree.{◌≐◌}
-use Rattle.rounds.specs.Laws.Count.{rounds}
+use Rattle.semantics.specs.Eval.{eval}
+use Rattle.semantics.specs.Agree.{◌≐◌}
+use Rattle.rounds.specs.Count.{rounds}
 use Rattle.site.specs.Layout.{site_bytes}
 use Rattle.site.specs.Site.{site_of}
 use Rattle.condition.specs.Bytes.{table_of}

@@ -4,7 +4,7 @@
 ghost use Rattle.std.specs.Prelude.{◌≡◌, ◌⊎◌, true, false, ◌+◌, ◌-◌, ◌*◌, ◌≤◌, min, length, replicate};
 ghost use Rattle.bitset.specs.Set.{set_bytes, has};
 ghost use Rattle.semantics.specs.Table.{form_of, nodes_fit};
-ghost use Rattle.semantics.specs.Laws.Agree.{◌≐◌};
+ghost use Rattle.semantics.specs.Agree.{◌≐◌};
 ghost use Rattle.site.specs.Layout.{site_bytes};
 ghost use Rattle.site.specs.Site.{site_of};
 ghost use Rattle.verdict.specs.declared.Verdict.TheVariants.{Accepted};

@@ -5,7 +5,7 @@ use Rattle.finite.specs.Tests.{same, below, bit}
 use Rattle.bitset.specs.Set.{set_bytes, set_slots, has}
 use Rattle.limits.specs.Limits.{variables, table_nodes}
 use Rattle.semantics.specs.Holds.{Set, put}
-use Rattle.semantics.specs.Laws.Agree.{◌≐◌}
+use Rattle.semantics.specs.Agree.{◌≐◌}
 use Rattle.listing_sets.specs.Offsets.{set_at, valuation}
 
 -- a set of 2,048 nodes takes this many sets of slots

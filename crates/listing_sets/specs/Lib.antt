@@ -1,5 +1,3 @@
 -- Sets at their offsets in a buffer, and what a node makes of its children's sets.
 pub mod Offsets
 pub mod Nodes
--- what is proved of them
-pub mod Laws

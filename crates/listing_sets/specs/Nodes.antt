@@ -5,8 +5,8 @@ use Rattle.limits.specs.Limits.{mu_no}
 use Rattle.semantics.specs.Form.{var}
 use Rattle.semantics.specs.Holds.{Set, Model}
 use Rattle.semantics.specs.Table.{kind_of, Node, build}
-use Rattle.semantics.specs.Laws.FixedPoint.{none, full}
-use Rattle.semantics.specs.Laws.Eval.{eval}
+use Rattle.semantics.specs.FixedPoint.{none, full}
+use Rattle.semantics.specs.Eval.{eval}
 
 -- what the node x makes of S, its left child's set, and T, its right child's: the set of its kind over variables 0 and 1 that have these
 unfoldable pub node_makes : Model → Node → Set → Set → Set

@@ -5,7 +5,7 @@ use Rattle.finite.specs.Tests.{below}
 use Rattle.bitset.specs.Set.{set_bytes, set_slots, has}
 use Rattle.limits.specs.Limits.{variables}
 use Rattle.semantics.specs.Holds.{Set, Env}
-use Rattle.semantics.specs.Laws.Agree.{◌≐◌}
+use Rattle.semantics.specs.Agree.{◌≐◌}
 
 -- how many bytes the variables' sets take
 abbrev pub env_bytes : ℕ

@@ -1,4 +1,2 @@
 -- The slots of a set from which a way leads into another set.
 pub mod Among
--- what is proved of them
-pub mod Laws

@@ -2,5 +2,3 @@
 pub mod Nodes
 -- what is left when it is put behind a table
 pub mod Behind
--- what is proved of them
-pub mod Laws

@@ -2,5 +2,3 @@
 pub mod Gains
 pub mod Rows
 pub mod Partition
--- what is proved of them
-pub mod Laws

@@ -3,7 +3,7 @@ use Rattle.std.specs.Prelude.{◌≡◌, true, ◌&&◌, List, ℕ, ◌+◌, ◌
 use Rattle.finite.specs.Tests.{same, any, first}
 use Rattle.bitset.specs.Set.{set_slots}
 use Rattle.semantics.specs.Holds.{Model}
-use Rattle.semantics.specs.Laws.Refine.{Rel, bisimilar_in}
+use Rattle.semantics.specs.Refine.{Rel, bisimilar_in}
 use Rattle.partition.specs.Rows.{same_row, see_same, Neighbours}
 
 -- slot s, by its number in p, and slot t, by its number in q, are in one class

@@ -1,1 +1,1 @@
-// Partitions of the slots by rows of bits: definitions and laws alone, in specs/.
+// Partitions of the slots by rows of bits: definitions and laws alone, in specs/ and proofs/.

@@ -1,3 +1,2 @@
 -- Items 1, 15, 16 and 17, and what is proved of all items.
 pub mod Refusal
-pub mod Laws

@@ -4,5 +4,3 @@ pub mod Refusal
 pub mod Answered
 -- what an inner function tests
 pub mod Inputs
--- what is proved of them
-pub mod Laws

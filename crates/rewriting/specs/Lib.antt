@@ -6,5 +6,3 @@ pub mod Answer
 pub mod Rewriting
 -- how far the passes of a sheet have come, and the answer
 pub mod State
--- what is proved of them
-pub mod Laws

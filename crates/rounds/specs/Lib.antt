@@ -1,4 +1,3 @@
 -- How many rounds listing a condition makes.
 pub mod Makes
--- what is proved of it
-pub mod Laws
+pub mod Count

@@ -10,5 +10,3 @@ pub mod Doubled
 pub mod Names
 -- no labels off-site
 pub mod OffSite
--- what is proved of them
-pub mod Laws

@@ -1,1 +1,1 @@
-// No code: the examples of `samples` over bytes, as theorems in specs/.
+// No code: the examples of `samples` over bytes, as theorems in proofs/.

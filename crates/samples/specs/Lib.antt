@@ -3,4 +3,3 @@ pub mod Site
 pub mod Rows
 pub mod Said
 pub mod Through
-pub mod Laws

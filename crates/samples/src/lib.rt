@@ -1,1 +1,1 @@
-// No code: small examples worked out by hand, as theorems in specs/.
+// No code: small examples worked out by hand, as theorems in proofs/.

@@ -5,5 +5,8 @@ pub mod Table
 pub mod Edit
 pub mod Block
 pub mod Bisimulation
--- what is proved of them
-pub mod Laws
+pub mod Monotone
+pub mod FixedPoint
+pub mod Eval
+pub mod Agree
+pub mod Refine

@@ -1,1 +1,1 @@
-// The meaning of sites, conditions, sheets and classes: definitions and theorems alone, in specs/.
+// The meaning of sites, conditions, sheets and classes: definitions and theorems alone, in specs/ and proofs/.

@@ -1,3 +1,2 @@
 -- What the exports do with bytes of any length, and the laws of it.
 pub mod Length
-pub mod Laws

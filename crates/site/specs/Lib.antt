@@ -3,5 +3,3 @@ pub mod Layout
 pub mod Site
 pub mod Refusal
 pub mod Inside
--- what is proved of them
-pub mod Laws

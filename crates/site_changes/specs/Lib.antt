@@ -1,4 +1,2 @@
 -- Changes of a site at slots, of which the edits are made.
 pub mod Change
--- what is proved of them
-pub mod Laws

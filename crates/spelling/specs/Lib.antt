@@ -1,5 +1,3 @@
 -- Blocks as rows, and the row of a node's block.
 pub mod Rows
 pub mod Spelling
--- what is proved of them
-pub mod Laws

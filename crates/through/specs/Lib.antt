@@ -1,4 +1,2 @@
 -- The condition for going through. A reader has to believe the first file beside those of `semantics`.
 pub mod Through
--- what is proved of it
-pub mod Laws

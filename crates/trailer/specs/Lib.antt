@@ -4,5 +4,3 @@ pub mod Refusal
 pub mod Pieces
 -- what the trailer is read as
 pub mod Cuts
--- what is proved of them
-pub mod Laws

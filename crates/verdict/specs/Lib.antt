@@ -1,4 +1,2 @@
 -- The outcome of a check.
 pub mod Verdict
--- what is proved of it
-pub mod Laws

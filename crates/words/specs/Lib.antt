@@ -1,3 +1,3 @@
 -- Numbers as bytes, low byte first, and their laws.
 pub mod Word
-pub mod Laws
+pub mod Eight

@@ -1,6 +1,6 @@
 -- `apply_entry::apply` meets its contract: the inputs are judged, then the sheet is applied or refused.
 use Rattle.std.proofs.Common.{sym, ◌∙◌, arith, rules}
-use Rattle.apply_entry.specs.Laws.Applying.{judged_accepted, answered_applied, answered_refused}
+use Rattle.apply_entry.proofs.Laws.Applying.{judged_accepted, answered_applied, answered_refused}
 use Rattle.apply_entry.proofs.apply.Statement.{statement}
 use Rattle.apply_entry.proofs.apply.Tie as tie
 

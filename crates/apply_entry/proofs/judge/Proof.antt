@@ -1,7 +1,7 @@
 -- The items in order: the result, the edition, then the site and the sheet.
 use Rattle.std.proofs.Common.{arith, rules}
-use Rattle.refusals.specs.Laws.Items.{then_refused, then_next}
-use Rattle.apply_entry.specs.Laws.Applying.{judged_result, judged_rest}
+use Rattle.refusals.proofs.Laws.Items.{then_refused, then_next}
+use Rattle.apply_entry.proofs.Laws.Applying.{judged_result, judged_rest}
 use Rattle.apply_entry.proofs.judge.Statement.{statement}
 use Rattle.apply_entry.proofs.judge.Tie as tie
 

@@ -1,6 +1,6 @@
 -- The site, then the sheet.
 use Rattle.std.proofs.Common.{rules}
-use Rattle.refusals.specs.Laws.Items.{then_refused, then_next}
+use Rattle.refusals.proofs.Laws.Items.{then_refused, then_next}
 use Rattle.apply_entry.proofs.judge_pieces.Statement.{statement}
 use Rattle.apply_entry.proofs.judge_pieces.Tie as tie
 

@@ -1,10 +1,10 @@
 -- What the run of the edits left, or zeros.
 use Rattle.std.proofs.Common.{◌∙◌, arith, rules}
-use Rattle.buffer.specs.Laws.{copied_whole}
-use Rattle.site.specs.Laws.Valid.{accepted_out}
-use Rattle.sheet.specs.Laws.Accepted.{accepted_sheet}
-use Rattle.sheet.specs.Laws.Read.{edits-length}
-use Rattle.applying.specs.Laws.Run.{ran_through, ran_stuck}
+use Rattle.buffer.proofs.Laws.{copied_whole}
+use Rattle.site.proofs.Laws.Valid.{accepted_out}
+use Rattle.sheet.proofs.Laws.Accepted.{accepted_sheet}
+use Rattle.sheet.proofs.Laws.Read.{edits-length}
+use Rattle.applying.proofs.Laws.Run.{ran_through, ran_stuck}
 use Rattle.applying.proofs.apply.Statement.{statement}
 use Rattle.applying.proofs.apply.Tie as tie
 

@@ -2,8 +2,8 @@
 use Rattle.std.specs.Prelude.{◌-◌}
 use Rattle.std.proofs.Common.{sym, ◌∙◌, arith}
 use borrow.Author.Tests.{not-true, not-false}
-use Rattle.sheet.specs.Laws.Accepted.{accepted_at}
-use Rattle.applying.specs.Laws.Run.{Progress, run_start, run_more, run_stop, run_end}
+use Rattle.sheet.proofs.Laws.Accepted.{accepted_at}
+use Rattle.applying.proofs.Laws.Run.{Progress, run_start, run_more, run_stop, run_end}
 use Rattle.applying.proofs.run.Statement.{statement}
 use Rattle.applying.proofs.run.Tie as tie
 

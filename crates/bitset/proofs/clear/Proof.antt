@@ -2,8 +2,8 @@
 use Rattle.std.specs.Prelude.{◌-◌}
 use Rattle.std.proofs.Common.{arith}
 use Rattle.bitset.specs.Set.{set_bytes}
-use Rattle.bitset.specs.Laws.Bytes.{has_empty}
-use Rattle.bitset.specs.Laws.Update.{Filled, fill_none, fill_more, fill_done}
+use Rattle.bitset.proofs.Laws.Bytes.{has_empty}
+use Rattle.bitset.proofs.Laws.Update.{Filled, fill_none, fill_more, fill_done}
 use Rattle.bitset.proofs.clear.Statement.{statement}
 use Rattle.bitset.proofs.clear.Tie as tie
 

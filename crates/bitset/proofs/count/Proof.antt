@@ -3,7 +3,7 @@ use Rattle.std.specs.Prelude.{◌≡◌, refl, ◌+◌, ◌-◌, ◌*◌, ◌≤
 use Rattle.std.proofs.Common.{arith}
 use Rattle.finite.specs.Tests.{count}
 use Rattle.bitset.specs.Set.{set_slots, has}
-use Rattle.bitset.specs.Laws.Words.{count_word, count_fits}
+use Rattle.bitset.proofs.Laws.Words.{count_word, count_fits}
 use Rattle.bitset.proofs.count.Statement.{statement}
 use Rattle.bitset.proofs.count.Tie as tie
 

@@ -2,9 +2,9 @@
 use Rattle.std.specs.Prelude.{◌≡◌, false, ◌+◌, ◌-◌, ◌*◌, ◌≤◌}
 use Rattle.std.proofs.Common.{sym, arith}
 use Rattle.finite.specs.Tests.{any}
-use Rattle.finite.specs.Laws.First.{none_start, first-none}
+use Rattle.finite.proofs.Laws.First.{none_start, first-none}
 use Rattle.bitset.specs.Set.{set_slots, has}
-use Rattle.bitset.specs.Laws.Words.{none-word, lowest_word, lowest_fits}
+use Rattle.bitset.proofs.Laws.Words.{none-word, lowest_word, lowest_fits}
 use Rattle.bitset.proofs.lowest.Statement.{statement}
 use Rattle.bitset.proofs.lowest.Tie as tie
 

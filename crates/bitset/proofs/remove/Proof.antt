@@ -1,7 +1,7 @@
 -- The code computes the weight of the slot as 1 << (s % 8).
 use Rattle.std.proofs.Common.{rules, arith}
 use Rattle.bitset.specs.Set.{removed}
-use Rattle.bitset.specs.Laws.Slot.{weight}
+use Rattle.bitset.proofs.Laws.Slot.{weight}
 use Rattle.bitset.proofs.remove.Statement.{statement}
 use Rattle.bitset.proofs.remove.Tie as tie
 

@@ -2,8 +2,8 @@
 use Rattle.std.specs.Prelude.{Bool, ◌||◌, List, ℕ, replicate}
 use Rattle.std.proofs.Common.{◌∙◌, ap, arith, rules}
 use Rattle.finite.specs.Tests.{same}
-use Rattle.bitset.specs.Laws.Slot.{has-inserted}
-use Rattle.bitset.specs.Laws.Bytes.{has_empty}
+use Rattle.bitset.proofs.Laws.Slot.{has-inserted}
+use Rattle.bitset.proofs.Laws.Bytes.{has_empty}
 use Rattle.bitset.specs.Set.{set_bytes, has}
 use Rattle.bitset.proofs.single.Statement.{statement}
 use Rattle.bitset.proofs.single.Tie as tie

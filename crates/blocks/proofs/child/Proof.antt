@@ -1,6 +1,6 @@
 -- A child by its digit.
 use Rattle.std.proofs.Common.{arith}
-use Rattle.finite.specs.Laws.Below.{eq_same, ne_same, below_in, below-not}
+use Rattle.finite.proofs.Laws.Below.{eq_same, ne_same, below_in, below-not}
 use Rattle.blocks.specs.Texts.{child_of}
 use Rattle.blocks.proofs.child.Statement.{statement}
 use Rattle.blocks.proofs.child.Tie as tie

@@ -1,5 +1,5 @@
 -- The parameter of a copy.
-use Rattle.finite.specs.Laws.Below.{below_in, below-not}
+use Rattle.finite.proofs.Laws.Below.{below_in, below-not}
 use Rattle.spelling.specs.Spelling.{kept_by}
 use Rattle.blocks.proofs.kept.Statement.{statement}
 use Rattle.blocks.proofs.kept.Tie as tie

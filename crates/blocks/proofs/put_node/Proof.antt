@@ -1,6 +1,6 @@
 -- One node written: six bytes.
 use Rattle.std.proofs.Common.{arith, length-set}
-use Rattle.blocks.specs.Laws.Write.{put-bytes}
+use Rattle.blocks.proofs.Laws.Write.{put-bytes}
 use Rattle.blocks.proofs.put_node.Statement.{statement}
 use Rattle.blocks.proofs.put_node.Tie as tie
 

@@ -1,6 +1,6 @@
 -- How many nodes a block has.
 use Rattle.std.proofs.Common.{arith}
-use Rattle.blocks.specs.Laws.Rows.{sized_copy, sized_row}
+use Rattle.blocks.proofs.Laws.Rows.{sized_copy, sized_row}
 use Rattle.blocks.proofs.size.Statement.{statement}
 use Rattle.blocks.proofs.size.Tie as tie
 

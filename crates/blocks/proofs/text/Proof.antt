@@ -5,7 +5,7 @@ use Rattle.semantics.specs.Table.{kind_no}
 use Rattle.semantics.specs.Block.{size, root, emit}
 use Rattle.spelling.specs.Rows.{rows}
 use Rattle.blocks.specs.Texts.{coded, coded_at, group_of, text_of, text_at}
-use Rattle.finite.specs.Laws.Arms.{missed}
+use Rattle.finite.proofs.Laws.Arms.{missed}
 use Rattle.blocks.proofs.text.Statement.{statement}
 use Rattle.blocks.proofs.text.Tie as tie
 

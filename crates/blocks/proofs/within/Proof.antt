@@ -1,6 +1,6 @@
 -- A field that some kinds use.
 use Rattle.std.proofs.Common.{arith}
-use Rattle.finite.specs.Laws.Below.{below_in, below-not}
+use Rattle.finite.proofs.Laws.Below.{below_in, below-not}
 use Rattle.spelling.specs.Spelling.{used_by}
 use Rattle.blocks.proofs.within.Statement.{statement}
 use Rattle.blocks.proofs.within.Tie as tie

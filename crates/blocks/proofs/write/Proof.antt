@@ -1,7 +1,7 @@
 -- A block written: the copy of a node, or a row.
 use Rattle.std.proofs.Common.{ap, arith}
 use Rattle.semantics.specs.Block.{size}
-use Rattle.blocks.specs.Laws.Rows.{spelled-row, spelled-leaf, sized_copy, copy_written}
+use Rattle.blocks.proofs.Laws.Rows.{spelled-row, spelled-leaf, sized_copy, copy_written}
 use Rattle.blocks.proofs.write.Statement.{statement}
 use Rattle.blocks.proofs.write.Tie as tie
 

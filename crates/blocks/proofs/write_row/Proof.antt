@@ -1,8 +1,8 @@
 -- The text of a row, node by node.
 use Rattle.std.specs.Prelude.{◌≡◌, refl, ◌+◌, ◌*◌, ◌-◌, ◌≤◌, length}
 use Rattle.std.proofs.Common.{◌∙◌, arith}
-use Rattle.blocks.specs.Laws.Write.{Put, put-none, put_more, put-length}
-use Rattle.blocks.specs.Laws.Rows.{node_in, text_size, row_written}
+use Rattle.blocks.proofs.Laws.Write.{Put, put-none, put_more, put-length}
+use Rattle.blocks.proofs.Laws.Rows.{node_in, text_size, row_written}
 use Rattle.blocks.proofs.write_row.Statement.{statement}
 use Rattle.blocks.proofs.write_row.Tie as tie
 

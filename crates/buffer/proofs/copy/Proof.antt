@@ -1,7 +1,7 @@
 -- `buffer::copy` meets its contract: the first i bytes are those of the source.
 use Rattle.std.specs.Prelude.{◌≡◌, refl, ◌++◌, ℕ, ◌-◌, ◌≤◌, length, take, drop}
 use Rattle.std.proofs.Common.{◌∙◌, ap, arith, length-set}
-use Rattle.buffer.specs.Laws.{copied_more}
+use Rattle.buffer.proofs.Laws.{copied_more}
 use Rattle.buffer.proofs.copy.Statement.{statement}
 use Rattle.buffer.proofs.copy.Tie as tie
 

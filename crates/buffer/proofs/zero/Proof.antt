@@ -1,5 +1,5 @@
 -- `buffer::zero` meets its contract: the first k bytes are 0.
-use Rattle.buffer.specs.Laws.{filled}
+use Rattle.buffer.proofs.Laws.{filled}
 use Rattle.std.specs.Prelude.{length, drop, replicate, ◌-◌, ◌≤◌, ◌++◌, ◌≡◌, refl}
 use Rattle.std.proofs.Common.{length-set, arith, ◌∙◌}
 use borrow.Author.Fill.{fill_none, fill_more}

@@ -1,7 +1,7 @@
 -- It is judged, and then searched or refused.
 use Rattle.std.proofs.Common.{arith, rules}
-use Rattle.site.specs.Laws.Valid.{accepted_out}
-use Rattle.chain_entry.specs.Laws.Chaining.{accepts, start_slot, answered_searched, answered_refused}
+use Rattle.site.proofs.Laws.Valid.{accepted_out}
+use Rattle.chain_entry.proofs.Laws.Chaining.{accepts, start_slot, answered_searched, answered_refused}
 use Rattle.chain_entry.proofs.chain.Statement.{statement}
 use Rattle.chain_entry.proofs.chain.Tie as tie
 

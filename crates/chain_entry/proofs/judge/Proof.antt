@@ -1,6 +1,6 @@
 -- The items in order: the three buffers, then the other inputs.
 use Rattle.std.proofs.Common.{arith, rules}
-use Rattle.chain_entry.specs.Laws.Chaining.{judged_chain, judged_set, judged_work, judged_inputs}
+use Rattle.chain_entry.proofs.Laws.Chaining.{judged_chain, judged_set, judged_work, judged_inputs}
 use Rattle.chain_entry.proofs.judge.Statement.{statement}
 use Rattle.chain_entry.proofs.judge.Tie as tie
 

@@ -1,8 +1,8 @@
 -- The items in order: those of the site and the condition, then 17.
 use Rattle.std.proofs.Common.{sym, ◌∙◌, rules}
-use Rattle.site.specs.Laws.Valid.{accepted_out}
-use Rattle.refusals.specs.Laws.Items.{then_out}
-use Rattle.even_rule.specs.Laws.Judged.{judged_refused, judged_other}
+use Rattle.site.proofs.Laws.Valid.{accepted_out}
+use Rattle.refusals.proofs.Laws.Items.{then_out}
+use Rattle.even_rule.proofs.Laws.Judged.{judged_refused, judged_other}
 use Rattle.chain_entry.proofs.judge_inputs.Statement.{statement}
 use Rattle.chain_entry.proofs.judge_inputs.Tie as tie
 

@@ -1,7 +1,7 @@
 -- Item 17.
 use Rattle.std.proofs.Common.{sym, ◌∙◌, rules}
 use Rattle.site.specs.Site.{site_of}
-use Rattle.refusals.specs.Laws.Items.{start_in_lem, start_not}
+use Rattle.refusals.proofs.Laws.Items.{start_in_lem, start_not}
 use Rattle.chain_entry.proofs.judge_start.Statement.{statement}
 use Rattle.chain_entry.proofs.judge_start.Tie as tie
 

@@ -1,6 +1,6 @@
 -- The goal is listed, and then the chain or the set is found.
 use Rattle.std.proofs.Common.{arith, rules}
-use Rattle.chain_entry.specs.Laws.Chaining.{searched_given, searched_reached}
+use Rattle.chain_entry.proofs.Laws.Chaining.{searched_given, searched_reached}
 use Rattle.chain_entry.proofs.search.Statement.{statement}
 use Rattle.chain_entry.proofs.search.Tie as tie
 

@@ -1,7 +1,7 @@
 -- By the way, the start, and the present set.
 use Rattle.std.proofs.Common.{arith, rules}
 use Rattle.site.specs.Site.{site_of}
-use Rattle.chain_entry.specs.Laws.Chaining.{way_unfit, start_unfit, start_fit}
+use Rattle.chain_entry.proofs.Laws.Chaining.{way_unfit, start_unfit, start_fit}
 use Rattle.chain_entry.proofs.start_fits.Statement.{statement}
 use Rattle.chain_entry.proofs.start_fits.Tie as tie
 

@@ -5,7 +5,7 @@ use Rattle.semantics.specs.Table.{way_of}
 use Rattle.site.specs.Site.{site_of}
 use Rattle.listing_sets.specs.Offsets.{set_at}
 use Rattle.chaining.specs.Walk.{Walking}
-use Rattle.chaining.specs.Laws.Walk.{zeros_length, walk_start, walk_next, walk_small, walk_more, walk_done}
+use Rattle.chaining.proofs.Laws.Walk.{zeros_length, walk_start, walk_next, walk_small, walk_more, walk_done}
 use Rattle.chaining.proofs.descend.Statement.{statement}
 use Rattle.chaining.proofs.descend.Tie as tie
 

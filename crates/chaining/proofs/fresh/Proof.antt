@@ -1,6 +1,6 @@
 -- Among the slots that are not in the set.
 use Rattle.std.proofs.Common.{rules}
-use Rattle.chaining.specs.Laws.Sets.{fresh_is}
+use Rattle.chaining.proofs.Laws.Sets.{fresh_is}
 use Rattle.chaining.proofs.fresh.Statement.{statement}
 use Rattle.chaining.proofs.fresh.Tie as tie
 

@@ -1,6 +1,6 @@
 -- The rounds back meet the start; or they do not, and the rounds on tell what can be reached.
 use Rattle.std.proofs.Common.{arith, rules}
-use Rattle.chaining.specs.Laws.Searched.{goal_found, goal_reached}
+use Rattle.chaining.proofs.Laws.Searched.{goal_found, goal_reached}
 use Rattle.chaining.proofs.from_goal.Statement.{statement}
 use Rattle.chaining.proofs.from_goal.Tie as tie
 

@@ -1,6 +1,6 @@
 -- The rounds on meet the goal, and of their slots those that lead on are kept; or they tell what can be reached.
 use Rattle.std.proofs.Common.{arith, rules}
-use Rattle.chaining.specs.Laws.Searched.{start_none, start_found}
+use Rattle.chaining.proofs.Laws.Searched.{start_none, start_found}
 use Rattle.chaining.proofs.from_start.Statement.{statement}
 use Rattle.chaining.proofs.from_start.Tie as tie
 

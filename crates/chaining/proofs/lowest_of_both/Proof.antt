@@ -1,6 +1,6 @@
 -- The two sets, met.
 use Rattle.std.proofs.Common.{rules}
-use Rattle.chaining.specs.Laws.Sets.{lowest_met}
+use Rattle.chaining.proofs.Laws.Sets.{lowest_met}
 use Rattle.chaining.proofs.lowest_of_both.Statement.{statement}
 use Rattle.chaining.proofs.lowest_of_both.Tie as tie
 

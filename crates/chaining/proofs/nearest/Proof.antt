@@ -1,6 +1,6 @@
 -- The slots of the set from which the way back leads to x.
 use Rattle.std.proofs.Common.{rules}
-use Rattle.chaining.specs.Laws.Sets.{nearest_is}
+use Rattle.chaining.proofs.Laws.Sets.{nearest_is}
 use Rattle.chaining.proofs.nearest.Statement.{statement}
 use Rattle.chaining.proofs.nearest.Tie as tie
 

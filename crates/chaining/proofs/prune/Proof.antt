@@ -3,12 +3,12 @@ use Rattle.std.specs.Prelude.{◌≡◌, ◌-◌, ◌≤◌, length}
 use Rattle.std.proofs.Common.{sym, arith}
 use Rattle.bitset.specs.Set.{has}
 use Rattle.semantics.specs.Table.{way_of}
-use Rattle.semantics.specs.Laws.Agree.{◌≐◌}
+use Rattle.semantics.specs.Agree.{◌≐◌}
 use Rattle.site.specs.Site.{site_of}
 use Rattle.listing.specs.Listed.{work_bytes}
 use Rattle.listing_sets.specs.Offsets.{set_at}
 use Rattle.chaining.specs.Rounds.{Pruned}
-use Rattle.chaining.specs.Laws.Prune.{prune_start, prune_more, prune_done}
+use Rattle.chaining.proofs.Laws.Prune.{prune_start, prune_more, prune_done}
 use Rattle.chaining.proofs.prune.Statement.{statement}
 use Rattle.chaining.proofs.prune.Tie as tie
 

@@ -3,7 +3,7 @@ use Rattle.std.proofs.Common.{arith, rules}
 use Rattle.bitset.specs.Set.{set_bytes}
 use Rattle.listing.specs.Listed.{work_bytes}
 use Rattle.chains.specs.Given.{chain_bytes}
-use Rattle.chaining.specs.Laws.Answer.{zeroed, goal_loaded, away_kept, layers_kept, answer_found, answer_none}
+use Rattle.chaining.proofs.Laws.Answer.{zeroed, goal_loaded, away_kept, layers_kept, answer_found, answer_none}
 use Rattle.chaining.proofs.search.Statement.{statement}
 use Rattle.chaining.proofs.search.Tie as tie
 

@@ -6,7 +6,7 @@ use Rattle.semantics.specs.Table.{way_of}
 use Rattle.site.specs.Site.{site_of}
 use Rattle.listing.specs.Listed.{work_bytes}
 use Rattle.chaining.specs.Rounds.{Spreading}
-use Rattle.chaining.specs.Laws.Rounds.{spreading_start, spread_found, spread_rest, spread_more, spread_done}
+use Rattle.chaining.proofs.Laws.Rounds.{spreading_start, spread_found, spread_rest, spread_more, spread_done}
 use Rattle.chaining.proofs.spread.Statement.{statement}
 use Rattle.chaining.proofs.spread.Tie as tie
 

@@ -4,8 +4,8 @@ use Rattle.std.proofs.Common.{◌∙◌, arith, rules}
 use Rattle.finite.specs.Tests.{same, any}
 use Rattle.bitset.specs.Set.{set_bytes, set_slots}
 use Rattle.partition.specs.Gains.{Gains}
-use Rattle.partition.specs.Laws.Gains.{gains_start, gains_more, gains_done, gains_put}
-use Rattle.classes.specs.Laws.Different.{count-different}
+use Rattle.partition.proofs.Laws.Gains.{gains_start, gains_more, gains_done, gains_put}
+use Rattle.classes.proofs.Laws.Different.{count-different}
 use Rattle.classes.proofs.count.Statement.{statement}
 use Rattle.classes.proofs.count.Tie as tie
 

@@ -6,9 +6,9 @@ use Rattle.site.specs.Site.{site_of}
 use Rattle.bitset.specs.Set.{set_slots}
 use Rattle.partition.specs.Gains.{Gains}
 use Rattle.site.specs.Layout.{rows_bytes}
-use Rattle.partition.specs.Laws.Gains.{gains_start, gains_more, gains_done}
+use Rattle.partition.proofs.Laws.Gains.{gains_start, gains_more, gains_done}
 use Rattle.classes.specs.Features.{features, feature_puts}
-use Rattle.classes.specs.Laws.Features.{all-features}
+use Rattle.classes.proofs.Laws.Features.{all-features}
 use Rattle.classes.proofs.features_of.Statement.{statement}
 use Rattle.classes.proofs.features_of.Tie as tie
 

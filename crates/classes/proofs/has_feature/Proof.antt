@@ -2,7 +2,7 @@
 use Rattle.std.specs.Prelude.{ℕ}
 use Rattle.std.proofs.Common.{sym, ◌∙◌, ap, arith}
 use Rattle.finite.specs.Tests.{same}
-use Rattle.classes.specs.Laws.Features.{feature_low, feature_mid, feature_high}
+use Rattle.classes.proofs.Laws.Features.{feature_low, feature_mid, feature_high}
 use Rattle.classes.proofs.has_feature.Statement.{statement}
 use Rattle.classes.proofs.has_feature.Tie as tie
 

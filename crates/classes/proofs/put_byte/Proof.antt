@@ -4,9 +4,9 @@ use Rattle.std.proofs.Common.{arith}
 use Rattle.finite.specs.Tests.{any}
 use Rattle.site.specs.Site.{site_of}
 use Rattle.partition.specs.Gains.{Gains}
-use Rattle.partition.specs.Laws.Gains.{gains_start, gains_more, gains_done}
+use Rattle.partition.proofs.Laws.Gains.{gains_start, gains_more, gains_done}
 use Rattle.classes.specs.Features.{feature_puts}
-use Rattle.classes.specs.Laws.Features.{no_feature}
+use Rattle.classes.proofs.Laws.Features.{no_feature}
 use Rattle.classes.proofs.put_byte.Statement.{statement}
 use Rattle.classes.proofs.put_byte.Tie as tie
 

@@ -1,7 +1,7 @@
 -- By whether slot s has feature c.
 use Rattle.std.proofs.Common.{sym, ◌∙◌, arith}
 use borrow.Author.Tests.{not-true, not-false}
-use Rattle.partition.specs.Laws.Gains.{gains_skip_if, gains_put_if}
+use Rattle.partition.proofs.Laws.Gains.{gains_skip_if, gains_put_if}
 use Rattle.classes.specs.Features.{feature_puts}
 use Rattle.classes.proofs.put_feature.Statement.{statement}
 use Rattle.classes.proofs.put_feature.Tie as tie

@@ -1,7 +1,7 @@
 -- The name's slot alone has feature c.
 use Rattle.std.proofs.Common.{arith}
 use Rattle.site.specs.Site.{site_of}
-use Rattle.classes.specs.Laws.Features.{at_place}
+use Rattle.classes.proofs.Laws.Features.{at_place}
 use Rattle.classes.proofs.put_name.Statement.{statement}
 use Rattle.classes.proofs.put_name.Tie as tie
 

@@ -5,9 +5,9 @@ use Rattle.finite.specs.Tests.{any}
 use Rattle.bitset.specs.Set.{set_bytes}
 use Rattle.site.specs.Site.{site_of}
 use Rattle.partition.specs.Gains.{Gains}
-use Rattle.partition.specs.Laws.Gains.{gains_start, gains_more, gains_done}
+use Rattle.partition.proofs.Laws.Gains.{gains_start, gains_more, gains_done}
 use Rattle.classes.specs.Features.{feature_puts}
-use Rattle.classes.specs.Laws.Features.{by_bytes}
+use Rattle.classes.proofs.Laws.Features.{by_bytes}
 use Rattle.classes.proofs.put_set.Statement.{statement}
 use Rattle.classes.proofs.put_set.Tie as tie
 

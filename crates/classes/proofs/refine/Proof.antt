@@ -3,10 +3,10 @@ use Rattle.std.specs.Prelude.{◌≡◌, refl, ◌-◌, ◌≤◌, length}
 use Rattle.std.proofs.Common.{sym, ◌∙◌, arith, rules}
 use Rattle.bitset.specs.Set.{set_slots}
 use Rattle.site.specs.Site.{site_of}
-use Rattle.semantics.specs.Laws.Refine.{bisimilar_in}
+use Rattle.semantics.specs.Refine.{bisimilar_in}
 use Rattle.partition.specs.Partition.{Partitions, Refines}
 use Rattle.partition.specs.Rows.{ways_bytes, Neighbours}
-use Rattle.classes.specs.Laws.Refined.{refined_still, refined_last}
+use Rattle.classes.proofs.Laws.Refined.{refined_still, refined_last}
 use Rattle.classes.proofs.refine.Statement.{statement}
 use Rattle.classes.proofs.refine.Tie as tie
 

@@ -3,11 +3,11 @@ use Rattle.std.specs.Prelude.{◌≡◌, ℕ, ◌+◌, ◌*◌, ◌-◌, ◌≤�
 use Rattle.std.proofs.Common.{arith, rules}
 use Rattle.limits.specs.Limits.{every_way}
 use Rattle.semantics.specs.Holds.{Model}
-use Rattle.semantics.specs.Laws.Refine.{bisimilar_in}
+use Rattle.semantics.specs.Refine.{bisimilar_in}
 use Rattle.site.specs.Layout.{rows_bytes}
 use Rattle.partition.specs.Rows.{Neighbours}
 use Rattle.partition.specs.Partition.{Partition, Partitions, Refines}
-use Rattle.partition.specs.Laws.Rounds.{upto, upto-none, upto_more, upto_all}
+use Rattle.partition.proofs.Laws.Rounds.{upto, upto-none, upto_more, upto_all}
 use Rattle.classes.proofs.round.Statement.{statement}
 use Rattle.classes.proofs.round.Tie as tie
 

@@ -2,8 +2,8 @@
 use Rattle.std.specs.Prelude.{◌≡◌, ◌-◌, ◌≤◌, get_or, true}
 use Rattle.std.proofs.Common.{sym, arith}
 use Rattle.finite.specs.Tests.{same, all}
-use Rattle.finite.specs.Laws.Below.{eq_same, ne_same}
-use Rattle.finite.specs.Laws.Loops.{all_none, all_more, all_done, all-not}
+use Rattle.finite.proofs.Laws.Below.{eq_same, ne_same}
+use Rattle.finite.proofs.Laws.Loops.{all_none, all_more, all_done, all-not}
 use Rattle.bitset.specs.Set.{set_slots}
 use Rattle.classes.proofs.same_partition.Statement.{statement}
 use Rattle.classes.proofs.same_partition.Tie as tie

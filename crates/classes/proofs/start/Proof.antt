@@ -2,7 +2,7 @@
 use Rattle.std.proofs.Common.{arith, rules}
 use Rattle.site.specs.Site.{site_of}
 use Rattle.bitset.specs.Set.{set_slots}
-use Rattle.classes.specs.Laws.Features.{zeros_partition, features_partition}
+use Rattle.classes.proofs.Laws.Features.{zeros_partition, features_partition}
 use Rattle.classes.proofs.start.Statement.{statement}
 use Rattle.classes.proofs.start.Tie as tie
 

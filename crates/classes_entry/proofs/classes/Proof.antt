@@ -1,8 +1,8 @@
 -- The inputs are judged, then the slots are numbered or it refuses.
 use Rattle.std.proofs.Common.{sym, ◌∙◌, rules}
-use Rattle.site.specs.Laws.Valid.{accepted_out}
-use Rattle.classes_entry.specs.Laws.Refusal.{classes_accepts}
-use Rattle.classes_entry.specs.Laws.Classing.{answered_numbered, answered_refused}
+use Rattle.site.proofs.Laws.Valid.{accepted_out}
+use Rattle.classes_entry.proofs.Laws.Refusal.{classes_accepts}
+use Rattle.classes_entry.proofs.Laws.Classing.{answered_numbered, answered_refused}
 use Rattle.classes_entry.proofs.classes.Statement.{statement}
 use Rattle.classes_entry.proofs.classes.Tie as tie
 

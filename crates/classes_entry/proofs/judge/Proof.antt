@@ -1,6 +1,6 @@
 -- The items in order: the buffer, then the site.
 use Rattle.std.proofs.Common.{arith, rules}
-use Rattle.classes_entry.specs.Laws.Classing.{judged_buffer, judged_site}
+use Rattle.classes_entry.proofs.Laws.Classing.{judged_buffer, judged_site}
 use Rattle.classes_entry.proofs.judge.Statement.{statement}
 use Rattle.classes_entry.proofs.judge.Tie as tie
 

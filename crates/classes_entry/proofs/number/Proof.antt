@@ -1,6 +1,6 @@
 -- The numbers that `refine` gives are copied, and counted.
 use Rattle.std.proofs.Common.{arith, rules}
-use Rattle.classes_entry.specs.Laws.Classing.{numbered}
+use Rattle.classes_entry.proofs.Laws.Classing.{numbered}
 use Rattle.classes_entry.proofs.number.Statement.{statement}
 use Rattle.classes_entry.proofs.number.Tie as tie
 

@@ -1,9 +1,9 @@
 -- No node below i meets item 8.
-use Rattle.condition.specs.Laws.Bytes.{length_table}
+use Rattle.condition.proofs.Laws.Bytes.{length_table}
 use Rattle.condition.specs.Refusal.{first_unfit}
 use Rattle.condition.specs.Bytes.{node_at, table_of}
 use Rattle.semantics.specs.Table.{node_fits}
-use Rattle.finite.specs.Laws.First.{none_start, none_more, first_stop, first_is}
+use Rattle.finite.proofs.Laws.First.{none_start, none_more, first_stop, first_is}
 use Rattle.finite.specs.Tests.{any}
 use Rattle.std.specs.Prelude.{length, ◌-◌, ◌≤◌, false, not, ◌≡◌}
 use Rattle.std.proofs.Common.{arith, sym, ◌∙◌, ap}

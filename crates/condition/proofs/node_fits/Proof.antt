@@ -1,7 +1,7 @@
 -- The kind, the parameter and the children, each by its bound.
 use Rattle.std.proofs.Common.{◌∙◌, rules}
 use Rattle.condition.specs.Bytes.{node_at}
-use Rattle.condition.specs.Laws.Limits.{all_fields}
+use Rattle.condition.proofs.Laws.Limits.{all_fields}
 use Rattle.condition.proofs.node_fits.Statement.{statement}
 use Rattle.condition.proofs.node_fits.Tie as tie
 

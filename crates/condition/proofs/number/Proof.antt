@@ -1,6 +1,6 @@
 -- A node of a table that fits has its parameter below its bound.
-use Rattle.condition.specs.Laws.Limits.{param_lower}
-use Rattle.condition.specs.Laws.Fits.{node_fits_lem}
+use Rattle.condition.proofs.Laws.Limits.{param_lower}
+use Rattle.condition.proofs.Laws.Fits.{node_fits_lem}
 use Rattle.condition.specs.Bytes.{node_at}
 use Rattle.std.proofs.Common.{arith, rules}
 use Rattle.condition.proofs.number.Statement.{statement}

@@ -3,7 +3,7 @@ use Rattle.std.specs.Prelude.{refl}
 use Rattle.std.proofs.Common.{sym}
 use Rattle.semantics.specs.Table.{kind_of}
 use Rattle.condition.specs.Limits.{param_limit}
-use Rattle.condition.specs.Laws.Limits.{limit_slot}
+use Rattle.condition.proofs.Laws.Limits.{limit_slot}
 use Rattle.condition.proofs.param_limit.Statement.{statement}
 use Rattle.condition.proofs.param_limit.Tie as tie
 

@@ -1,6 +1,6 @@
 -- A node of a table that fits has its right child below it.
-use Rattle.condition.specs.Laws.Limits.{right_lower}
-use Rattle.condition.specs.Laws.Fits.{node_fits_lem}
+use Rattle.condition.proofs.Laws.Limits.{right_lower}
+use Rattle.condition.proofs.Laws.Fits.{node_fits_lem}
 use Rattle.condition.specs.Bytes.{node_at}
 use Rattle.std.proofs.Common.{arith, rules}
 use Rattle.condition.proofs.right_child.Statement.{statement}

@@ -3,7 +3,7 @@ use Rattle.std.specs.Prelude.{◌%◌, refl}
 use Rattle.std.proofs.Common.{arith}
 use Rattle.limits.specs.Limits.{table_bytes}
 use Rattle.condition.specs.Refusal.{size_fits}
-use Rattle.finite.specs.Laws.Below.{eq_same, ne_same, below_in, below-not}
+use Rattle.finite.proofs.Laws.Below.{eq_same, ne_same, below_in, below-not}
 use Rattle.condition.proofs.size_fits.Statement.{statement}
 use Rattle.condition.proofs.size_fits.Tie as tie
 

@@ -1,5 +1,5 @@
 -- `desk::desk_apply` meets its contract: the answer of `apply` in numbers.
-use Rattle.desk.specs.Laws.Returned.{returned_apply}
+use Rattle.desk.proofs.Laws.Returned.{returned_apply}
 use Rattle.std.proofs.Common.{rules}
 use Rattle.desk.proofs.desk_apply.Statement.{statement}
 use Rattle.desk.proofs.desk_apply.Tie as tie

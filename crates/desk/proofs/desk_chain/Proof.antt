@@ -1,5 +1,5 @@
 -- `desk::desk_chain` meets its contract: the answer of `chain` in numbers.
-use Rattle.desk.specs.Laws.Returned.{returned_chain}
+use Rattle.desk.proofs.Laws.Returned.{returned_chain}
 use Rattle.std.proofs.Common.{rules}
 use Rattle.desk.proofs.desk_chain.Statement.{statement}
 use Rattle.desk.proofs.desk_chain.Tie as tie

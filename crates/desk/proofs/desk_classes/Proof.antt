@@ -1,5 +1,5 @@
 -- `desk::desk_classes` meets its contract: the answer of `classes` in numbers.
-use Rattle.desk.specs.Laws.Returned.{returned_classes}
+use Rattle.desk.proofs.Laws.Returned.{returned_classes}
 use Rattle.std.proofs.Common.{rules}
 use Rattle.desk.proofs.desk_classes.Statement.{statement}
 use Rattle.desk.proofs.desk_classes.Tie as tie

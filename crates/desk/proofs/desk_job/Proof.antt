@@ -1,5 +1,5 @@
 -- `desk::desk_job` meets its contract: the answer of `run` in numbers.
-use Rattle.desk.specs.Laws.Returned.{returned_job}
+use Rattle.desk.proofs.Laws.Returned.{returned_job}
 use Rattle.std.proofs.Common.{rules}
 use Rattle.desk.proofs.desk_job.Statement.{statement}
 use Rattle.desk.proofs.desk_job.Tie as tie

@@ -1,5 +1,5 @@
 -- `desk::desk_list` meets its contract: the answer of `list` in numbers.
-use Rattle.desk.specs.Laws.Returned.{returned_list}
+use Rattle.desk.proofs.Laws.Returned.{returned_list}
 use Rattle.std.proofs.Common.{rules}
 use Rattle.desk.proofs.desk_list.Statement.{statement}
 use Rattle.desk.proofs.desk_list.Tie as tie

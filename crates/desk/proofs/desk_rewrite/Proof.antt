@@ -1,5 +1,5 @@
 -- `desk::desk_rewrite` meets its contract: the answer of `rewrite` in numbers.
-use Rattle.desk.specs.Laws.Returned.{returned_table}
+use Rattle.desk.proofs.Laws.Returned.{returned_table}
 use Rattle.std.proofs.Common.{rules}
 use Rattle.desk.proofs.desk_rewrite.Statement.{statement}
 use Rattle.desk.proofs.desk_rewrite.Tie as tie

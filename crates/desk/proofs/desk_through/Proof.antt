@@ -1,5 +1,5 @@
 -- `desk::desk_through` meets its contract: the answer of `through` in numbers.
-use Rattle.desk.specs.Laws.Returned.{returned_table}
+use Rattle.desk.proofs.Laws.Returned.{returned_table}
 use Rattle.std.proofs.Common.{rules}
 use Rattle.desk.proofs.desk_through.Statement.{statement}
 use Rattle.desk.proofs.desk_through.Tie as tie

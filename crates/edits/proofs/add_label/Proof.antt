@@ -1,8 +1,8 @@
 -- AP is a label put on a slot, and at nil it is nothing.
 use Rattle.std.proofs.Common.{arith}
 use Rattle.site.specs.Site.{site_of}
-use Rattle.going.specs.Laws.Ranges.{legal-AP}
-use Rattle.site_changes.specs.Laws.Rows.{row-AP, row_AP_nil}
+use Rattle.going.proofs.Laws.Ranges.{legal-AP}
+use Rattle.site_changes.proofs.Laws.Rows.{row-AP, row_AP_nil}
 use Rattle.edits.proofs.add_label.Statement.{statement}
 use Rattle.edits.proofs.add_label.Tie as tie
 

@@ -2,9 +2,9 @@
 use Rattle.std.proofs.Common.{arith}
 use Rattle.limits.specs.Limits.{slots}
 use Rattle.site.specs.Site.{site_of}
-use Rattle.going.specs.Laws.Ranges.{legal-AS}
-use Rattle.site_changes.specs.Laws.Rows.{row-AS}
-use Rattle.site_changes.specs.Laws.Bytes.{slot_put}
+use Rattle.going.proofs.Laws.Ranges.{legal-AS}
+use Rattle.site_changes.proofs.Laws.Rows.{row-AS}
+use Rattle.site_changes.proofs.Laws.Bytes.{slot_put}
 use Rattle.edits.proofs.add_slot.Statement.{statement}
 use Rattle.edits.proofs.add_slot.Tie as tie
 

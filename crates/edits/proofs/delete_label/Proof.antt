@@ -1,8 +1,8 @@
 -- DP is a label taken from a slot.
 use Rattle.std.proofs.Common.{arith}
 use Rattle.site.specs.Site.{site_of}
-use Rattle.going.specs.Laws.Ranges.{legal-DP}
-use Rattle.site_changes.specs.Laws.Rows.{row-DP}
+use Rattle.going.proofs.Laws.Ranges.{legal-DP}
+use Rattle.site_changes.proofs.Laws.Rows.{row-DP}
 use Rattle.edits.proofs.delete_label.Statement.{statement}
 use Rattle.edits.proofs.delete_label.Tie as tie
 

@@ -2,9 +2,9 @@
 use Rattle.std.proofs.Common.{arith, rules}
 use Rattle.limits.specs.Limits.{slots}
 use Rattle.site.specs.Site.{site_of}
-use Rattle.going.specs.Laws.Ranges.{legal-DS}
-use Rattle.site_changes.specs.Laws.Rows.{row-DS}
-use Rattle.site_changes.specs.Laws.Bytes.{slot_taken}
+use Rattle.going.proofs.Laws.Ranges.{legal-DS}
+use Rattle.site_changes.proofs.Laws.Rows.{row-DS}
+use Rattle.site_changes.proofs.Laws.Bytes.{slot_taken}
 use Rattle.edits.proofs.delete_slot.Statement.{statement}
 use Rattle.edits.proofs.delete_slot.Tie as tie
 

@@ -1,8 +1,8 @@
 -- CN1 is a change of a name's place.
 use Rattle.std.proofs.Common.{arith}
 use Rattle.site.specs.Site.{site_of}
-use Rattle.going.specs.Laws.Ranges.{legal-CN1}
-use Rattle.site_changes.specs.Laws.Rows.{row-CN1}
+use Rattle.going.proofs.Laws.Ranges.{legal-CN1}
+use Rattle.site_changes.proofs.Laws.Rows.{row-CN1}
 use Rattle.edits.proofs.move_to_name.Statement.{statement}
 use Rattle.edits.proofs.move_to_name.Tie as tie
 

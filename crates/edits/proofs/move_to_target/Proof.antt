@@ -2,8 +2,8 @@
 use Rattle.std.proofs.Common.{arith}
 use Rattle.semantics.specs.Edit.{target}
 use Rattle.site.specs.Site.{site_of}
-use Rattle.going.specs.Laws.Ranges.{legal-CN2}
-use Rattle.site_changes.specs.Laws.Rows.{row-CN2}
+use Rattle.going.proofs.Laws.Ranges.{legal-CN2}
+use Rattle.site_changes.proofs.Laws.Rows.{row-CN2}
 use Rattle.edits.proofs.move_to_target.Statement.{statement}
 use Rattle.edits.proofs.move_to_target.Tie as tie
 

@@ -1,6 +1,6 @@
 -- A name's byte.
 use Rattle.std.proofs.Common.{arith, rules}
-use Rattle.site_changes.specs.Laws.Bytes.{name_put}
+use Rattle.site_changes.proofs.Laws.Bytes.{name_put}
 use Rattle.edits.proofs.put_name.Statement.{statement}
 use Rattle.edits.proofs.put_name.Tie as tie
 

@@ -1,7 +1,7 @@
 -- A slot of a label's set.
 use Rattle.std.proofs.Common.{arith}
 use Rattle.limits.specs.Limits.{slots}
-use Rattle.site_changes.specs.Laws.Bytes.{label_taken}
+use Rattle.site_changes.proofs.Laws.Bytes.{label_taken}
 use Rattle.edits.proofs.take_label.Statement.{statement}
 use Rattle.edits.proofs.take_label.Tie as tie
 

@@ -4,7 +4,7 @@ use Rattle.std.proofs.Common.{◌∙◌, arith}
 use Rattle.limits.specs.Limits.{labels}
 use Rattle.site.specs.Layout.{site_bytes}
 use Rattle.site.specs.Site.{site_of}
-use Rattle.site_changes.specs.Laws.Loops.{labels_start, labels_more, labels_end}
+use Rattle.site_changes.proofs.Laws.Loops.{labels_start, labels_more, labels_end}
 use Rattle.site_changes.specs.Change.{labels_to}
 use Rattle.edits.proofs.take_labels.Statement.{statement}
 use Rattle.edits.proofs.take_labels.Tie as tie

@@ -1,8 +1,8 @@
 -- A name's byte, or 0 where it is the slot.
 use Rattle.std.proofs.Common.{arith, rules}
 use Rattle.site.specs.Site.{site_of}
-use Rattle.site.specs.Laws.Read.{place_is}
-use Rattle.site_changes.specs.Laws.Loops.{name_left}
+use Rattle.site.proofs.Laws.Read.{place_is}
+use Rattle.site_changes.proofs.Laws.Loops.{name_left}
 use Rattle.edits.proofs.take_name.Statement.{statement}
 use Rattle.edits.proofs.take_name.Tie as tie
 

@@ -4,7 +4,7 @@ use Rattle.std.proofs.Common.{◌∙◌, arith}
 use Rattle.limits.specs.Limits.{names}
 use Rattle.site.specs.Layout.{site_bytes}
 use Rattle.site.specs.Site.{site_of}
-use Rattle.site_changes.specs.Laws.Loops.{names_start, names_more, names_end}
+use Rattle.site_changes.proofs.Laws.Loops.{names_start, names_more, names_end}
 use Rattle.site_changes.specs.Change.{names_to}
 use Rattle.edits.proofs.take_names.Statement.{statement}
 use Rattle.edits.proofs.take_names.Tie as tie

@@ -1,5 +1,5 @@
 -- By cases: the slots are the same, or not.
-use Rattle.finite.specs.Laws.Below.{eq_same, ne_same}
+use Rattle.finite.proofs.Laws.Below.{eq_same, ne_same}
 use Rattle.edits.proofs.unless.Statement.{statement}
 use Rattle.edits.proofs.unless.Tie as tie
 

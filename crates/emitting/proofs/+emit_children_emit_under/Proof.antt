@@ -2,8 +2,8 @@
 use Rattle.std.specs.Prelude.{ℕ, ◌+◌, ◌*◌, ◌≤◌, ◌<◌}
 use Rattle.std.proofs.Common.{arith}
 use Rattle.emitting.specs.State.{higher_of}
-use Rattle.emitting.specs.Laws.Deep.{children_stay, deep_then, paid, none_owed, below_both}
-use Rattle.emitting.specs.Laws.Emitted.{emitting_none, emitting_then, emittable_then, emittable_low, left_low, right_low, children, lower_first, higher_below}
+use Rattle.emitting.proofs.Laws.Deep.{children_stay, deep_then, paid, none_owed, below_both}
+use Rattle.emitting.proofs.Laws.Emitted.{emitting_none, emitting_then, emittable_then, emittable_low, left_low, right_low, children, lower_first, higher_below}
 use borrow.Fn.Kinds.{In}
 use Rattle.condition.proofs.left.Reads as left-reads
 use Rattle.condition.proofs.right.Reads as right-reads

@@ -1,7 +1,7 @@
 -- One of the tests holds.
 use Rattle.std.specs.Prelude.{leb, ltb}
 use Rattle.std.proofs.Common.{arith, leb-true, ltb-true}
-use Rattle.finite.specs.Laws.Bools.{either, or_out}
+use Rattle.finite.proofs.Laws.Bools.{either, or_out}
 use Rattle.emitting.proofs.copied.Statement.{statement}
 use Rattle.emitting.proofs.copied.Tie as tie
 

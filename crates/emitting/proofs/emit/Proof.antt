@@ -1,9 +1,9 @@
 -- A node that is not emitted has its block written: a copy at once, another by its row.
 use Rattle.std.specs.Prelude.{refl}
 use Rattle.std.proofs.Common.{arith}
-use Rattle.finite.specs.Laws.Bools.{clash}
-use Rattle.emitting.specs.Laws.Deep.{one_none, one-leaf, one_waits, two_wait}
-use Rattle.emitting.specs.Laws.Emitted.{emitting_none, row-known, leaf_here, one_here, start_small, image_room, left_low, right_low, field_small, in_rows, block_room, emitted, emitted_leaf, emitted_one, emitted_two}
+use Rattle.finite.proofs.Laws.Bools.{clash}
+use Rattle.emitting.proofs.Laws.Deep.{one_none, one-leaf, one_waits, two_wait}
+use Rattle.emitting.proofs.Laws.Emitted.{emitting_none, row-known, leaf_here, one_here, start_small, image_room, left_low, right_low, field_small, in_rows, block_room, emitted, emitted_leaf, emitted_one, emitted_two}
 use Rattle.emitting.proofs.emit.Statement.{statement}
 use Rattle.emitting.proofs.emit.Tie as tie
 

@@ -3,7 +3,7 @@ use Rattle.std.specs.Prelude.{◌≤◌}
 use Rattle.std.proofs.Common.{◌∙◌, arith}
 use Rattle.sheet.specs.Bytes.{edit_of}
 use Rattle.emitting.specs.State.{Emitting}
-use Rattle.emitting.specs.Laws.Emitted.{emitting_none, emitting_then, emittable_then, emittable_low, EmittedFrom, emitted_more, all_written}
+use Rattle.emitting.proofs.Laws.Emitted.{emitting_none, emitting_then, emittable_then, emittable_low, EmittedFrom, emitted_more, all_written}
 use Rattle.emitting.proofs.emit_down.Statement.{statement}
 use Rattle.emitting.proofs.emit_down.Tie as tie
 

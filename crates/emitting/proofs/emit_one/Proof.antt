@@ -1,8 +1,8 @@
 -- Whether a child waits, as a number.
 use Rattle.std.specs.Prelude.{refl}
 use Rattle.std.proofs.Common.{arith}
-use Rattle.finite.specs.Laws.Bools.{clash}
-use Rattle.emitting.specs.Laws.Deep.{one_then}
+use Rattle.finite.proofs.Laws.Bools.{clash}
+use Rattle.emitting.proofs.Laws.Deep.{one_then}
 use Rattle.emitting.proofs.emit_one.Statement.{statement}
 use Rattle.emitting.proofs.emit_one.Tie as tie
 

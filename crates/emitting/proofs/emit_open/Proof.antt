@@ -1,7 +1,7 @@
 -- A node that is emitted is left alone.
 use Rattle.std.proofs.Common.{arith}
-use Rattle.emitting.specs.Laws.Deep.{deep_none}
-use Rattle.emitting.specs.Laws.Emitted.{emitting_none, higher_same}
+use Rattle.emitting.proofs.Laws.Deep.{deep_none}
+use Rattle.emitting.proofs.Laws.Emitted.{emitting_none, higher_same}
 use Rattle.emitting.proofs.emit_open.Statement.{statement}
 use Rattle.emitting.proofs.emit_open.Tie as tie
 

@@ -2,7 +2,7 @@
 use Rattle.std.specs.Prelude.{◌-◌}
 use Rattle.std.proofs.Common.{arith}
 use Rattle.sheet.specs.Bytes.{edit_of}
-use Rattle.emitting.specs.Laws.Emitted.{emittable_then, emittable_low, EmittedOfTwo, next_low, of_two_none, of_two_more, both_of_two}
+use Rattle.emitting.proofs.Laws.Emitted.{emittable_then, emittable_low, EmittedOfTwo, next_low, of_two_none, of_two_more, both_of_two}
 use Rattle.emitting.proofs.emit_two.Statement.{statement}
 use Rattle.emitting.proofs.emit_two.Tie as tie
 

@@ -3,9 +3,9 @@ use Rattle.std.specs.Prelude.{◌-◌, ◌≤◌}
 use Rattle.std.proofs.Common.{arith}
 use Rattle.sheet.specs.Bytes.{edit_of}
 use Rattle.emitting.specs.State.{Numbering}
-use Rattle.condition.specs.Laws.Limits.{kind_known}
-use Rattle.condition.specs.Laws.Fits.{first_fits}
-use Rattle.emitting.specs.Laws.Numbered.{numbering_none, numbering_ended}
+use Rattle.condition.proofs.Laws.Limits.{kind_known}
+use Rattle.condition.proofs.Laws.Fits.{first_fits}
+use Rattle.emitting.proofs.Laws.Numbered.{numbering_none, numbering_ended}
 use Rattle.emitting.proofs.number.Statement.{statement}
 use Rattle.emitting.proofs.number.Tie as tie
 

@@ -3,9 +3,9 @@ use Rattle.std.specs.Prelude.{refl}
 use Rattle.std.proofs.Common.{arith}
 use Rattle.sheet.specs.Bytes.{edit_of}
 use Rattle.condition.specs.Bytes.{node_at}
-use Rattle.blocks.specs.Laws.Rows.{sized_copy}
-use Rattle.emitting.specs.Laws.Copied.{kept}
-use Rattle.emitting.specs.Laws.Numbered.{numbering_more}
+use Rattle.blocks.proofs.Laws.Rows.{sized_copy}
+use Rattle.emitting.proofs.Laws.Copied.{kept}
+use Rattle.emitting.proofs.Laws.Numbered.{numbering_more}
 use Rattle.emitting.proofs.number_node.Statement.{statement}
 use Rattle.emitting.proofs.number_node.Tie as tie
 

@@ -2,7 +2,7 @@
 use Rattle.std.specs.Prelude.{leb, ltb}
 use Rattle.std.proofs.Common.{leb-true, ltb-true}
 use Rattle.limits.specs.Limits.{dia_no, slot_no}
-use Rattle.finite.specs.Laws.Bools.{and_l, and_r}
+use Rattle.finite.proofs.Laws.Bools.{and_l, and_r}
 use Rattle.emitting.proofs.one_child.Statement.{statement}
 use Rattle.emitting.proofs.one_child.Tie as tie
 

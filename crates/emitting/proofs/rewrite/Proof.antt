@@ -1,7 +1,7 @@
 -- The first pass, and the second where there is room for its blocks.
 use Rattle.std.proofs.Common.{◌∙◌, arith}
-use Rattle.condition.specs.Laws.Fits.{first_fits}
-use Rattle.emitting.specs.Laws.Emitted.{counted, none_written}
+use Rattle.condition.proofs.Laws.Fits.{first_fits}
+use Rattle.emitting.proofs.Laws.Emitted.{counted, none_written}
 use Rattle.emitting.proofs.rewrite.Statement.{statement}
 use Rattle.emitting.proofs.rewrite.Tie as tie
 

@@ -1,6 +1,6 @@
 -- The number after the image before.
 use Rattle.std.proofs.Common.{arith}
-use Rattle.emitting.specs.Laws.Numbered.{start_after, start_first}
+use Rattle.emitting.proofs.Laws.Numbered.{start_after, start_first}
 use Rattle.emitting.proofs.start.Statement.{statement}
 use Rattle.emitting.proofs.start.Tie as tie
 

@@ -2,7 +2,7 @@
 use Rattle.std.specs.Prelude.{eqb}
 use Rattle.std.proofs.Common.{arith, eqb-true}
 use Rattle.limits.specs.Limits.{or_no, and_no}
-use Rattle.finite.specs.Laws.Bools.{either, or_out}
+use Rattle.finite.proofs.Laws.Bools.{either, or_out}
 use Rattle.emitting.proofs.two_children.Statement.{statement}
 use Rattle.emitting.proofs.two_children.Tie as tie
 

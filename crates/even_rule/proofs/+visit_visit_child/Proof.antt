@@ -2,7 +2,7 @@
 -- to the node's own number.
 use Rattle.std.specs.Prelude.{ℕ, ◌<◌}
 use Rattle.std.proofs.Common.{arith}
-use Rattle.even_rule.specs.Laws.Pass.{at_rest, again, lower, children, finish}
+use Rattle.even_rule.proofs.Laws.Pass.{at_rest, again, lower, children, finish}
 use borrow.Fn.Kinds.{In}
 use borrow.Fn.PlainCycle.{Measures, is, falls, and}
 use Rattle.even_rule.proofs.visit.Reads as visit

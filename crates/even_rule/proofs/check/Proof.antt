@@ -1,6 +1,6 @@
 -- The table's size, its nodes and its rules in their order; the masks that are handed on.
-use Rattle.even_rule.specs.Laws.Answer.{answer_7, answer_8, all_fit}
-use Rattle.condition.specs.Laws.Verdict.{size_out}
+use Rattle.even_rule.proofs.Laws.Answer.{answer_7, answer_8, all_fit}
+use Rattle.condition.proofs.Laws.Verdict.{size_out}
 use Rattle.std.specs.Prelude.{length}
 use Rattle.std.proofs.Common.{arith, sym, ◌∙◌, rules}
 use borrow.Author.Tests.{not-true, not-false}

@@ -3,9 +3,9 @@ use Rattle.std.specs.Prelude.{ℕ, length}
 use Rattle.std.proofs.Common.{arith, ◌∙◌, ap, rules}
 use lib.ListN.{length-replicate}
 use Rattle.limits.specs.Limits.{table_nodes}
-use Rattle.condition.specs.Laws.Verdict.{size_out}
-use Rattle.even_rule.specs.Laws.Answer.{fit, answer_9, answer_10, answer_none}
-use Rattle.even_rule.specs.Laws.Check.{none_done}
+use Rattle.condition.proofs.Laws.Verdict.{size_out}
+use Rattle.even_rule.proofs.Laws.Answer.{fit, answer_9, answer_10, answer_none}
+use Rattle.even_rule.proofs.Laws.Check.{none_done}
 use Rattle.even_rule.proofs.check_rules.Statement.{statement}
 use Rattle.even_rule.proofs.check_rules.Tie as tie
 

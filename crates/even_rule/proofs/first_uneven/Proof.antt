@@ -1,10 +1,10 @@
 -- No node before i is uneven.
-use Rattle.condition.specs.Laws.Bytes.{length_table}
+use Rattle.condition.proofs.Laws.Bytes.{length_table}
 use Rattle.condition.specs.Refusal.{first_uneven}
 use Rattle.condition.specs.Bytes.{table_of}
 use Rattle.semantics.specs.Table.{tree_at}
 use Rattle.semantics.specs.Form.{even}
-use Rattle.finite.specs.Laws.First.{none_start, none_more, first_stop, first_is}
+use Rattle.finite.proofs.Laws.First.{none_start, none_more, first_stop, first_is}
 use Rattle.finite.specs.Tests.{any}
 use Rattle.std.specs.Prelude.{length, ◌-◌, ◌≤◌, false, not, ◌≡◌}
 use Rattle.std.proofs.Common.{arith, sym, ◌∙◌}

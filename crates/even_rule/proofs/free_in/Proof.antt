@@ -1,7 +1,7 @@
 -- The two masks fit 16 bits, and so does their union.
 use Rattle.std.specs.Prelude.{refl}
 use Rattle.std.proofs.Common.{arith}
-use Rattle.even_rule.specs.Laws.Words.{free_few}
+use Rattle.even_rule.proofs.Laws.Words.{free_few}
 use Rattle.even_rule.proofs.free_in.Statement.{statement}
 use Rattle.even_rule.proofs.free_in.Tie as tie
 

@@ -1,5 +1,5 @@
 -- The mask of one variable.
-use Rattle.even_rule.specs.Laws.Words.{weight}
+use Rattle.even_rule.proofs.Laws.Words.{weight}
 use Rattle.std.proofs.Common.{rules}
 use Rattle.even_rule.proofs.single.Statement.{statement}
 use Rattle.even_rule.proofs.single.Tie as tie

@@ -1,7 +1,7 @@
 -- A mu or nu whose variable stands in the odd mask.
 use Rattle.std.proofs.Common.{arith, rules}
-use Rattle.even_rule.specs.Laws.Shows.{loop_few}
-use Rattle.even_rule.specs.Laws.Check.{keeps_low, keeps_high, breaks}
+use Rattle.even_rule.proofs.Laws.Shows.{loop_few}
+use Rattle.even_rule.proofs.Laws.Check.{keeps_low, keeps_high, breaks}
 use Rattle.even_rule.proofs.uneven.Statement.{statement}
 use Rattle.even_rule.proofs.uneven.Tie as tie
 

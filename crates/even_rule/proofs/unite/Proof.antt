@@ -3,7 +3,7 @@ use Rattle.std.specs.Prelude.{length, ◌-◌, ◌≤◌, ◌≡◌}
 use Rattle.std.proofs.Common.{arith, length-set}
 use Rattle.limits.specs.Limits.{table_nodes}
 use Rattle.even_rule.specs.Masks.{United}
-use Rattle.even_rule.specs.Laws.Check.{united_start, united_more}
+use Rattle.even_rule.proofs.Laws.Check.{united_start, united_more}
 use Rattle.even_rule.proofs.unite.Statement.{statement}
 use Rattle.even_rule.proofs.unite.Tie as tie
 

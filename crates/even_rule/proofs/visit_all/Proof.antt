@@ -2,8 +2,8 @@
 use Rattle.std.specs.Prelude.{◌≤◌}
 use Rattle.std.proofs.Common.{arith}
 use Rattle.even_rule.specs.Masks.{Visitable, DoneFrom}
-use Rattle.even_rule.specs.Laws.Pass.{again}
-use Rattle.even_rule.specs.Laws.Check.{past_end, more_done, all_done}
+use Rattle.even_rule.proofs.Laws.Pass.{again}
+use Rattle.even_rule.proofs.Laws.Check.{past_end, more_done, all_done}
 use Rattle.even_rule.proofs.visit_all.Statement.{statement}
 use Rattle.even_rule.proofs.visit_all.Tie as tie
 

@@ -1,6 +1,6 @@
 -- The word of a node by its kind: one law each.
 use Rattle.std.proofs.Common.{arith, rules}
-use Rattle.even_rule.specs.Laws.Shows.{var_few, loop_few, word_none, word_slot, word_var, word-not, word_two, word-step, word-loop}
+use Rattle.even_rule.proofs.Laws.Shows.{var_few, loop_few, word_none, word_slot, word_var, word-not, word_two, word-step, word-loop}
 use Rattle.even_rule.proofs.word_of.Statement.{statement}
 use Rattle.even_rule.proofs.word_of.Tie as tie
 

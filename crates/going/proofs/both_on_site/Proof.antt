@@ -1,8 +1,8 @@
 -- RT goes through where neither name is at nil.
 use Rattle.std.proofs.Common.{arith, rules}
 use Rattle.site.specs.Site.{site_of}
-use Rattle.going.specs.Laws.Ranges.{legal-RT}
-use Rattle.going.specs.Laws.Goes.{goes-RT}
+use Rattle.going.proofs.Laws.Ranges.{legal-RT}
+use Rattle.going.proofs.Laws.Goes.{goes-RT}
 use Rattle.going.proofs.both_on_site.Statement.{statement}
 use Rattle.going.proofs.both_on_site.Tie as tie
 

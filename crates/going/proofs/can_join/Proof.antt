@@ -3,7 +3,7 @@ use Rattle.std.proofs.Common.{arith, rules}
 use borrow.Author.Tests.{not-true, not-false}
 use Rattle.finite.specs.Tests.{same}
 use Rattle.site.specs.Site.{site_of}
-use Rattle.going.specs.Laws.Goes.{joins_nil, joins_general, joins-functional}
+use Rattle.going.proofs.Laws.Goes.{joins_nil, joins_general, joins-functional}
 use Rattle.going.proofs.can_join.Statement.{statement}
 use Rattle.going.proofs.can_join.Tie as tie
 

@@ -2,8 +2,8 @@
 use Rattle.std.proofs.Common.{arith}
 use Rattle.finite.specs.Tests.{same}
 use Rattle.site.specs.Site.{site_of}
-use Rattle.going.specs.Laws.Ranges.{legal-DS}
-use Rattle.going.specs.Laws.Goes.{goes-DS}
+use Rattle.going.proofs.Laws.Ranges.{legal-DS}
+use Rattle.going.proofs.Laws.Goes.{goes-DS}
 use Rattle.going.proofs.is_on_site.Statement.{statement}
 use Rattle.going.proofs.is_on_site.Tie as tie
 

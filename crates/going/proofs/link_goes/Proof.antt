@@ -1,8 +1,8 @@
 -- AT goes through where the link can be added.
 use Rattle.std.proofs.Common.{arith}
 use Rattle.site.specs.Site.{site_of}
-use Rattle.going.specs.Laws.Ranges.{legal-AT}
-use Rattle.going.specs.Laws.Goes.{goes-AT}
+use Rattle.going.proofs.Laws.Ranges.{legal-AT}
+use Rattle.going.proofs.Laws.Goes.{goes-AT}
 use Rattle.going.proofs.link_goes.Statement.{statement}
 use Rattle.going.proofs.link_goes.Tie as tie
 

@@ -1,7 +1,7 @@
 -- AS goes through where the slot is absent.
 use Rattle.std.proofs.Common.{arith}
 use Rattle.site.specs.Site.{site_of}
-use Rattle.going.specs.Laws.Goes.{goes-AS}
+use Rattle.going.proofs.Laws.Goes.{goes-AS}
 use Rattle.going.proofs.slot_is_absent.Statement.{statement}
 use Rattle.going.proofs.slot_is_absent.Tie as tie
 

@@ -1,7 +1,7 @@
 -- Item 1 by the test of the lengths, then item 16, then items 2 and 18.
 use Rattle.std.proofs.Common.{arith, rules}
 use borrow.Author.Tests.{not-true, not-false}
-use Rattle.refusals.specs.Laws.Items.{limit_in, limit_not}
+use Rattle.refusals.proofs.Laws.Items.{limit_in, limit_not}
 use Rattle.job_entry.proofs.judge.Statement.{statement}
 use Rattle.job_entry.proofs.judge.Tie as tie
 

@@ -1,6 +1,6 @@
 -- `job_entry::run` meets its contract: items 1, 16, 2 and 18 are judged, the pieces are taken, and the job runs on them.
 use Rattle.std.proofs.Common.{arith, rules}
-use Rattle.job_entry.specs.Laws.Job.{passed, answered_ran}
+use Rattle.job_entry.proofs.Laws.Job.{passed, answered_ran}
 use Rattle.job_entry.proofs.run.Statement.{statement}
 use Rattle.job_entry.proofs.run.Tie as tie
 

@@ -1,6 +1,6 @@
 -- What was tested first, then the pieces.
 use Rattle.std.proofs.Common.{arith, rules}
-use Rattle.even_rule.specs.Laws.Judged.{judged_next, judged_refused}
+use Rattle.even_rule.proofs.Laws.Judged.{judged_next, judged_refused}
 use Rattle.job_run.proofs.judge.Statement.{statement}
 use Rattle.job_run.proofs.judge.Tie as tie
 

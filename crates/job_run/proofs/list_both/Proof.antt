@@ -1,6 +1,6 @@
 -- Both lists, or item 15 where one of them is over the limit.
 use Rattle.std.proofs.Common.{arith}
-use Rattle.job_run.specs.Laws.Job.{tried_after, tried_today, tried_both}
+use Rattle.job_run.proofs.Laws.Job.{tried_after, tried_today, tried_both}
 use Rattle.job_run.proofs.list_both.Statement.{statement}
 use Rattle.job_run.proofs.list_both.Tie as tie
 

@@ -1,6 +1,6 @@
 -- The pieces are prepared, then both lists are tried or the item is passed on.
 use Rattle.std.proofs.Common.{arith, rules}
-use Rattle.job_run.specs.Laws.Job.{went, tried_refused, tried_listed}
+use Rattle.job_run.proofs.Laws.Job.{went, tried_refused, tried_listed}
 use Rattle.job_run.proofs.list_pieces.Statement.{statement}
 use Rattle.job_run.proofs.list_pieces.Tie as tie
 

@@ -3,7 +3,7 @@ use Rattle.std.specs.Prelude.{ℕ, length}
 use Rattle.std.proofs.Common.{◌∙◌, ap, arith, rules}
 use lib.ListN.{length-replicate}
 use Rattle.limits.specs.Limits.{table_nodes}
-use Rattle.job_run.specs.Laws.Job.{judged_out, prepared, prepared_refused}
+use Rattle.job_run.proofs.Laws.Job.{judged_out, prepared, prepared_refused}
 use Rattle.job_run.proofs.prepare.Statement.{statement}
 use Rattle.job_run.proofs.prepare.Tie as tie
 

@@ -1,6 +1,6 @@
 -- All but the class numbers is done, then the slots are numbered or the job is refused.
 use Rattle.std.proofs.Common.{arith, rules}
-use Rattle.job_run.specs.Laws.Job.{sets_of, passed, changed_sized, ran_done, ran_refused}
+use Rattle.job_run.proofs.Laws.Job.{sets_of, passed, changed_sized, ran_done, ran_refused}
 use Rattle.job_run.proofs.run.Statement.{statement}
 use Rattle.job_run.proofs.run.Tie as tie
 

@@ -1,8 +1,8 @@
 -- Item 13 by applying, then item 14 by rewriting.
 use Rattle.std.proofs.Common.{arith, rules}
-use Rattle.condition.specs.Laws.Verdict.{accepted_sound}
-use Rattle.sheet.specs.Laws.Accepted.{accepted_sheet}
-use Rattle.job_steps.specs.Laws.Steps.{changed_then, changed_stuck}
+use Rattle.condition.proofs.Laws.Verdict.{accepted_sound}
+use Rattle.sheet.proofs.Laws.Accepted.{accepted_sheet}
+use Rattle.job_steps.proofs.Laws.Steps.{changed_then, changed_stuck}
 use Rattle.job_steps.proofs.change.Statement.{statement}
 use Rattle.job_steps.proofs.change.Tie as tie
 

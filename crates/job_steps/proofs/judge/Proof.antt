@@ -1,5 +1,5 @@
 -- The items in order: the site, then the condition and the sheet.
-use Rattle.even_rule.specs.Laws.Judged.{judged_next, judged_refused}
+use Rattle.even_rule.proofs.Laws.Judged.{judged_next, judged_refused}
 use Rattle.std.proofs.Common.{sym, ◌∙◌, rules}
 use Rattle.job_steps.proofs.judge.Statement.{statement}
 use Rattle.job_steps.proofs.judge.Tie as tie

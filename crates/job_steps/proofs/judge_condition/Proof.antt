@@ -1,5 +1,5 @@
 -- The items in order: the condition, the sheet.
-use Rattle.even_rule.specs.Laws.Judged.{checked_rows, judged_other, judged_refused}
+use Rattle.even_rule.proofs.Laws.Judged.{checked_rows, judged_other, judged_refused}
 use Rattle.std.proofs.Common.{sym, ◌∙◌, rules}
 use Rattle.job_steps.proofs.judge_condition.Statement.{statement}
 use Rattle.job_steps.proofs.judge_condition.Tie as tie

@@ -1,6 +1,6 @@
 -- The masks of an accepted table are those of its free variables.
 use Rattle.std.proofs.Common.{◌∙◌, arith, rules}
-use Rattle.even_rule.specs.Laws.Judged.{checked_rows}
+use Rattle.even_rule.proofs.Laws.Judged.{checked_rows}
 use Rattle.job_steps.proofs.list.Statement.{statement}
 use Rattle.job_steps.proofs.list.Tie as tie
 

@@ -1,5 +1,5 @@
 -- The code of a digit below 10, and of one from 10 on.
-use Rattle.job_text.specs.Laws.Decimal.{glyph_low, glyph_high}
+use Rattle.job_text.proofs.Laws.Decimal.{glyph_low, glyph_high}
 use Rattle.std.proofs.Common.{arith}
 use Rattle.job_text.proofs.digit.Statement.{statement}
 use Rattle.job_text.proofs.digit.Tie as tie

@@ -1,6 +1,6 @@
 -- The four lines stand one behind another.
 use Rattle.std.proofs.Common.{arith, rules}
-use Rattle.job_text.specs.Laws.Lines.{done_put}
+use Rattle.job_text.proofs.Laws.Lines.{done_put}
 use Rattle.job_text.proofs.done.Statement.{statement}
 use Rattle.job_text.proofs.done.Tie as tie
 

@@ -2,7 +2,7 @@
 use Rattle.std.specs.Prelude.{refl, ◌+◌, ◌-◌, ◌≤◌, length, take}
 use Rattle.std.proofs.Common.{arith}
 use Rattle.job_text.specs.Put.{Puts}
-use Rattle.job_text.specs.Laws.Put.{puts_none, puts_as, word_more, word_whole}
+use Rattle.job_text.proofs.Laws.Put.{puts_none, puts_as, word_more, word_whole}
 use Rattle.job_text.proofs.put.Statement.{statement}
 use Rattle.job_text.proofs.put.Tie as tie
 

@@ -3,7 +3,7 @@ use Rattle.std.specs.Prelude.{◌≡◌, ◌+◌, ◌-◌, ◌≤◌, length, ta
 use Rattle.std.proofs.Common.{arith, length-set}
 use Rattle.job_text.specs.Text.{hexadecimal}
 use Rattle.job_text.specs.Put.{Puts}
-use Rattle.job_text.specs.Laws.Hex.{hex_none, hex_more, hex_whole}
+use Rattle.job_text.proofs.Laws.Hex.{hex_none, hex_more, hex_whole}
 use Rattle.job_text.proofs.put_bytes.Statement.{statement}
 use Rattle.job_text.proofs.put_bytes.Tie as tie
 

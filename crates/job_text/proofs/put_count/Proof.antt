@@ -1,5 +1,5 @@
 -- The three parts of the line stand one behind another.
-use Rattle.job_text.specs.Laws.Lines.{count-put}
+use Rattle.job_text.proofs.Laws.Lines.{count-put}
 use Rattle.std.proofs.Common.{rules}
 use Rattle.job_text.proofs.put_count.Statement.{statement}
 use Rattle.job_text.proofs.put_count.Tie as tie

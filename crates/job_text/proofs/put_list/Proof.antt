@@ -1,7 +1,7 @@
 -- The five parts of the line stand one behind another.
 use Rattle.std.proofs.Common.{arith, rules}
-use Rattle.job_text.specs.Laws.Hex.{length-hexadecimal}
-use Rattle.job_text.specs.Laws.Lines.{list_put}
+use Rattle.job_text.proofs.Laws.Hex.{length-hexadecimal}
+use Rattle.job_text.proofs.Laws.Lines.{list_put}
 use Rattle.job_text.proofs.put_list.Statement.{statement}
 use Rattle.job_text.proofs.put_list.Tie as tie
 

@@ -1,7 +1,7 @@
 -- The digits that `io::decimal` gives are written.
 use Rattle.std.proofs.Common.{arith, rules}
-use Rattle.job_text.specs.Laws.Decimal.{few}
-use Rattle.job_text.specs.Laws.Lines.{number_put}
+use Rattle.job_text.proofs.Laws.Decimal.{few}
+use Rattle.job_text.proofs.Laws.Lines.{number_put}
 use Rattle.job_text.proofs.put_number.Statement.{statement}
 use Rattle.job_text.proofs.put_number.Tie as tie
 

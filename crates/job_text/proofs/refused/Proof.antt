@@ -1,6 +1,6 @@
 -- The parts of the line stand one behind another.
 use Rattle.std.proofs.Common.{arith, rules}
-use Rattle.job_text.specs.Laws.Lines.{refused_put}
+use Rattle.job_text.proofs.Laws.Lines.{refused_put}
 use Rattle.job_text.proofs.refused.Statement.{statement}
 use Rattle.job_text.proofs.refused.Tie as tie
 

@@ -1,7 +1,7 @@
 -- The text of the case that the answer is.
 use Rattle.job_text.specs.Text.{job_text}
 use Rattle.std.proofs.Common.{sym, ◌∙◌, ap, arith, rules}
-use Rattle.job_text.specs.Laws.Lines.{counts}
+use Rattle.job_text.proofs.Laws.Lines.{counts}
 use Rattle.job_text.proofs.write.Statement.{statement}
 use Rattle.job_text.proofs.write.Tie as tie
 

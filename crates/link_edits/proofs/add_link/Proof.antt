@@ -2,9 +2,9 @@
 use Rattle.std.specs.Prelude.{refl}
 use Rattle.std.proofs.Common.{◌∙◌, arith}
 use Rattle.site.specs.Site.{site_of}
-use Rattle.going.specs.Laws.Ranges.{legal-AT}
-use Rattle.going.specs.Laws.Goes.{goes-AT}
-use Rattle.site_changes.specs.Laws.Rows.{row-AT}
+use Rattle.going.proofs.Laws.Ranges.{legal-AT}
+use Rattle.going.proofs.Laws.Goes.{goes-AT}
+use Rattle.site_changes.proofs.Laws.Rows.{row-AT}
 use Rattle.link_edits.proofs.add_link.Statement.{statement}
 use Rattle.link_edits.proofs.add_link.Tie as tie
 

@@ -4,7 +4,7 @@ use Rattle.std.proofs.Common.{◌∙◌, arith, length-drop, length-take-le, rul
 use Rattle.bitset.specs.Set.{set_bytes}
 use Rattle.limits.specs.Limits.{slots}
 use Rattle.site.specs.Layout.{row_at}
-use Rattle.site_changes.specs.Laws.Bytes.{row_cleared}
+use Rattle.site_changes.proofs.Laws.Bytes.{row_cleared}
 use Rattle.link_edits.proofs.clear_row.Statement.{statement}
 use Rattle.link_edits.proofs.clear_row.Tie as tie
 

@@ -1,8 +1,8 @@
 -- DT1 is a link taken from between two slots.
 use Rattle.std.proofs.Common.{arith}
 use Rattle.site.specs.Site.{site_of}
-use Rattle.going.specs.Laws.Ranges.{legal-DT1}
-use Rattle.site_changes.specs.Laws.Rows.{row-DT1}
+use Rattle.going.proofs.Laws.Ranges.{legal-DT1}
+use Rattle.site_changes.proofs.Laws.Rows.{row-DT1}
 use Rattle.link_edits.proofs.delete_link.Statement.{statement}
 use Rattle.link_edits.proofs.delete_link.Tie as tie
 

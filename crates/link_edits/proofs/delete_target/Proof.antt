@@ -2,9 +2,9 @@
 use Rattle.std.proofs.Common.{arith}
 use Rattle.limits.specs.Limits.{slots}
 use Rattle.site.specs.Site.{site_of}
-use Rattle.going.specs.Laws.Ranges.{legal-DT2}
-use Rattle.site_changes.specs.Laws.Rows.{row-DT2}
-use Rattle.site_changes.specs.Laws.Bytes.{target_taken}
+use Rattle.going.proofs.Laws.Ranges.{legal-DT2}
+use Rattle.site_changes.proofs.Laws.Rows.{row-DT2}
+use Rattle.site_changes.proofs.Laws.Bytes.{target_taken}
 use Rattle.link_edits.proofs.delete_target.Statement.{statement}
 use Rattle.link_edits.proofs.delete_target.Tie as tie
 

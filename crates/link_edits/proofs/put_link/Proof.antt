@@ -1,7 +1,7 @@
 -- A slot of a row, or the byte of a target.
 use Rattle.std.proofs.Common.{arith}
 use Rattle.limits.specs.Limits.{slots}
-use Rattle.site_changes.specs.Laws.Bytes.{row_put, link_put}
+use Rattle.site_changes.proofs.Laws.Bytes.{row_put, link_put}
 use Rattle.link_edits.proofs.put_link.Statement.{statement}
 use Rattle.link_edits.proofs.put_link.Tie as tie
 

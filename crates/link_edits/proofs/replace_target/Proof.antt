@@ -3,10 +3,10 @@ use Rattle.std.specs.Prelude.{refl}
 use Rattle.std.proofs.Common.{◌∙◌, arith}
 use Rattle.limits.specs.Limits.{slots}
 use Rattle.site.specs.Site.{site_of}
-use Rattle.going.specs.Laws.Ranges.{legal-RT}
-use Rattle.going.specs.Laws.Goes.{goes-RT, end_there}
-use Rattle.site_changes.specs.Laws.Rows.{row-RT}
-use Rattle.site_changes.specs.Laws.Bytes.{target-set}
+use Rattle.going.proofs.Laws.Ranges.{legal-RT}
+use Rattle.going.proofs.Laws.Goes.{goes-RT, end_there}
+use Rattle.site_changes.proofs.Laws.Rows.{row-RT}
+use Rattle.site_changes.proofs.Laws.Bytes.{target-set}
 use Rattle.link_edits.proofs.replace_target.Statement.{statement}
 use Rattle.link_edits.proofs.replace_target.Tie as tie
 

@@ -4,7 +4,7 @@ use Rattle.std.proofs.Common.{◌∙◌, ap, arith}
 use Rattle.bitset.specs.Set.{set_slots}
 use Rattle.site.specs.Layout.{site_bytes}
 use Rattle.site.specs.Site.{site_of}
-use Rattle.site_changes.specs.Laws.Loops.{column_start, column_more}
+use Rattle.site_changes.proofs.Laws.Loops.{column_start, column_more}
 use Rattle.site_changes.specs.Change.{column_to}
 use Rattle.link_edits.proofs.take_column.Statement.{statement}
 use Rattle.link_edits.proofs.take_column.Tie as tie

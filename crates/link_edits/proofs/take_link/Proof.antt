@@ -1,7 +1,7 @@
 -- A slot of a row, or the byte of a target.
 use Rattle.std.proofs.Common.{arith}
 use Rattle.limits.specs.Limits.{slots}
-use Rattle.site_changes.specs.Laws.Bytes.{row_taken}
+use Rattle.site_changes.proofs.Laws.Bytes.{row_taken}
 use Rattle.link_edits.proofs.take_link.Statement.{statement}
 use Rattle.link_edits.proofs.take_link.Tie as tie
 

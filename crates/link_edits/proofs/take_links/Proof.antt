@@ -4,7 +4,7 @@ use Rattle.std.proofs.Common.{◌∙◌, arith}
 use Rattle.limits.specs.Limits.{links}
 use Rattle.site.specs.Layout.{site_bytes}
 use Rattle.site.specs.Site.{site_of}
-use Rattle.site_changes.specs.Laws.Loops.{links_start, links_more, links_end}
+use Rattle.site_changes.proofs.Laws.Loops.{links_start, links_more, links_end}
 use Rattle.site_changes.specs.Change.{links_to}
 use Rattle.link_edits.proofs.take_links.Statement.{statement}
 use Rattle.link_edits.proofs.take_links.Tie as tie

@@ -1,7 +1,7 @@
 -- A row, or the byte of a target.
 use Rattle.std.proofs.Common.{arith}
 use Rattle.limits.specs.Limits.{slots}
-use Rattle.site_changes.specs.Laws.Bytes.{target_taken}
+use Rattle.site_changes.proofs.Laws.Bytes.{target_taken}
 use Rattle.link_edits.proofs.take_row.Statement.{statement}
 use Rattle.link_edits.proofs.take_row.Tie as tie
 

@@ -2,7 +2,7 @@
 use Rattle.std.proofs.Common.{arith}
 use Rattle.bitset.specs.Set.{set_slots}
 use Rattle.limits.specs.Limits.{slots}
-use Rattle.site_changes.specs.Laws.Loops.{crossed}
+use Rattle.site_changes.proofs.Laws.Loops.{crossed}
 use Rattle.link_edits.proofs.take_row_and_column.Statement.{statement}
 use Rattle.link_edits.proofs.take_row_and_column.Tie as tie
 

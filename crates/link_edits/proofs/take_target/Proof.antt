@@ -1,7 +1,7 @@
 -- The byte of a target, where it is the slot.
 use Rattle.std.proofs.Common.{sym, ◌∙◌, arith}
 use Rattle.limits.specs.Limits.{slots}
-use Rattle.site_changes.specs.Laws.Bytes.{link_taken, link_other}
+use Rattle.site_changes.proofs.Laws.Bytes.{link_taken, link_other}
 use Rattle.link_edits.proofs.take_target.Statement.{statement}
 use Rattle.link_edits.proofs.take_target.Tie as tie
 

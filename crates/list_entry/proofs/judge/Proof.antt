@@ -1,5 +1,5 @@
 -- The items in order: the buffers, the limit, the site and the condition.
-use Rattle.list_entry.specs.Laws.Listing.{judged_set, judged_work, judged_limit, judged_pair}
+use Rattle.list_entry.proofs.Laws.Listing.{judged_set, judged_work, judged_limit, judged_pair}
 use Rattle.std.proofs.Common.{arith, rules}
 use Rattle.list_entry.proofs.judge.Statement.{statement}
 use Rattle.list_entry.proofs.judge.Tie as tie

@@ -1,6 +1,6 @@
 -- The items in order: the site, the condition.
 use Rattle.std.proofs.Common.{sym, ◌∙◌, rules}
-use Rattle.even_rule.specs.Laws.Judged.{judged_condition, judged_refused, judged_next}
+use Rattle.even_rule.proofs.Laws.Judged.{judged_condition, judged_refused, judged_next}
 use Rattle.list_entry.proofs.judge_pair.Statement.{statement}
 use Rattle.list_entry.proofs.judge_pair.Tie as tie
 

@@ -1,7 +1,7 @@
 -- `list_entry::list` meets its contract: it is judged, then it lists or refuses.
 use Rattle.std.proofs.Common.{arith, rules}
-use Rattle.list_entry.specs.Laws.Listing.{accepts, answered_tried, answered_refused}
-use Rattle.site.specs.Laws.Valid.{accepted_out}
+use Rattle.list_entry.proofs.Laws.Listing.{accepts, answered_tried, answered_refused}
+use Rattle.site.proofs.Laws.Valid.{accepted_out}
 use Rattle.list_entry.proofs.list.Statement.{statement}
 use Rattle.list_entry.proofs.list.Tie as tie
 

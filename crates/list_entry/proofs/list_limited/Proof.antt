@@ -1,6 +1,6 @@
 -- The condition is listed; item 15 comes where more rounds are made than the limit.
 use Rattle.std.proofs.Common.{arith, rules}
-use Rattle.list_entry.specs.Laws.Listing.{tried_within, tried_over}
+use Rattle.list_entry.proofs.Laws.Listing.{tried_within, tried_over}
 use Rattle.list_entry.proofs.list_limited.Statement.{statement}
 use Rattle.list_entry.proofs.list_limited.Tie as tie
 

@@ -3,21 +3,21 @@ use Rattle.std.specs.Prelude.{false, not, ◌⊎◌, ◌≡◌, ◌+◌, ◌-◌
 use Rattle.std.proofs.Common.{⊎_elim, inl, inr, sym, ◌∙◌, ap, subst, arith, length-set, ltb-true, ltb-false, leb-true, le-leb}
 use borrow.Fn.Kinds.{In}
 use borrow.Fn.PlainCycle.{Measures, is, falls, and}
-use Rattle.finite.specs.Laws.Bools.{either, and_r}
+use Rattle.finite.proofs.Laws.Bools.{either, and_r}
 use Rattle.bitset.specs.Set.{set_slots, has}
 use Rattle.limits.specs.Limits.{not_no, dia_no, box_no, mu_no, nu_no}
-use Rattle.semantics.specs.Laws.Agree.{◌≐◌}
+use Rattle.semantics.specs.Agree.{◌≐◌}
 use Rattle.site.specs.Site.{site_of}
 use Rattle.condition.specs.Bytes.{node_at}
-use Rattle.listing_sets.specs.Laws.Nodes.{is_unary, is_binary, is_loop}
-use Rattle.listing_sets.specs.Laws.Offsets.{valuation_is}
+use Rattle.listing_sets.proofs.Laws.Nodes.{is_unary, is_binary, is_loop}
+use Rattle.listing_sets.proofs.Laws.Offsets.{valuation_is}
 use Rattle.listing_sets.specs.Nodes.{node_makes, start_of}
 use Rattle.listing_sets.specs.Offsets.{valuation}
 use Rattle.listing.specs.State.{node_rounds}
-use Rattle.listing.specs.Laws.Rounds.{Rounds, rounds-none, assigned, rounds_more, rounds_number, rounds_done, restored, goes_on}
-use Rattle.listing.specs.Laws.Memo.{moved, finish, kept, was_known, leaf_done, again, second-number, second_done, child}
-use Rattle.listing.specs.Laws.Counts.{end_rounds, unary_rounds, binary_rounds, loop-rounds, loop_rests}
-use Rattle.listing.specs.Laws.Kinds.{unary_left, modal_in, loop_variable}
+use Rattle.listing.proofs.Laws.Rounds.{Rounds, rounds-none, assigned, rounds_more, rounds_number, rounds_done, restored, goes_on}
+use Rattle.listing.proofs.Laws.Memo.{moved, finish, kept, was_known, leaf_done, again, second-number, second_done, child}
+use Rattle.listing.proofs.Laws.Counts.{end_rounds, unary_rounds, binary_rounds, loop-rounds, loop_rests}
+use Rattle.listing.proofs.Laws.Kinds.{unary_left, modal_in, loop_variable}
 use Rattle.listing.proofs.binary.Reads as binary
 use Rattle.listing.proofs.binary.Kinds as binary-kinds
 use Rattle.listing.proofs.+binary_compute_eval_fixpoint_fixpoint_from_unary.Lts-binary as binary-lts

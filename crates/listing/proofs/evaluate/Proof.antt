@@ -4,8 +4,8 @@ use Rattle.std.proofs.Common.{◌∙◌, ap, arith, rules}
 use lib.ListN.{length-replicate}
 use Rattle.limits.specs.Limits.{slots, table_nodes}
 use Rattle.site.specs.Site.{site_of}
-use Rattle.condition.specs.Laws.Verdict.{accepted_sound}
-use Rattle.listing.specs.Laws.Answer.{none-known, whole, answer, answer_rounds}
+use Rattle.condition.proofs.Laws.Verdict.{accepted_sound}
+use Rattle.listing.proofs.Laws.Answer.{none-known, whole, answer, answer_rounds}
 use Rattle.listing.proofs.evaluate.Statement.{statement}
 use Rattle.listing.proofs.evaluate.Tie as tie
 

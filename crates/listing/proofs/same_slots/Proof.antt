@@ -2,7 +2,7 @@
 use Rattle.std.specs.Prelude.{List, ℕ}
 use Rattle.std.proofs.Common.{sym, ap, rules}
 use Rattle.bitset.specs.Set.{set_bytes, has}
-use Rattle.bitset.specs.Laws.Bytes.{same-slots}
+use Rattle.bitset.proofs.Laws.Bytes.{same-slots}
 use Rattle.limits.specs.Limits.{slots}
 use Rattle.listing.proofs.same_slots.Statement.{statement}
 use Rattle.listing.proofs.same_slots.Tie as tie

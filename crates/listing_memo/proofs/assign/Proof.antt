@@ -1,6 +1,6 @@
 -- The set is stored, and the nodes forgotten.
 use Rattle.std.proofs.Common.{arith, rules}
-use Rattle.listing_memo.specs.Laws.Memo.{assigned}
+use Rattle.listing_memo.proofs.Laws.Memo.{assigned}
 use Rattle.listing_memo.proofs.assign.Statement.{statement}
 use Rattle.listing_memo.proofs.assign.Tie as tie
 

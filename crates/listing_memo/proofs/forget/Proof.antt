@@ -2,7 +2,7 @@
 use Rattle.std.specs.Prelude.{◌≡◌, ◌-◌, ◌≤◌, length}
 use Rattle.std.proofs.Common.{arith}
 use Rattle.listing_memo.specs.Memo.{node_sets, memo_bytes, Forgotten}
-use Rattle.listing_memo.specs.Laws.Memo.{forgotten_none, forgotten_more}
+use Rattle.listing_memo.proofs.Laws.Memo.{forgotten_none, forgotten_more}
 use Rattle.listing_memo.proofs.forget.Statement.{statement}
 use Rattle.listing_memo.proofs.forget.Tie as tie
 

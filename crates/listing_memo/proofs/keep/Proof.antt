@@ -1,5 +1,5 @@
 -- The node's bit is put in.
-use Rattle.listing_memo.specs.Laws.Memo.{kept}
+use Rattle.listing_memo.proofs.Laws.Memo.{kept}
 use Rattle.std.proofs.Common.{rules}
 use Rattle.listing_memo.proofs.keep.Statement.{statement}
 use Rattle.listing_memo.proofs.keep.Tie as tie

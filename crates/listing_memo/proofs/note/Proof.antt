@@ -3,7 +3,7 @@ use Rattle.std.specs.Prelude.{◌≡◌, ◌-◌, ◌≤◌}
 use Rattle.std.proofs.Common.{◌∙◌, ⊎_elim, arith, ltb-false}
 use Rattle.limits.specs.Limits.{variables}
 use Rattle.listing_memo.specs.Memo.{Noted}
-use Rattle.listing_memo.specs.Laws.Memo.{noted_none, noted_skip, noted_more, noted_done, Left, left_all, left_odd, left_even, left_more, left_none}
+use Rattle.listing_memo.proofs.Laws.Memo.{noted_none, noted_skip, noted_more, noted_done, Left, left_all, left_odd, left_even, left_more, left_none}
 use Rattle.listing_memo.proofs.note.Statement.{statement}
 use Rattle.listing_memo.proofs.note.Tie as tie
 

@@ -3,7 +3,7 @@ use Rattle.std.specs.Prelude.{◌≡◌, ℕ, ◌-◌, ◌≤◌, length}
 use Rattle.std.proofs.Common.{ap, arith}
 use lib.ListN.{length-replicate}
 use Rattle.listing_memo.specs.Memo.{memo_bytes, Started}
-use Rattle.listing_memo.specs.Laws.Memo.{started_none, started_more}
+use Rattle.listing_memo.proofs.Laws.Memo.{started_none, started_more}
 use Rattle.listing_memo.proofs.start.Statement.{statement}
 use Rattle.listing_memo.proofs.start.Tie as tie
 

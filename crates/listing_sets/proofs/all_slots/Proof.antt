@@ -1,6 +1,6 @@
 -- Every byte is 255.
-use Rattle.bitset.specs.Laws.Bytes.{has-full}
-use Rattle.semantics.specs.Laws.FixedPoint.{full}
+use Rattle.bitset.proofs.Laws.Bytes.{has-full}
+use Rattle.semantics.specs.FixedPoint.{full}
 use Rattle.limits.specs.Limits.{slots}
 use Rattle.listing_sets.proofs.all_slots.Statement.{statement}
 use Rattle.listing_sets.proofs.all_slots.Tie as tie

@@ -2,7 +2,7 @@
 use Rattle.std.specs.Prelude.{refl, ◌-◌}
 use Rattle.std.proofs.Common.{arith}
 use Rattle.bitset.specs.Set.{set_bytes}
-use Rattle.bitset.specs.Laws.Update.{Updated, update_none, update_more, update_done}
+use Rattle.bitset.proofs.Laws.Update.{Updated, update_none, update_more, update_done}
 use Rattle.listing_sets.proofs.copy.Statement.{statement}
 use Rattle.listing_sets.proofs.copy.Tie as tie
 

@@ -2,7 +2,7 @@
 use Rattle.std.specs.Prelude.{not}
 use Rattle.std.proofs.Common.{◌∙◌, ap, arith, rules}
 use Rattle.limits.specs.Limits.{slots}
-use Rattle.listing_sets.specs.Laws.Offsets.{part_set, set_written}
+use Rattle.listing_sets.proofs.Laws.Offsets.{part_set, set_written}
 use Rattle.listing_sets.proofs.invert.Statement.{statement}
 use Rattle.listing_sets.proofs.invert.Tie as tie
 

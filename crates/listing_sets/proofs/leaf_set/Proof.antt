@@ -2,14 +2,14 @@
 use Rattle.std.specs.Prelude.{◌≡◌, ℕ, ◌<◌}
 use Rattle.std.proofs.Common.{sym, ◌∙◌, ap, arith, rules}
 use Rattle.finite.specs.Tests.{same}
-use Rattle.semantics.specs.Laws.FixedPoint.{full}
+use Rattle.semantics.specs.FixedPoint.{full}
 use Rattle.limits.specs.Limits.{slots, label_no, name_no, var_no, slot_no}
 use Rattle.site.specs.Site.{site_of}
-use Rattle.condition.specs.Laws.Limits.{limit_label, limit_name, limit_variable}
+use Rattle.condition.proofs.Laws.Limits.{limit_label, limit_name, limit_variable}
 use Rattle.condition.specs.Bytes.{node_at}
-use Rattle.listing_sets.specs.Laws.Nodes.{here_set, label_set, is_true, is_here, is_label, is_name, is_variable, is_slot}
+use Rattle.listing_sets.proofs.Laws.Nodes.{here_set, label_set, is_true, is_here, is_label, is_name, is_variable, is_slot}
 use Rattle.listing_sets.specs.Offsets.{valuation}
-use Rattle.listing_sets.specs.Laws.Offsets.{valuation_is}
+use Rattle.listing_sets.proofs.Laws.Offsets.{valuation_is}
 use Rattle.listing_sets.proofs.leaf_set.Statement.{statement}
 use Rattle.listing_sets.proofs.leaf_set.Tie as tie
 

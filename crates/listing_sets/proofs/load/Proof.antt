@@ -1,7 +1,7 @@
 -- The part of set j, copied.
 use Rattle.std.proofs.Common.{◌∙◌, arith, rules}
 use Rattle.limits.specs.Limits.{slots}
-use Rattle.listing_sets.specs.Laws.Offsets.{part_set}
+use Rattle.listing_sets.proofs.Laws.Offsets.{part_set}
 use Rattle.listing_sets.proofs.load.Statement.{statement}
 use Rattle.listing_sets.proofs.load.Tie as tie
 

@@ -3,7 +3,7 @@ use Rattle.std.specs.Prelude.{Bool, ◌&&◌}
 use Rattle.std.proofs.Common.{◌∙◌, ap, arith, rules}
 use Rattle.bitset.specs.Set.{has}
 use Rattle.limits.specs.Limits.{slots}
-use Rattle.listing_sets.specs.Laws.Offsets.{part_set, set_written}
+use Rattle.listing_sets.proofs.Laws.Offsets.{part_set, set_written}
 use Rattle.listing_sets.proofs.meet.Statement.{statement}
 use Rattle.listing_sets.proofs.meet.Tie as tie
 

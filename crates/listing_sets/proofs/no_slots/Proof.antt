@@ -1,6 +1,6 @@
 -- Every byte is 0.
-use Rattle.bitset.specs.Laws.Bytes.{has_empty}
-use Rattle.semantics.specs.Laws.FixedPoint.{none}
+use Rattle.bitset.proofs.Laws.Bytes.{has_empty}
+use Rattle.semantics.specs.FixedPoint.{none}
 use Rattle.limits.specs.Limits.{slots}
 use Rattle.listing_sets.proofs.no_slots.Statement.{statement}
 use Rattle.listing_sets.proofs.no_slots.Tie as tie

@@ -3,7 +3,7 @@ use Rattle.std.specs.Prelude.{Bool, ◌&&◌, ◌||◌}
 use Rattle.std.proofs.Common.{sym, ◌∙◌, ap, arith, rules}
 use Rattle.bitset.specs.Set.{has}
 use Rattle.condition.specs.Bytes.{node_at}
-use Rattle.listing_sets.specs.Laws.Nodes.{makes_or, makes_and}
+use Rattle.listing_sets.proofs.Laws.Nodes.{makes_or, makes_and}
 use Rattle.listing_sets.proofs.put_binary.Statement.{statement}
 use Rattle.listing_sets.proofs.put_binary.Tie as tie
 

@@ -1,7 +1,7 @@
 -- The child's set is stored and inverted, or its diamond or box is stored.
 use Rattle.std.specs.Prelude.{not, ◌&&◌, ◌||◌, ◌≡◌, ℕ}
 use Rattle.std.proofs.Common.{sym, ◌∙◌, ap, arith, rules}
-use Rattle.finite.specs.Laws.Bools.{either}
+use Rattle.finite.proofs.Laws.Bools.{either}
 use Rattle.finite.specs.Tests.{any, all}
 use Rattle.bitset.specs.Set.{has}
 use Rattle.semantics.specs.Table.{way_of}
@@ -9,8 +9,8 @@ use Rattle.semantics.specs.Holds.{step}
 use Rattle.limits.specs.Limits.{slots, box_no}
 use Rattle.site.specs.Site.{site_of}
 use Rattle.condition.specs.Bytes.{node_at}
-use Rattle.listing_sets.specs.Laws.Nodes.{makes-not, makes_diamond, makes-box}
-use Rattle.listing_sets.specs.Laws.Offsets.{slot_in}
+use Rattle.listing_sets.proofs.Laws.Nodes.{makes-not, makes_diamond, makes-box}
+use Rattle.listing_sets.proofs.Laws.Offsets.{slot_in}
 use Rattle.listing_sets.proofs.put_unary.Statement.{statement}
 use Rattle.listing_sets.proofs.put_unary.Tie as tie
 

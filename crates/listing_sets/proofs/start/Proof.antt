@@ -1,6 +1,6 @@
 -- By cases: the kind is mu, or it is not.
 use Rattle.std.proofs.Common.{rules}
-use Rattle.listing_sets.specs.Laws.Nodes.{mu_start, nu_start}
+use Rattle.listing_sets.proofs.Laws.Nodes.{mu_start, nu_start}
 use Rattle.listing_sets.proofs.start.Statement.{statement}
 use Rattle.listing_sets.proofs.start.Tie as tie
 

@@ -1,7 +1,7 @@
 -- The set, copied into the part that is lent.
 use Rattle.std.proofs.Common.{arith, rules}
 use Rattle.limits.specs.Limits.{slots}
-use Rattle.listing_sets.specs.Laws.Offsets.{set_written}
+use Rattle.listing_sets.proofs.Laws.Offsets.{set_written}
 use Rattle.listing_sets.proofs.store.Statement.{statement}
 use Rattle.listing_sets.proofs.store.Tie as tie
 

@@ -3,7 +3,7 @@ use Rattle.std.specs.Prelude.{◌≡◌, ◌&&◌, ◌+◌, ◌*◌, ◌-◌, �
 use Rattle.std.proofs.Common.{arith}
 use Rattle.bitset.specs.Set.{set_bytes, has}
 use Rattle.site.specs.Site.{site_of}
-use Rattle.modal.specs.Laws.Gather.{Adds, adds_none, adds_more, slot_left, byte_done}
+use Rattle.modal.proofs.Laws.Gather.{Adds, adds_none, adds_more, slot_left, byte_done}
 use Rattle.modal.proofs.add_byte.Statement.{statement}
 use Rattle.modal.proofs.add_byte.Tie as tie
 

@@ -2,7 +2,7 @@
 use Rattle.std.specs.Prelude.{◌+◌, ◌-◌}
 use Rattle.std.proofs.Common.{arith, rules}
 use Rattle.bitset.specs.Set.{set_bytes}
-use Rattle.modal.specs.Laws.Links.{row_added, none_added, target_added}
+use Rattle.modal.proofs.Laws.Links.{row_added, none_added, target_added}
 use Rattle.modal.proofs.add_targets.Statement.{statement}
 use Rattle.modal.proofs.add_targets.Tie as tie
 

@@ -2,7 +2,7 @@
 use Rattle.std.proofs.Common.{sym, ◌∙◌, rules}
 use borrow.Author.Tests.{not-true, not-false}
 use Rattle.site.specs.Site.{site_of}
-use Rattle.modal.specs.Laws.Gather.{puts_if_in, puts_none_if_out}
+use Rattle.modal.proofs.Laws.Gather.{puts_if_in, puts_none_if_out}
 use Rattle.modal.proofs.add_targets_from.Statement.{statement}
 use Rattle.modal.proofs.add_targets_from.Tie as tie
 

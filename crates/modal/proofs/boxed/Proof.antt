@@ -3,7 +3,7 @@ use Rattle.std.proofs.Common.{rules}
 use Rattle.semantics.specs.Table.{way_of}
 use Rattle.semantics.specs.Holds.{step}
 use Rattle.site.specs.Site.{site_of}
-use Rattle.modal.specs.Laws.Modal.{box_diamond}
+use Rattle.modal.proofs.Laws.Modal.{box_diamond}
 use Rattle.modal.proofs.boxed.Statement.{statement}
 use Rattle.modal.proofs.boxed.Tie as tie
 

@@ -1,7 +1,7 @@
 -- By the way: along a link, against it, or everywhere.
 use Rattle.std.proofs.Common.{rules}
 use Rattle.site.specs.Site.{site_of}
-use Rattle.modal.specs.Laws.Modal.{diamond_along, diamond_against, diamond_every}
+use Rattle.modal.proofs.Laws.Modal.{diamond_along, diamond_against, diamond_every}
 use Rattle.modal.proofs.diamond.Statement.{statement}
 use Rattle.modal.proofs.diamond.Tie as tie
 

@@ -1,8 +1,8 @@
 -- The set has a slot exactly if its count is over 0.
 use Rattle.std.proofs.Common.{sym, ◌∙◌, arith, rules}
-use Rattle.finite.specs.Laws.Below.{below_in, below-not}
-use Rattle.bitset.specs.Laws.Bytes.{has_empty, has-full}
-use Rattle.modal.specs.Laws.Modal.{some_counted}
+use Rattle.finite.proofs.Laws.Below.{below_in, below-not}
+use Rattle.bitset.proofs.Laws.Bytes.{has_empty, has-full}
+use Rattle.modal.proofs.Laws.Modal.{some_counted}
 use Rattle.modal.proofs.everywhere.Statement.{statement}
 use Rattle.modal.proofs.everywhere.Tie as tie
 

@@ -3,7 +3,7 @@ use Rattle.std.specs.Prelude.{◌&&◌, ◌*◌, ◌-◌}
 use Rattle.std.proofs.Common.{arith, rules}
 use Rattle.bitset.specs.Set.{set_bytes, has}
 use Rattle.site.specs.Site.{site_of}
-use Rattle.modal.specs.Laws.Gather.{Gathered, gather_none, gather_byte, gather_done}
+use Rattle.modal.proofs.Laws.Gather.{Gathered, gather_none, gather_byte, gather_done}
 use Rattle.modal.proofs.image.Statement.{statement}
 use Rattle.modal.proofs.image.Tie as tie
 

@@ -2,7 +2,7 @@
 use Rattle.std.specs.Prelude.{◌+◌, ◌-◌}
 use Rattle.std.proofs.Common.{sym, ◌∙◌, arith, rules}
 use Rattle.bitset.specs.Set.{set_bytes}
-use Rattle.modal.specs.Laws.Links.{row-meets, target_none, target-meets}
+use Rattle.modal.proofs.Laws.Links.{row-meets, target_none, target-meets}
 use Rattle.modal.proofs.leads_into.Statement.{statement}
 use Rattle.modal.proofs.leads_into.Tie as tie
 

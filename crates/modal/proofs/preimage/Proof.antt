@@ -5,7 +5,7 @@ use Rattle.finite.specs.Tests.{same, any}
 use Rattle.bitset.specs.Set.{set_slots, has}
 use Rattle.limits.specs.Limits.{slots}
 use Rattle.site.specs.Site.{site_of}
-use Rattle.modal.specs.Laws.Gather.{Gathered, gather_none, gather_more, gather_each}
+use Rattle.modal.proofs.Laws.Gather.{Gathered, gather_none, gather_more, gather_each}
 use Rattle.modal.proofs.preimage.Statement.{statement}
 use Rattle.modal.proofs.preimage.Tie as tie
 

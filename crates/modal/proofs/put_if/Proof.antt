@@ -2,8 +2,8 @@
 use Rattle.std.proofs.Common.{arith, rules}
 use borrow.Author.Tests.{not-true, not-false}
 use Rattle.finite.specs.Tests.{same}
-use Rattle.bitset.specs.Laws.Slot.{has-inserted}
-use Rattle.modal.specs.Laws.Gather.{puts_if_in, puts_none_if_out}
+use Rattle.bitset.proofs.Laws.Slot.{has-inserted}
+use Rattle.modal.proofs.Laws.Gather.{puts_if_in, puts_none_if_out}
 use Rattle.modal.proofs.put_if.Statement.{statement}
 use Rattle.modal.proofs.put_if.Tie as tie
 

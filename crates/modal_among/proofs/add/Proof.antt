@@ -1,7 +1,7 @@
 -- By the way: along a link, or against it.
 use Rattle.std.proofs.Common.{arith, rules}
 use Rattle.site.specs.Site.{site_of}
-use Rattle.modal_among.specs.Laws.Gather.{passes_along, passes_against}
+use Rattle.modal_among.proofs.Laws.Gather.{passes_along, passes_against}
 use Rattle.modal_among.proofs.add.Statement.{statement}
 use Rattle.modal_among.proofs.add.Tie as tie
 

@@ -1,8 +1,8 @@
 -- By whether the link leads from the slot into the set.
 use Rattle.std.proofs.Common.{sym, ◌∙◌, arith, rules}
 use Rattle.finite.specs.Tests.{same}
-use Rattle.bitset.specs.Laws.Slot.{has-inserted}
-use Rattle.modal.specs.Laws.Gather.{puts_if_in, puts_none_if_out}
+use Rattle.bitset.proofs.Laws.Slot.{has-inserted}
+use Rattle.modal.proofs.Laws.Gather.{puts_if_in, puts_none_if_out}
 use Rattle.modal_among.proofs.add_if_leading.Statement.{statement}
 use Rattle.modal_among.proofs.add_if_leading.Tie as tie
 

@@ -3,10 +3,10 @@ use Rattle.std.specs.Prelude.{◌+◌, ◌*◌, ◌-◌, ◌^◌, ◌<◌}
 use Rattle.std.proofs.Common.{arith}
 use lib.Bits.{and_le_r}
 use lib.Count.{trailing_le}
-use Rattle.words.specs.Laws.Lowest.{lowest}
+use Rattle.words.proofs.Laws.Lowest.{lowest}
 use Rattle.site.specs.Site.{site_of}
 use Rattle.modal_among.specs.Among.{passes}
-use Rattle.modal_among.specs.Laws.Bits.{Lacks, lacks_start, lacks_more, lacks_done}
+use Rattle.modal_among.proofs.Laws.Bits.{Lacks, lacks_start, lacks_more, lacks_done}
 use Rattle.modal_among.proofs.add_word.Statement.{statement}
 use Rattle.modal_among.proofs.add_word.Tie as tie
 

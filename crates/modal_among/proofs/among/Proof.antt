@@ -1,7 +1,7 @@
 -- By the way: along a link the slots of the pool, else the slots that lead into the set, met with the pool.
 use Rattle.std.proofs.Common.{arith, rules}
 use Rattle.site.specs.Site.{site_of}
-use Rattle.modal_among.specs.Laws.Gather.{among_along, among_met}
+use Rattle.modal_among.proofs.Laws.Gather.{among_along, among_met}
 use Rattle.modal_among.proofs.among.Statement.{statement}
 use Rattle.modal_among.proofs.among.Tie as tie
 

@@ -3,10 +3,10 @@ use Rattle.std.specs.Prelude.{◌&&◌, ◌*◌, ◌-◌}
 use Rattle.std.proofs.Common.{arith, rules}
 use Rattle.bitset.specs.Set.{has}
 use Rattle.site.specs.Site.{site_of}
-use Rattle.modal.specs.Laws.Gather.{Gathered, gather_none, gather_done}
+use Rattle.modal.proofs.Laws.Gather.{Gathered, gather_none, gather_done}
 use Rattle.modal_among.specs.Among.{passes}
-use Rattle.modal_among.specs.Laws.Bits.{gather_word}
-use Rattle.modal_among.specs.Laws.Gather.{word-passes}
+use Rattle.modal_among.proofs.Laws.Bits.{gather_word}
+use Rattle.modal_among.proofs.Laws.Gather.{word-passes}
 use Rattle.modal_among.proofs.gather.Statement.{statement}
 use Rattle.modal_among.proofs.gather.Tie as tie
 

@@ -1,7 +1,7 @@
 -- A general link by the slots that it leads to, a functional one by its target.
 use Rattle.std.proofs.Common.{sym, ◌∙◌, rules}
 use Rattle.site.specs.Site.{site_of}
-use Rattle.modal.specs.Laws.Links.{target_none, target-meets}
+use Rattle.modal.proofs.Laws.Links.{target_none, target-meets}
 use Rattle.modal_among.proofs.leads.Statement.{statement}
 use Rattle.modal_among.proofs.leads.Tie as tie
 

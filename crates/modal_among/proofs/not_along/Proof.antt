@@ -1,7 +1,7 @@
 -- Against a link from the rows of the set's slots, and everywhere by the diamond.
 use Rattle.std.proofs.Common.{arith, rules}
 use Rattle.site.specs.Site.{site_of}
-use Rattle.modal_among.specs.Laws.Gather.{against_over}
+use Rattle.modal_among.proofs.Laws.Gather.{against_over}
 use Rattle.modal_among.proofs.not_along.Statement.{statement}
 use Rattle.modal_among.proofs.not_along.Tie as tie
 

@@ -1,7 +1,7 @@
 -- By whether the slots that the link leads to meet the set.
 use Rattle.std.proofs.Common.{sym, rules}
 use Rattle.site.specs.Site.{site_of}
-use Rattle.modal_among.specs.Laws.Gather.{meets, meets-not}
+use Rattle.modal_among.proofs.Laws.Gather.{meets, meets-not}
 use Rattle.modal_among.proofs.row_leads.Statement.{statement}
 use Rattle.modal_among.proofs.row_leads.Tie as tie
 

@@ -5,8 +5,8 @@ use lib.ListN.{length-replicate}
 use Rattle.bitset.specs.Set.{set_bytes}
 use Rattle.site.specs.Layout.{row_at}
 use Rattle.site.specs.Site.{site_of}
-use Rattle.modal.specs.Laws.Links.{row_added, none_added, target_added}
-use Rattle.modal_among.specs.Laws.Gather.{into-none}
+use Rattle.modal.proofs.Laws.Links.{row_added, none_added, target_added}
+use Rattle.modal_among.proofs.Laws.Gather.{into-none}
 use Rattle.modal_among.proofs.targets.Statement.{statement}
 use Rattle.modal_among.proofs.targets.Tie as tie
 

@@ -1,6 +1,6 @@
 -- One bit after the other.
 use Rattle.std.proofs.Common.{arith}
-use Rattle.neighbours.specs.Laws.Steps.{joined}
+use Rattle.neighbours.proofs.Laws.Steps.{joined}
 use Rattle.neighbours.proofs.join.Statement.{statement}
 use Rattle.neighbours.proofs.join.Tie as tie
 

@@ -1,7 +1,7 @@
 -- Byte i of the row is put into row s of way m.
 use Rattle.std.specs.Prelude.{refl}
 use Rattle.std.proofs.Common.{arith, rules}
-use Rattle.neighbours.specs.Laws.Steps.{byte_along}
+use Rattle.neighbours.proofs.Laws.Steps.{byte_along}
 use Rattle.neighbours.proofs.join_along.Statement.{statement}
 use Rattle.neighbours.proofs.join_along.Tie as tie
 

@@ -4,9 +4,9 @@ use Rattle.std.proofs.Common.{sym, ◌∙◌, ap, arith}
 use Rattle.finite.specs.Tests.{same, any}
 use Rattle.limits.specs.Limits.{slots, links}
 use Rattle.site.specs.Site.{site_of}
-use Rattle.site.specs.Laws.Read.{row_is}
+use Rattle.site.proofs.Laws.Read.{row_is}
 use Rattle.partition.specs.Gains.{Gains}
-use Rattle.partition.specs.Laws.Gains.{gains_start, gains_map, gains_more, gains_done}
+use Rattle.partition.proofs.Laws.Gains.{gains_start, gains_map, gains_more, gains_done}
 use Rattle.neighbours.specs.Steps.{at, back_joins}
 use Rattle.neighbours.proofs.join_back.Statement.{statement}
 use Rattle.neighbours.proofs.join_back.Tie as tie

@@ -1,7 +1,7 @@
 -- A byte that is 0 joins nothing; else both halves are put in.
 use Rattle.std.proofs.Common.{arith}
 use Rattle.site.specs.Site.{site_of}
-use Rattle.neighbours.specs.Laws.Steps.{byte_none, byte_joined}
+use Rattle.neighbours.proofs.Laws.Steps.{byte_none, byte_joined}
 use Rattle.neighbours.proofs.join_byte.Statement.{statement}
 use Rattle.neighbours.proofs.join_byte.Tie as tie
 

@@ -4,7 +4,7 @@ use Rattle.std.proofs.Common.{arith, rules}
 use Rattle.site.specs.Site.{site_of}
 use Rattle.bitset.specs.Set.{set_slots}
 use Rattle.partition.specs.Gains.{Gains}
-use Rattle.partition.specs.Laws.Gains.{gains_start, gains_more, gains_done}
+use Rattle.partition.proofs.Laws.Gains.{gains_start, gains_more, gains_done}
 use Rattle.finite.specs.Tests.{any}
 use Rattle.neighbours.specs.Steps.{target_joins}
 use Rattle.neighbours.proofs.join_ends.Statement.{statement}

@@ -4,10 +4,10 @@ use Rattle.std.proofs.Common.{arith, rules}
 use Rattle.site.specs.Site.{site_of}
 use Rattle.bitset.specs.Set.{set_bytes}
 use Rattle.partition.specs.Gains.{Gains}
-use Rattle.partition.specs.Laws.Gains.{gains_start, gains_more, gains_done}
+use Rattle.partition.proofs.Laws.Gains.{gains_start, gains_more, gains_done}
 use Rattle.finite.specs.Tests.{any}
 use Rattle.neighbours.specs.Steps.{byte_joins}
-use Rattle.neighbours.specs.Laws.Steps.{row-none, bytes-all}
+use Rattle.neighbours.proofs.Laws.Steps.{row-none, bytes-all}
 use Rattle.neighbours.proofs.join_row.Statement.{statement}
 use Rattle.neighbours.proofs.join_row.Tie as tie
 

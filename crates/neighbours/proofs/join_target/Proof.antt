@@ -1,6 +1,6 @@
 -- By whether s has a target.
 use Rattle.std.proofs.Common.{arith}
-use Rattle.neighbours.specs.Laws.Steps.{target_none, target-joins}
+use Rattle.neighbours.proofs.Laws.Steps.{target_none, target-joins}
 use Rattle.neighbours.proofs.join_target.Statement.{statement}
 use Rattle.neighbours.proofs.join_target.Tie as tie
 

@@ -3,7 +3,7 @@ use Rattle.std.specs.Prelude.{◌≡◌, ℕ, ◌+◌, ◌-◌, ◌≤◌, ◌<�
 use Rattle.std.proofs.Common.{arith, eqb-true, below_none}
 use Rattle.bitset.specs.Set.{set_bytes}
 use Rattle.site.specs.Layout.{row_at}
-use Rattle.partition.specs.Laws.Rows.{empty_more}
+use Rattle.partition.proofs.Laws.Rows.{empty_more}
 use Rattle.neighbours.proofs.no_targets.Statement.{statement}
 use Rattle.neighbours.proofs.no_targets.Tie as tie
 

@@ -7,10 +7,10 @@ use Rattle.limits.specs.Limits.{links}
 use Rattle.bitset.specs.Set.{set_slots}
 use Rattle.partition.specs.Gains.{Gains}
 use Rattle.partition.specs.Rows.{ways_bytes}
-use Rattle.partition.specs.Laws.Gains.{gains_start, gains_more, gains_done}
+use Rattle.partition.proofs.Laws.Gains.{gains_start, gains_more, gains_done}
 use Rattle.finite.specs.Tests.{any}
 use Rattle.neighbours.specs.Steps.{target_joins}
-use Rattle.neighbours.specs.Laws.Steps.{neighbours_all}
+use Rattle.neighbours.proofs.Laws.Steps.{neighbours_all}
 use Rattle.neighbours.proofs.of_site.Statement.{statement}
 use Rattle.neighbours.proofs.of_site.Tie as tie
 

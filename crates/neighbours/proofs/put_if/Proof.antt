@@ -1,6 +1,6 @@
 -- The weight is put into the byte of bit x.
 use Rattle.std.proofs.Common.{arith, rules}
-use Rattle.neighbours.specs.Laws.Steps.{weighed}
+use Rattle.neighbours.proofs.Laws.Steps.{weighed}
 use Rattle.neighbours.proofs.put_if.Statement.{statement}
 use Rattle.neighbours.proofs.put_if.Tie as tie
 

@@ -1,6 +1,6 @@
 -- By cases on `put`.
 use Rattle.std.proofs.Common.{arith}
-use Rattle.bitset.specs.Laws.Slot.{weight}
+use Rattle.bitset.proofs.Laws.Slot.{weight}
 use Rattle.neighbours.proofs.weight_if.Statement.{statement}
 use Rattle.neighbours.proofs.weight_if.Tie as tie
 

@@ -4,7 +4,7 @@ use Rattle.std.proofs.Common.{arith, rules}
 use Rattle.semantics.specs.Block.{size}
 use Rattle.through.specs.Through.{own}
 use Rattle.own_conditions.specs.Nodes.{own_size}
-use Rattle.own_conditions.specs.Laws.Nodes.{link_sized}
+use Rattle.own_conditions.proofs.Laws.Nodes.{link_sized}
 use Rattle.own_conditions.proofs.own_size.Statement.{statement}
 use Rattle.own_conditions.proofs.own_size.Tie as tie
 

@@ -1,6 +1,6 @@
 -- The condition, and the closing "and" over the last node before it.
 use Rattle.std.proofs.Common.{arith, rules}
-use Rattle.own_conditions.specs.Laws.Nodes.{put-none, put_full, put_long, put-closed}
+use Rattle.own_conditions.proofs.Laws.Nodes.{put-none, put_full, put_long, put-closed}
 use Rattle.own_conditions.proofs.put_behind.Statement.{statement}
 use Rattle.own_conditions.proofs.put_behind.Tie as tie
 

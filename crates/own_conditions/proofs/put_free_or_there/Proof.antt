@@ -1,6 +1,6 @@
 -- Two conditions of five nodes, the first one negated, and the node over them.
 use Rattle.std.proofs.Common.{arith}
-use Rattle.own_conditions.specs.Laws.Nodes.{free-put}
+use Rattle.own_conditions.proofs.Laws.Nodes.{free-put}
 use Rattle.own_conditions.proofs.put_free_or_there.Statement.{statement}
 use Rattle.own_conditions.proofs.put_free_or_there.Tie as tie
 

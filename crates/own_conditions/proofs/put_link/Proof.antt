@@ -1,6 +1,6 @@
 -- AT's condition: neither end is nil; and where the link is functional, it is free or leads there.
 use Rattle.std.proofs.Common.{arith, rules}
-use Rattle.own_conditions.specs.Laws.Nodes.{general_put, functional-put, link_least, link_whole}
+use Rattle.own_conditions.proofs.Laws.Nodes.{general_put, functional-put, link_least, link_whole}
 use Rattle.own_conditions.proofs.put_link.Statement.{statement}
 use Rattle.own_conditions.proofs.put_link.Tie as tie
 

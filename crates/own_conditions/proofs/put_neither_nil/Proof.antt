@@ -1,6 +1,6 @@
 -- Two conditions of five nodes, and the node over them.
 use Rattle.std.proofs.Common.{arith}
-use Rattle.own_conditions.specs.Laws.Nodes.{neither_put}
+use Rattle.own_conditions.proofs.Laws.Nodes.{neither_put}
 use Rattle.own_conditions.proofs.put_neither_nil.Statement.{statement}
 use Rattle.own_conditions.proofs.put_neither_nil.Tie as tie
 

@@ -1,6 +1,6 @@
 -- Five nodes: two leaves, and three over them.
 use Rattle.std.proofs.Common.{arith}
-use Rattle.own_conditions.specs.Laws.Nodes.{puts_five}
+use Rattle.own_conditions.proofs.Laws.Nodes.{puts_five}
 use Rattle.own_conditions.proofs.put_nowhere.Statement.{statement}
 use Rattle.own_conditions.proofs.put_nowhere.Tie as tie
 

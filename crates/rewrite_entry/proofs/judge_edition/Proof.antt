@@ -1,6 +1,6 @@
 -- The items in order: the result's length, the edition.
 use Rattle.std.proofs.Common.{arith, rules}
-use Rattle.rewrite_entry.specs.Laws.Rewriting.{judged_result, judged_sized}
+use Rattle.rewrite_entry.proofs.Laws.Rewriting.{judged_result, judged_sized}
 use Rattle.rewrite_entry.proofs.judge_edition.Statement.{statement}
 use Rattle.rewrite_entry.proofs.judge_edition.Tie as tie
 

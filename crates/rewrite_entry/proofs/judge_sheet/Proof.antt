@@ -1,7 +1,7 @@
 -- The items in order: those on the result and the edition, those on the sheet.
 use Rattle.std.proofs.Common.{sym, ◌∙◌, rules}
-use Rattle.refusals.specs.Laws.Items.{then_refused, then_next}
-use Rattle.rewrite_entry.specs.Laws.Rewriting.{alone_parts}
+use Rattle.refusals.proofs.Laws.Items.{then_refused, then_next}
+use Rattle.rewrite_entry.proofs.Laws.Rewriting.{alone_parts}
 use Rattle.rewrite_entry.proofs.judge_sheet.Statement.{statement}
 use Rattle.rewrite_entry.proofs.judge_sheet.Tie as tie
 

@@ -1,5 +1,5 @@
 -- `rewrite_entry::rewrite` meets its contract: it is judged, then it rewrites or refuses.
-use Rattle.rewrite_entry.specs.Laws.Rewriting.{accepted_size, accepted_table, accepted_fits, accepted_legal, input_then, answered_made, answered_refused}
+use Rattle.rewrite_entry.proofs.Laws.Rewriting.{accepted_size, accepted_table, accepted_fits, accepted_legal, input_then, answered_made, answered_refused}
 use Rattle.std.proofs.Common.{sym, ◌∙◌, rules}
 use Rattle.rewrite_entry.proofs.rewrite.Statement.{statement}
 use Rattle.rewrite_entry.proofs.rewrite.Tie as tie

@@ -1,5 +1,5 @@
 -- `rewrite_entry::through` meets its contract: it is judged, then the table is made or refused.
-use Rattle.rewrite_entry.specs.Laws.Rewriting.{accepted_alone, alone_then, answered_made, answered_refused}
+use Rattle.rewrite_entry.proofs.Laws.Rewriting.{accepted_alone, alone_then, answered_made, answered_refused}
 use Rattle.std.proofs.Common.{sym, ◌∙◌, rules}
 use Rattle.rewrite_entry.proofs.through.Statement.{statement}
 use Rattle.rewrite_entry.proofs.through.Tie as tie

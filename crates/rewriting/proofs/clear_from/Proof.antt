@@ -1,5 +1,5 @@
 -- The part from byte n on comes back as zeros.
-use Rattle.rewriting.specs.Laws.Buffers.{cleared}
+use Rattle.rewriting.proofs.Laws.Buffers.{cleared}
 use Rattle.std.proofs.Common.{rules}
 use Rattle.rewriting.proofs.clear_from.Statement.{statement}
 use Rattle.rewriting.proofs.clear_from.Tie as tie

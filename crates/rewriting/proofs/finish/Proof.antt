@@ -1,6 +1,6 @@
 -- The table is copied, and zeros follow it; or zeros alone.
 use Rattle.std.proofs.Common.{arith}
-use Rattle.rewriting.specs.Laws.Passes.{finished_long, finished_short}
+use Rattle.rewriting.proofs.Laws.Passes.{finished_long, finished_short}
 use Rattle.rewriting.proofs.finish.Statement.{statement}
 use Rattle.rewriting.proofs.finish.Tie as tie
 

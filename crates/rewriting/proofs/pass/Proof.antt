@@ -1,8 +1,8 @@
 -- The table is rewritten, and with `own` a condition is put behind it.
 use Rattle.std.proofs.Common.{arith}
-use Rattle.semantics.specs.Laws.Rewrite.{table_some_lem}
-use Rattle.condition.specs.Laws.Bytes.{length-nodes}
-use Rattle.rewriting.specs.Laws.Passes.{made_table, made_behind}
+use Rattle.semantics.proofs.Laws.Rewrite.{table_some_lem}
+use Rattle.condition.proofs.Laws.Bytes.{length-nodes}
+use Rattle.rewriting.proofs.Laws.Passes.{made_table, made_behind}
 use Rattle.rewriting.proofs.pass.Statement.{statement}
 use Rattle.rewriting.proofs.pass.Tie as tie
 

@@ -4,7 +4,7 @@ use Rattle.std.proofs.Common.{arith}
 use Rattle.condition.specs.Bytes.{nodes}
 use Rattle.limits.specs.Limits.{table_nodes, table_bytes}
 use Rattle.rewriting.specs.State.{pass_of}
-use Rattle.rewriting.specs.Laws.Passes.{keeps, Passing, passing_start, passing_more, passing_long, passing_done, passing_fits, legal-at}
+use Rattle.rewriting.proofs.Laws.Passes.{keeps, Passing, passing_start, passing_more, passing_long, passing_done, passing_fits, legal-at}
 use Rattle.rewriting.proofs.passes.Statement.{statement}
 use Rattle.rewriting.proofs.passes.Tie as tie
 

@@ -3,8 +3,8 @@ use Rattle.std.specs.Prelude.{ℕ, length}
 use Rattle.std.proofs.Common.{◌∙◌, ap, arith, rules}
 use lib.ListN.{length-replicate}
 use Rattle.limits.specs.Limits.{table_nodes, table_bytes}
-use Rattle.rewriting.specs.Laws.Buffers.{bytes-zero, bytes_copied, copied}
-use Rattle.rewriting.specs.Laws.Passes.{rewrote, rewrote_as}
+use Rattle.rewriting.proofs.Laws.Buffers.{bytes-zero, bytes_copied, copied}
+use Rattle.rewriting.proofs.Laws.Passes.{rewrote, rewrote_as}
 use Rattle.rewriting.proofs.rewrite_from.Statement.{statement}
 use Rattle.rewriting.proofs.rewrite_from.Tie as tie
 

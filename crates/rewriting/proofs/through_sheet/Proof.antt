@@ -3,7 +3,7 @@ use Rattle.std.specs.Prelude.{ℕ, length}
 use Rattle.std.proofs.Common.{◌∙◌, ap, arith, rules}
 use lib.ListN.{length-replicate}
 use Rattle.limits.specs.Limits.{node_size}
-use Rattle.rewriting.specs.Laws.Passes.{true_table, true_fits, rewrote_as}
+use Rattle.rewriting.proofs.Laws.Passes.{true_table, true_fits, rewrote_as}
 use Rattle.rewriting.proofs.through_sheet.Statement.{statement}
 use Rattle.rewriting.proofs.through_sheet.Tie as tie
 

@@ -1,8 +1,8 @@
 -- The first j words are done; the set itself stands for the second operand, which is not read.
 use Rattle.std.specs.Prelude.{refl, not, ◌-◌, ◌*◌}
 use Rattle.std.proofs.Common.{arith}
-use Rattle.bitset.specs.Laws.Update.{Updated, update_none, update_done}
-use Rattle.bitset.specs.Laws.Words.{complement_slots, update_word}
+use Rattle.bitset.proofs.Laws.Update.{Updated, update_none, update_done}
+use Rattle.bitset.proofs.Laws.Words.{complement_slots, update_word}
 use Rattle.set_algebra.proofs.complement.Statement.{statement}
 use Rattle.set_algebra.proofs.complement.Tie as tie
 

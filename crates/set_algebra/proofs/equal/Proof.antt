@@ -3,7 +3,7 @@ use Rattle.std.specs.Prelude.{◌≡◌, List, ℕ, ◌-◌, ◌*◌, ◌<◌, �
 use Rattle.std.proofs.Common.{ap, sym, ◌∙◌, true≢false, arith, ext_get_or, below_none}
 use mathlib.Core.Bool.{false≢true}
 use Rattle.words.specs.Word.{word}
-use Rattle.bitset.specs.Laws.Words.{word_same}
+use Rattle.bitset.proofs.Laws.Words.{word_same}
 use Rattle.set_algebra.proofs.equal.Statement.{statement}
 use Rattle.set_algebra.proofs.equal.Tie as tie
 

@@ -1,8 +1,8 @@
 -- The first j words are done.
 use Rattle.std.specs.Prelude.{◌&&◌, ◌-◌, ◌*◌}
 use Rattle.std.proofs.Common.{arith}
-use Rattle.bitset.specs.Laws.Update.{Updated, update_none, update_done}
-use Rattle.bitset.specs.Laws.Words.{meet_slots, update_word}
+use Rattle.bitset.proofs.Laws.Update.{Updated, update_none, update_done}
+use Rattle.bitset.proofs.Laws.Words.{meet_slots, update_word}
 use Rattle.set_algebra.proofs.meet_with.Statement.{statement}
 use Rattle.set_algebra.proofs.meet_with.Tie as tie
 

@@ -2,7 +2,7 @@
 use Rattle.std.specs.Prelude.{not, ◌&&◌, ◌-◌}
 use Rattle.std.proofs.Common.{sym, arith}
 use Rattle.bitset.specs.Set.{set_bytes, has}
-use Rattle.bitset.specs.Laws.Test.{Tested, test_none, meets_more, meets_done}
+use Rattle.bitset.proofs.Laws.Test.{Tested, test_none, meets_more, meets_done}
 use Rattle.set_algebra.proofs.meets.Statement.{statement}
 use Rattle.set_algebra.proofs.meets.Tie as tie
 

@@ -2,7 +2,7 @@
 use Rattle.std.specs.Prelude.{not, ◌||◌, ◌-◌, ◌*◌}
 use Rattle.std.proofs.Common.{sym, arith}
 use Rattle.bitset.specs.Set.{has}
-use Rattle.bitset.specs.Laws.Test.{Tested, test_none, test_done, subset_more}
+use Rattle.bitset.proofs.Laws.Test.{Tested, test_none, test_done, subset_more}
 use Rattle.set_algebra.proofs.subset.Statement.{statement}
 use Rattle.set_algebra.proofs.subset.Tie as tie
 

@@ -1,7 +1,7 @@
 -- The length is tested first.
 use Rattle.std.specs.Prelude.{refl}
 use Rattle.std.proofs.Common.{arith, rules}
-use Rattle.set_exports.specs.Laws.Length.{is_set, not_set}
+use Rattle.set_exports.proofs.Laws.Length.{is_set, not_set}
 use Rattle.set_exports.proofs.set_complement.Statement.{statement}
 use Rattle.set_exports.proofs.set_complement.Tie as tie
 

@@ -1,7 +1,7 @@
 -- The lengths are tested first.
 use Rattle.std.specs.Prelude.{refl}
 use Rattle.std.proofs.Common.{arith}
-use Rattle.set_exports.specs.Laws.Length.{is_set, not_set}
+use Rattle.set_exports.proofs.Laws.Length.{is_set, not_set}
 use Rattle.set_exports.proofs.set_equal.Statement.{statement}
 use Rattle.set_exports.proofs.set_equal.Tie as tie
 

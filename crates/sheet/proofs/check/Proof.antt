@@ -1,6 +1,6 @@
 -- By the cases of items 11 and 12.
 use Rattle.sheet.specs.Refusal.{sized, sheet_verdict}
-use Rattle.finite.specs.Laws.Below.{ne_same, eq_same, below_in, below-not}
+use Rattle.finite.proofs.Laws.Below.{ne_same, eq_same, below_in, below-not}
 use Rattle.std.specs.Prelude.{length}
 use Rattle.std.proofs.Common.{arith, rules}
 use Rattle.sheet.proofs.check.Statement.{statement}

@@ -1,6 +1,6 @@
 -- The loop's invariant: no edit before k is at fault.
 use Rattle.sheet.specs.Refusal.{faulty}
-use Rattle.finite.specs.Laws.First.{none_start, none_more, first_stop, first_is}
+use Rattle.finite.proofs.Laws.First.{none_start, none_more, first_stop, first_is}
 use Rattle.finite.specs.Tests.{any}
 use Rattle.std.specs.Prelude.{length, ◌≤◌, ◌-◌, ◌/◌, false, not, ◌≡◌, refl}
 use Rattle.std.proofs.Common.{arith, sym, ap, ◌∙◌}

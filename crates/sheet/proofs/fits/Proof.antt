@@ -1,11 +1,11 @@
 -- The test of item 12, row by row of the table of operations.
-use Rattle.sheet.specs.Laws.Fits.{row-CN2, row-AT, row-DT1, row-AS, row-DS}
+use Rattle.sheet.proofs.Laws.Fits.{row-CN2, row-AT, row-DT1, row-AS, row-DS}
 use Rattle.sheet.specs.Refusal.{operands, unused_zero, edit_fits}
 use Rattle.sheet.specs.Bytes.{read_edit}
 use Rattle.semantics.specs.Edit.{legal}
 use Rattle.limits.specs.Limits.{slots}
-use Rattle.finite.specs.Laws.Arms.{missed}
-use Rattle.finite.specs.Laws.Below.{below-not}
+use Rattle.finite.proofs.Laws.Arms.{missed}
+use Rattle.finite.proofs.Laws.Below.{below-not}
 use Rattle.finite.specs.Tests.{same, below}
 use Rattle.std.proofs.Common.{arith, rules}
 use Rattle.sheet.proofs.fits.Statement.{statement}

@@ -1,5 +1,5 @@
 -- Links 4 to 7: the test from below is the other test turned round.
-use Rattle.sheet.specs.Laws.Fits.{functional_from}
+use Rattle.sheet.proofs.Laws.Fits.{functional_from}
 use Rattle.sheet.proofs.is_functional.Statement.{statement}
 use Rattle.sheet.proofs.is_functional.Tie as tie
 

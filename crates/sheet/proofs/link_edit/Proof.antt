@@ -1,5 +1,5 @@
 -- Operation 4 by its edition.
-use Rattle.sheet.specs.Laws.Read.{link_second, link_first}
+use Rattle.sheet.proofs.Laws.Read.{link_second, link_first}
 use Rattle.finite.specs.Tests.{same}
 use Rattle.std.proofs.Common.{rules}
 use Rattle.sheet.proofs.link_edit.Statement.{statement}

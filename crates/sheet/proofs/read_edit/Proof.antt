@@ -1,8 +1,8 @@
 -- An edit read, row by row of the table of operations.
-use Rattle.sheet.specs.Laws.Read.{read_past}
+use Rattle.sheet.proofs.Laws.Read.{read_past}
 use Rattle.sheet.specs.Bytes.{read_edit}
 use Rattle.std.proofs.Common.{arith, rules}
-use Rattle.finite.specs.Laws.Arms.{missed}
+use Rattle.finite.proofs.Laws.Arms.{missed}
 use Rattle.sheet.proofs.read_edit.Statement.{statement}
 use Rattle.sheet.proofs.read_edit.Tie as tie
 

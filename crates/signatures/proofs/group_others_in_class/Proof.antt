@@ -3,7 +3,7 @@ use Rattle.std.specs.Prelude.{◌≡◌, true, ◌+◌, ◌*◌, ◌-◌, ◌≤
 use Rattle.std.proofs.Common.{sym, ◌∙◌, arith, rules}
 use borrow.Author.Tests.{not-true, not-false}
 use Rattle.finite.specs.Tests.{all}
-use Rattle.finite.specs.Laws.Loops.{all_none, all_more, all_done, all-not}
+use Rattle.finite.proofs.Laws.Loops.{all_none, all_more, all_done, all-not}
 use Rattle.partition.specs.Rows.{others_in_class, group_others_in_class}
 use Rattle.signatures.proofs.group_others_in_class.Statement.{statement}
 use Rattle.signatures.proofs.group_others_in_class.Tie as tie

@@ -6,8 +6,8 @@ use Rattle.bitset.specs.Set.{set_slots}
 use Rattle.partition.specs.Gains.{Gains}
 use Rattle.site.specs.Layout.{rows_bytes}
 use Rattle.partition.specs.Rows.{group_puts}
-use Rattle.partition.specs.Laws.Gains.{gains_start, gains_more, gains_done}
-use Rattle.partition.specs.Laws.Rows.{signed}
+use Rattle.partition.proofs.Laws.Gains.{gains_start, gains_more, gains_done}
+use Rattle.partition.proofs.Laws.Rows.{signed}
 use Rattle.signatures.proofs.of_rows.Statement.{statement}
 use Rattle.signatures.proofs.of_rows.Tie as tie
 

@@ -2,7 +2,7 @@
 use Rattle.std.specs.Prelude.{◌-◌, ◌≤◌, ◌≡◌, length}
 use Rattle.std.proofs.Common.{arith, rules, length-set}
 use Rattle.partition.specs.Rows.{ClassOfOthers}
-use Rattle.partition.specs.Laws.Puts.{others_more}
+use Rattle.partition.proofs.Laws.Puts.{others_more}
 use Rattle.signatures.proofs.other_classes.Statement.{statement}
 use Rattle.signatures.proofs.other_classes.Tie as tie
 

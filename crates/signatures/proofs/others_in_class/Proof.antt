@@ -3,7 +3,7 @@ use Rattle.std.specs.Prelude.{◌≡◌, ◌+◌, ◌*◌, ◌-◌, ◌≤◌, g
 use Rattle.std.proofs.Common.{sym, ◌∙◌, arith, rules}
 use borrow.Author.Tests.{not-true, not-false}
 use Rattle.finite.specs.Tests.{same, all}
-use Rattle.finite.specs.Laws.Loops.{all_none, all_more, all_done, all-not}
+use Rattle.finite.proofs.Laws.Loops.{all_none, all_more, all_done, all-not}
 use Rattle.bitset.specs.Set.{has}
 use Rattle.partition.specs.Rows.{others_in_class}
 use Rattle.signatures.proofs.others_in_class.Statement.{statement}

@@ -1,6 +1,6 @@
 -- The bits of a word are those of its bytes.
 use Rattle.std.proofs.Common.{arith}
-use Rattle.partition.specs.Laws.Others.{other_slots}
+use Rattle.partition.proofs.Laws.Others.{other_slots}
 use Rattle.signatures.proofs.others_of.Statement.{statement}
 use Rattle.signatures.proofs.others_of.Tie as tie
 

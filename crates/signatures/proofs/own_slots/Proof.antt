@@ -5,8 +5,8 @@ use Rattle.finite.specs.Tests.{same, any}
 use Rattle.bitset.specs.Set.{set_bytes, set_slots}
 use Rattle.partition.specs.Gains.{Gains}
 use Rattle.partition.specs.Rows.{owns}
-use Rattle.partition.specs.Laws.Gains.{gains_start, gains_more, gains_done}
-use Rattle.partition.specs.Laws.Puts.{own-set}
+use Rattle.partition.proofs.Laws.Gains.{gains_start, gains_more, gains_done}
+use Rattle.partition.proofs.Laws.Puts.{own-set}
 use Rattle.signatures.proofs.own_slots.Statement.{statement}
 use Rattle.signatures.proofs.own_slots.Tie as tie
 

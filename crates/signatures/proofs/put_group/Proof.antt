@@ -1,6 +1,6 @@
 -- The slots of `own` first; then the others, where there are any: their class, or one by one.
 use Rattle.std.proofs.Common.{arith, rules}
-use Rattle.partition.specs.Laws.Puts.{group_own, group_one, group_all}
+use Rattle.partition.proofs.Laws.Puts.{group_own, group_one, group_all}
 use Rattle.signatures.proofs.put_group.Statement.{statement}
 use Rattle.signatures.proofs.put_group.Tie as tie
 

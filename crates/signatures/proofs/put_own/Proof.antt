@@ -1,8 +1,8 @@
 -- By whether t has its own number.
 use Rattle.std.proofs.Common.{sym, ◌∙◌, arith, rules}
-use Rattle.finite.specs.Laws.Below.{eq_same, ne_same}
+use Rattle.finite.proofs.Laws.Below.{eq_same, ne_same}
 use Rattle.partition.specs.Rows.{owns}
-use Rattle.partition.specs.Laws.Gains.{gains_skip_if, gains_put_if}
+use Rattle.partition.proofs.Laws.Gains.{gains_skip_if, gains_put_if}
 use Rattle.signatures.proofs.put_own.Statement.{statement}
 use Rattle.signatures.proofs.put_own.Tie as tie
 

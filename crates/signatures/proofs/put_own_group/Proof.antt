@@ -5,8 +5,8 @@ use Rattle.finite.specs.Tests.{any}
 use Rattle.site.specs.Layout.{rows_bytes}
 use Rattle.partition.specs.Gains.{Gains}
 use Rattle.partition.specs.Rows.{own_byte_puts, own_group_puts}
-use Rattle.partition.specs.Laws.Gains.{gains_start, gains_more, gains_done}
-use Rattle.partition.specs.Laws.Puts.{own_byte_puts_lem}
+use Rattle.partition.proofs.Laws.Gains.{gains_start, gains_more, gains_done}
+use Rattle.partition.proofs.Laws.Puts.{own_byte_puts_lem}
 use Rattle.signatures.proofs.put_own_group.Statement.{statement}
 use Rattle.signatures.proofs.put_own_group.Tie as tie
 

@@ -4,7 +4,7 @@ use Rattle.std.proofs.Common.{arith}
 use Rattle.finite.specs.Tests.{any}
 use Rattle.partition.specs.Gains.{Gains}
 use Rattle.partition.specs.Rows.{group_puts}
-use Rattle.partition.specs.Laws.Gains.{gains_start, gains_more, gains_done}
+use Rattle.partition.proofs.Laws.Gains.{gains_start, gains_more, gains_done}
 use Rattle.signatures.proofs.put_row.Statement.{statement}
 use Rattle.signatures.proofs.put_row.Tie as tie
 

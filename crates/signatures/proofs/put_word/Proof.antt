@@ -4,8 +4,8 @@ use Rattle.std.proofs.Common.{arith, rules}
 use lib.Bits.{and_le_r}
 use lib.Count.{trailing_le}
 use Rattle.partition.specs.Rows.{word_puts}
-use Rattle.words.specs.Laws.Lowest.{lowest}
-use Rattle.partition.specs.Laws.Puts.{Lacks, word_start, word_more, word_done}
+use Rattle.words.proofs.Laws.Lowest.{lowest}
+use Rattle.partition.proofs.Laws.Puts.{Lacks, word_start, word_more, word_done}
 use Rattle.signatures.proofs.put_word.Statement.{statement}
 use Rattle.signatures.proofs.put_word.Tie as tie
 

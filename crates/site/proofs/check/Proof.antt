@@ -1,10 +1,10 @@
 -- The items in order, each by its test.
 use Rattle.std.proofs.Common.{arith, rules}
-use Rattle.finite.specs.Laws.Below.{eq_same, ne_same}
+use Rattle.finite.proofs.Laws.Below.{eq_same, ne_same}
 use Rattle.semantics.specs.Holds.{Model}
 use Rattle.site.specs.Site.{site_of}
 use Rattle.site.specs.Refusal.{item4, item5, item6, site_verdict}
-use Rattle.site.specs.Laws.Fits.{item_met, item_unmet}
+use Rattle.site.proofs.Laws.Fits.{item_met, item_unmet}
 use Rattle.site.proofs.check.Statement.{statement}
 use Rattle.site.proofs.check.Tie as tie
 

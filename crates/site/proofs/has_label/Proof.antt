@@ -1,7 +1,7 @@
 -- Slot s of the set at label p's bytes.
 use Rattle.std.proofs.Common.{sym, ◌∙◌, arith}
 use Rattle.limits.specs.Limits.{slots}
-use Rattle.site.specs.Laws.Read.{marked_is}
+use Rattle.site.proofs.Laws.Read.{marked_is}
 use Rattle.site.proofs.has_label.Statement.{statement}
 use Rattle.site.proofs.has_label.Tie as tie
 

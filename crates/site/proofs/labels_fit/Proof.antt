@@ -3,11 +3,11 @@ use Rattle.std.specs.Prelude.{◌≡◌, true, ◌-◌, ◌≤◌}
 use Rattle.std.proofs.Common.{sym, ◌∙◌, arith}
 use borrow.Author.Tests.{not-true, not-false}
 use Rattle.finite.specs.Tests.{all}
-use Rattle.finite.specs.Laws.Loops.{all_none, all_more, all_done, all-not}
+use Rattle.finite.proofs.Laws.Loops.{all_none, all_more, all_done, all-not}
 use Rattle.limits.specs.Limits.{labels}
 use Rattle.site.specs.Layout.{label_at}
 use Rattle.site.specs.Inside.{inside}
-use Rattle.site.specs.Laws.Fits.{labels-inside}
+use Rattle.site.proofs.Laws.Fits.{labels-inside}
 use Rattle.site.proofs.labels_fit.Statement.{statement}
 use Rattle.site.proofs.labels_fit.Tie as tie
 

@@ -2,7 +2,7 @@
 use Rattle.std.proofs.Common.{◌∙◌, rules}
 use Rattle.limits.specs.Limits.{slots}
 use Rattle.site.specs.Layout.{target_at}
-use Rattle.site.specs.Laws.Fits.{link_rows, link_targets}
+use Rattle.site.proofs.Laws.Fits.{link_rows, link_targets}
 use Rattle.site.proofs.link_fits.Statement.{statement}
 use Rattle.site.proofs.link_fits.Tie as tie
 

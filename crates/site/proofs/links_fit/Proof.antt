@@ -3,11 +3,11 @@ use Rattle.std.specs.Prelude.{◌≡◌, true, not, ◌-◌, ◌≤◌}
 use Rattle.std.proofs.Common.{sym, ◌∙◌, arith}
 use borrow.Author.Tests.{not-true, not-false}
 use Rattle.finite.specs.Tests.{all}
-use Rattle.finite.specs.Laws.Loops.{all_none, all_more, all_done, all-not}
+use Rattle.finite.proofs.Laws.Loops.{all_none, all_more, all_done, all-not}
 use Rattle.limits.specs.Limits.{links}
 use Rattle.site.specs.Site.{site_of}
 use Rattle.site.specs.Refusal.{touches}
-use Rattle.site.specs.Laws.Fits.{links-all}
+use Rattle.site.proofs.Laws.Fits.{links-all}
 use Rattle.site.proofs.links_fit.Statement.{statement}
 use Rattle.site.proofs.links_fit.Tie as tie
 

@@ -1,7 +1,7 @@
 -- Each of item 4's three parts by a call.
 use Rattle.std.proofs.Common.{sym, ◌∙◌, arith}
 use borrow.Author.Tests.{not-true, not-false}
-use Rattle.site.specs.Laws.Fits.{nil_absent, nil_elsewhere, names_present}
+use Rattle.site.proofs.Laws.Fits.{nil_absent, nil_elsewhere, names_present}
 use Rattle.site.proofs.names_fit.Statement.{statement}
 use Rattle.site.proofs.names_fit.Tie as tie
 

@@ -1,6 +1,6 @@
 -- The empty set, with the present slots put in and slot 0 taken out.
 use Rattle.std.proofs.Common.{rules}
-use Rattle.site.specs.Laws.Fits.{onsite_are}
+use Rattle.site.proofs.Laws.Fits.{onsite_are}
 use Rattle.site.proofs.onsite_slots.Statement.{statement}
 use Rattle.site.proofs.onsite_slots.Tie as tie
 

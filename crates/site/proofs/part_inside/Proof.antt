@@ -2,7 +2,7 @@
 use Rattle.std.specs.Prelude.{◌+◌, ◌-◌}
 use Rattle.std.proofs.Common.{◌∙◌, arith, rules}
 use Rattle.bitset.specs.Set.{set_bytes}
-use Rattle.site.specs.Laws.Fits.{part_inside}
+use Rattle.site.proofs.Laws.Fits.{part_inside}
 use Rattle.site.proofs.part_inside.Statement.{statement}
 use Rattle.site.proofs.part_inside.Tie as tie
 

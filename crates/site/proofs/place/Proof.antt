@@ -1,6 +1,6 @@
 -- The byte of name n.
 use Rattle.std.proofs.Common.{sym, arith}
-use Rattle.site.specs.Laws.Read.{byte_fits, place_is}
+use Rattle.site.proofs.Laws.Read.{byte_fits, place_is}
 use Rattle.site.proofs.place.Statement.{statement}
 use Rattle.site.proofs.place.Tie as tie
 

@@ -1,7 +1,7 @@
 -- The set of the present slots is the first.
 use Rattle.std.proofs.Common.{sym, ◌∙◌, arith}
 use Rattle.limits.specs.Limits.{slots}
-use Rattle.site.specs.Laws.Read.{present_is}
+use Rattle.site.proofs.Laws.Read.{present_is}
 use Rattle.site.proofs.present.Statement.{statement}
 use Rattle.site.proofs.present.Tie as tie
 

@@ -1,6 +1,6 @@
 -- By cases: s is in `onsite`, or it is not and its row has to be empty.
 use Rattle.std.proofs.Common.{sym, ◌∙◌, rules}
-use Rattle.site.specs.Laws.Fits.{row-none}
+use Rattle.site.proofs.Laws.Fits.{row-none}
 use Rattle.site.proofs.row_fits.Statement.{statement}
 use Rattle.site.proofs.row_fits.Tie as tie
 

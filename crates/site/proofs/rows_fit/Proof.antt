@@ -3,7 +3,7 @@ use Rattle.std.specs.Prelude.{◌≡◌, true, ◌-◌, ◌≤◌}
 use Rattle.std.proofs.Common.{sym, ◌∙◌, arith}
 use borrow.Author.Tests.{not-true, not-false}
 use Rattle.finite.specs.Tests.{all}
-use Rattle.finite.specs.Laws.Loops.{all_none, all_more, all_done, all-not}
+use Rattle.finite.proofs.Laws.Loops.{all_none, all_more, all_done, all-not}
 use Rattle.bitset.specs.Set.{set_slots}
 use Rattle.site.specs.Layout.{row_at}
 use Rattle.site.specs.Inside.{row_inside}

@@ -3,8 +3,8 @@ use Rattle.std.specs.Prelude.{refl}
 use Rattle.std.proofs.Common.{sym, arith}
 use Rattle.limits.specs.Limits.{slots}
 use Rattle.site.specs.Layout.{target_at}
-use Rattle.site.specs.Laws.Read.{byte_fits}
-use Rattle.site.specs.Laws.Target.{target_byte}
+use Rattle.site.proofs.Laws.Read.{byte_fits}
+use Rattle.site.proofs.Laws.Target.{target_byte}
 use Rattle.site.proofs.target.Statement.{statement}
 use Rattle.site.proofs.target.Tie as tie
 

@@ -1,7 +1,7 @@
 -- By the three tests: no target, s in `onsite`, and t in `onsite`.
 use Rattle.std.proofs.Common.{sym, ◌∙◌, arith}
 use borrow.Author.Tests.{not-true, not-false}
-use Rattle.finite.specs.Laws.Below.{eq_same, ne_same}
+use Rattle.finite.proofs.Laws.Below.{eq_same, ne_same}
 use Rattle.site.proofs.target_fits.Statement.{statement}
 use Rattle.site.proofs.target_fits.Tie as tie
 

@@ -3,7 +3,7 @@ use Rattle.std.specs.Prelude.{◌≡◌, true, ◌-◌, ◌*◌, ◌≤◌, get_
 use Rattle.std.proofs.Common.{sym, ◌∙◌, arith}
 use borrow.Author.Tests.{not-true, not-false}
 use Rattle.finite.specs.Tests.{all}
-use Rattle.finite.specs.Laws.Loops.{all_none, all_more_by, all_not_by, all_done}
+use Rattle.finite.proofs.Laws.Loops.{all_none, all_more_by, all_not_by, all_done}
 use Rattle.bitset.specs.Set.{set_bytes, set_slots}
 use Rattle.site.specs.Layout.{target_at}
 use Rattle.site.specs.Inside.{target_inside}

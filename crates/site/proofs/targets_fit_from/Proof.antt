@@ -3,11 +3,11 @@ use Rattle.std.specs.Prelude.{◌≡◌, true, ◌+◌, ◌-◌, ◌*◌, ◌≤
 use Rattle.std.proofs.Common.{sym, ◌∙◌, ap, arith, rules}
 use borrow.Author.Tests.{not-true, not-false}
 use Rattle.finite.specs.Tests.{all}
-use Rattle.finite.specs.Laws.Loops.{all_none, all_more, all_done, all-not}
+use Rattle.finite.proofs.Laws.Loops.{all_none, all_more, all_done, all-not}
 use Rattle.bitset.specs.Set.{set_bytes}
 use Rattle.site.specs.Layout.{target_at}
 use Rattle.site.specs.Inside.{target_inside}
-use Rattle.site.specs.Laws.Fits.{none_fit}
+use Rattle.site.proofs.Laws.Fits.{none_fit}
 use Rattle.site.proofs.targets_fit_from.Statement.{statement}
 use Rattle.site.proofs.targets_fit_from.Tie as tie
 

@@ -1,5 +1,5 @@
 -- The row for AS.
-use Rattle.finite.specs.Laws.Below.{eq_same, ne_same}
+use Rattle.finite.proofs.Laws.Below.{eq_same, ne_same}
 use Rattle.spelling.specs.Spelling.{as_row}
 use Rattle.spelling.proofs.as_row.Statement.{statement}
 use Rattle.spelling.proofs.as_row.Tie as tie

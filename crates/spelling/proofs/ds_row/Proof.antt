@@ -1,6 +1,6 @@
 -- The row for DS.
 use Rattle.finite.specs.Tests.{same, below}
-use Rattle.finite.specs.Laws.Below.{eq_same, ne_same}
+use Rattle.finite.proofs.Laws.Below.{eq_same, ne_same}
 use Rattle.spelling.specs.Spelling.{ds_row}
 use Rattle.spelling.proofs.ds_row.Statement.{statement}
 use Rattle.spelling.proofs.ds_row.Tie as tie

@@ -1,5 +1,5 @@
 -- A known kind.
-use Rattle.finite.specs.Laws.Below.{below_in, below-not}
+use Rattle.finite.proofs.Laws.Below.{below_in, below-not}
 use Rattle.spelling.specs.Spelling.{known_kind}
 use Rattle.spelling.proofs.known.Statement.{statement}
 use Rattle.spelling.proofs.known.Tie as tie

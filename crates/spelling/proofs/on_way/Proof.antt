@@ -1,8 +1,8 @@
 -- A row on a way and on its reverse.
-use Rattle.finite.specs.Laws.Below.{eq_same, ne_same}
-use Rattle.semantics.specs.Laws.Ways.{way_along}
+use Rattle.finite.proofs.Laws.Below.{eq_same, ne_same}
+use Rattle.semantics.proofs.Laws.Ways.{way_along}
 use Rattle.spelling.specs.Spelling.{on_way}
-use Rattle.spelling.specs.Laws.Spelling.{way_reverse, way_every}
+use Rattle.spelling.proofs.Laws.Spelling.{way_reverse, way_every}
 use Rattle.spelling.proofs.on_way.Statement.{statement}
 use Rattle.spelling.proofs.on_way.Tie as tie
 

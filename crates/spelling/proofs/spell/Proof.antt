@@ -1,6 +1,6 @@
 -- The spelling of a block, edit by edit.
 use Rattle.std.proofs.Common.{arith}
-use Rattle.spelling.specs.Laws.Spelling.{spells_by}
+use Rattle.spelling.proofs.Laws.Spelling.{spells_by}
 use Rattle.spelling.proofs.spell.Statement.{statement}
 use Rattle.spelling.proofs.spell.Tie as tie
 

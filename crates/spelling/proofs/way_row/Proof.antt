@@ -1,6 +1,6 @@
 -- The row of a diamond and of a box.
 use Rattle.std.proofs.Common.{arith}
-use Rattle.finite.specs.Laws.Below.{eq_same, ne_same}
+use Rattle.finite.proofs.Laws.Below.{eq_same, ne_same}
 use Rattle.spelling.specs.Spelling.{way_row}
 use Rattle.spelling.proofs.way_row.Statement.{statement}
 use Rattle.spelling.proofs.way_row.Tie as tie

@@ -2,7 +2,7 @@
 use Rattle.std.specs.Prelude.{◌+◌, ◌*◌, ◌-◌}
 use Rattle.std.proofs.Common.{sym, arith, rules}
 use Rattle.bitset.specs.Set.{set_bytes}
-use Rattle.partition.specs.Laws.Rows.{by_apart, by_row_bytes}
+use Rattle.partition.proofs.Laws.Rows.{by_apart, by_row_bytes}
 use Rattle.splitting.proofs.alike.Statement.{statement}
 use Rattle.splitting.proofs.alike.Tie as tie
 

@@ -4,8 +4,8 @@ use Rattle.std.proofs.Common.{arith, rules, length-set, below_none}
 use Rattle.finite.specs.Tests.{first}
 use Rattle.bitset.specs.Set.{set_slots}
 use Rattle.partition.specs.Partition.{by_row_of}
-use Rattle.partition.specs.Laws.Partitions.{put_more}
-use Rattle.partition.specs.Laws.Rows.{rows_partition}
+use Rattle.partition.proofs.Laws.Partitions.{put_more}
+use Rattle.partition.proofs.Laws.Rows.{rows_partition}
 use Rattle.splitting.proofs.by_rows.Statement.{statement}
 use Rattle.splitting.proofs.by_rows.Tie as tie
 

@@ -1,6 +1,6 @@
 -- Rows that are all empty split nothing; else by the signatures.
 use Rattle.std.proofs.Common.{rules}
-use Rattle.partition.specs.Laws.Rows.{unseen_partition, signed_partition}
+use Rattle.partition.proofs.Laws.Rows.{unseen_partition, signed_partition}
 use Rattle.splitting.proofs.by_seen.Statement.{statement}
 use Rattle.splitting.proofs.by_seen.Tie as tie
 

@@ -2,7 +2,7 @@
 use Rattle.std.specs.Prelude.{◌≡◌, ℕ, ◌-◌, ◌≤◌, ◌<◌, get_or}
 use Rattle.std.proofs.Common.{arith, eqb-true, below_none}
 use Rattle.site.specs.Layout.{rows_bytes}
-use Rattle.partition.specs.Laws.Rows.{empty_more}
+use Rattle.partition.proofs.Laws.Rows.{empty_more}
 use Rattle.splitting.proofs.empty.Statement.{statement}
 use Rattle.splitting.proofs.empty.Tie as tie
 

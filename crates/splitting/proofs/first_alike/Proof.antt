@@ -2,11 +2,11 @@
 use Rattle.std.specs.Prelude.{◌≡◌, ◌-◌, ◌≤◌, false}
 use Rattle.std.proofs.Common.{sym, ◌∙◌, arith, rules}
 use Rattle.finite.specs.Tests.{any}
-use Rattle.finite.specs.Laws.First.{first_is, none_more}
+use Rattle.finite.proofs.Laws.First.{first_is, none_more}
 use Rattle.bitset.specs.Set.{set_slots}
 use Rattle.partition.specs.Partition.{by_row_of}
-use Rattle.partition.specs.Laws.Partitions.{number_le, number_low}
-use Rattle.partition.specs.Laws.Rows.{by_refl}
+use Rattle.partition.proofs.Laws.Partitions.{number_le, number_low}
+use Rattle.partition.proofs.Laws.Rows.{by_refl}
 use Rattle.splitting.proofs.first_alike.Statement.{statement}
 use Rattle.splitting.proofs.first_alike.Tie as tie
 

@@ -2,8 +2,8 @@
 use Rattle.std.specs.Prelude.{refl}
 use Rattle.std.proofs.Common.{sym, ◌∙◌, arith, rules}
 use borrow.Author.Tests.{not-true, not-false}
-use Rattle.trailer.specs.Laws.Verdict.{laid}
-use Rattle.trailer.specs.Laws.Pieces.{cut_none, cut_unknown, cut_read}
+use Rattle.trailer.proofs.Laws.Verdict.{laid}
+use Rattle.trailer.proofs.Laws.Pieces.{cut_none, cut_unknown, cut_read}
 use Rattle.trailer.proofs.read.Statement.{statement}
 use Rattle.trailer.proofs.read.Tie as tie
 

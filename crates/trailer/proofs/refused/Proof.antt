@@ -1,7 +1,7 @@
 -- The parts of item 2, in their order.
 use Rattle.std.proofs.Common.{sym, arith}
 use Rattle.finite.specs.Tests.{same, below}
-use Rattle.trailer.specs.Laws.Verdict.{too_short, too_long, by_distances}
+use Rattle.trailer.proofs.Laws.Verdict.{too_short, too_long, by_distances}
 use Rattle.trailer.proofs.refused.Statement.{statement}
 use Rattle.trailer.proofs.refused.Tie as tie
 

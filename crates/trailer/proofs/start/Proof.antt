@@ -1,8 +1,8 @@
 -- The distances of a file that item 2 does not refuse stay inside it.
 use Rattle.std.proofs.Common.{arith}
 use Rattle.trailer.specs.File.{start_of}
-use Rattle.trailer.specs.Laws.Verdict.{laid}
-use Rattle.trailer.specs.Laws.Pieces.{distance_in}
+use Rattle.trailer.proofs.Laws.Verdict.{laid}
+use Rattle.trailer.proofs.Laws.Pieces.{distance_in}
 use Rattle.trailer.proofs.start.Statement.{statement}
 use Rattle.trailer.proofs.start.Tie as tie
 

@@ -1,6 +1,6 @@
 use Rattle.std.specs.Prelude.{◌+◌}
 use Rattle.std.proofs.Common.{arith}
-use Rattle.words.specs.Laws.Bytes.{word_at, word-one}
+use Rattle.words.proofs.Laws.Bytes.{word_at, word-one}
 use Rattle.words.proofs.get_two.Statement.{statement}
 use Rattle.words.proofs.get_two.Tie as tie
 

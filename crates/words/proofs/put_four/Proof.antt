@@ -1,5 +1,5 @@
 use Rattle.std.proofs.Common.{arith}
-use Rattle.words.specs.Laws.Bytes.{put-at}
+use Rattle.words.proofs.Laws.Bytes.{put-at}
 use Rattle.words.proofs.put_four.Statement.{statement}
 use Rattle.words.proofs.put_four.Tie as tie
 

@@ -1,0 +1,179 @@
+-- Sets a word at a time: eight bytes are written, compared or counted at once.
+use Rattle.std.specs.Prelude.{◌≡◌, refl, ◌≢◌, Bool, true, false, not, ◌&&◌, ◌||◌, List, [], ◌∷◌, ℕ, zero, suc, ◌+◌, ◌-◌, ◌*◌, ◌^◌, ◌≤◌, ◌<◌, length, get_or, set, take, drop}
+use Rattle.std.proofs.Common.{sym, ◌∙◌, ap, ap₂, subst, add-zero, add-suc, suc-add, le_of_suc-le-suc, add-one, arith, length-drop, drop-cons, get_or-take, get_or-drop, get_or-set_other, length-take-le}
+use Rattle.std.specs.Int.Bits.{bit_and, bit_or}
+use Rattle.std.specs.Int.Count.{ones, count_trailing_zeros}
+use Rattle.std.proofs.lemmas.Nat.{ones_cat, ones-le}
+use Rattle.finite.specs.Tests.{bit, any, first, count}
+use Rattle.finite.specs.Tests as tests
+use Rattle.finite.specs.Bytes.{Bytes}
+use Rattle.finite.proofs.Laws.Bits.{bit-bit_or, bit-bit_and, bit_not}
+use Rattle.finite.proofs.Laws.Weights.{bit-zero}
+use Rattle.finite.proofs.Laws.Bools.{either, look}
+use Rattle.finite.proofs.Laws.Below.{same_refl, below_out, not-below, any_none, none_any}
+use Rattle.finite.proofs.Laws.First.{first_is}
+use Rattle.finite.proofs.Laws.Count.{count_le}
+use Rattle.words.specs.Word.{word, bytes, put_at, pairwise}
+use Rattle.words.proofs.Laws.Bytes.{drop-bytes, word_lt, bytes_of-word}
+use Rattle.words.proofs.Laws.Eight.{eight}
+use Rattle.words.proofs.Laws.Bits.{word_bits_lem}
+use Rattle.words.proofs.Laws.Lowest.{lowest, none_lower}
+use Rattle.bitset.specs.Set.{set_bytes, set_slots, has}
+use Rattle.bitset.proofs.Laws.Count.{count_byte}
+use Rattle.bitset.proofs.Laws.Update.{Updated, update_more}
+
+ones-zero : ones 0 ≡ 0
+unfolding ones
+ones-zero = refl
+
+pair_at : (f : ℕ → ℕ → ℕ) (a b : List ℕ) (k : ℕ) → k < length a → k < length b → get_or (pairwise f a b) k 0 ≡ f (get_or a k 0) (get_or b k 0)
+unfolding pairwise
+pair_at f [] b k ha hb = absurd (omega arith)
+pair_at f (x ∷ a) [] k ha hb = absurd (omega arith)
+pair_at f (x ∷ a) (y ∷ b) zero ha hb = refl
+pair_at f (x ∷ a) (y ∷ b) (suc k) ha hb = pair_at f a b k (le_of_suc-le-suc ha) (le_of_suc-le-suc hb)
+
+pair_length : (f : ℕ → ℕ → ℕ) (a b : List ℕ) → length a ≡ length b → length (pairwise f a b) ≡ length a
+unfolding pairwise
+pair_length f [] b h = refl
+pair_length f (x ∷ a) [] h = absurd (omega arith)
+pair_length f (x ∷ a) (y ∷ b) h = ap suc (pair_length f a b (omega arith))
+
+-- the eight bytes of the word at byte i
+module _ (S : List ℕ) (i : ℕ) (fits : i + 8 ≤ length S) where
+  at-word : Bytes (drop i S) → bytes 8 (word 8 (drop i S)) ≡ take 8 (drop i S)
+  at-word small = bytes_of-word 8 (drop i S) (simp length-drop (omega arith)) small
+
+  at_length : length (take 8 (drop i S)) ≡ 8
+  at_length = length-take-le 8 (drop i S) (simp length-drop (omega arith))
+
+  at_byte : (k : ℕ) → k < 8 → get_or (take 8 (drop i S)) k 0 ≡ get_or S (i + k) 0
+  at_byte k h = get_or-take 8 (drop i S) k 0 h ∙ get_or-drop i S k 0
+
+-- F of two words is f of each pair of their bytes, and g of each pair of their slots
+pub record Slotwise (g : Bool → Bool → Bool) (F : ℕ → ℕ → ℕ) : Type 0 where
+  pub f : ℕ → ℕ → ℕ
+  pub of_bytes : (w v : ℕ) → w < 2 ^ 64 → v < 2 ^ 64 → bytes 8 (F w v) ≡ pairwise f (bytes 8 w) (bytes 8 v)
+  pub of_bits : (x y k : ℕ) → x < 256 → k < 8 → bit (f x y) k ≡ g (bit x k) (bit y k)
+
+pub union_slots : Slotwise ◌||◌ bit_or
+union_slots = record { f = bit_or; of_bytes = λ w v hw hv. (eight w v hw hv).union; of_bits = λ x y k hx hk. bit-bit_or x y k }
+
+pub meet_slots : Slotwise ◌&&◌ bit_and
+meet_slots = record { f = bit_and; of_bytes = λ w v hw hv. (eight w v hw hv).meet; of_bits = λ x y k hx hk. bit-bit_and x y k }
+
+-- the second operand is not looked at
+pub complement_slots : Slotwise (λ x y. not x) (λ w v. 2 ^ 64 - 1 - w)
+complement_slots = record { f = λ x y. 255 - x; of_bytes = λ w v hw hv. (eight w v hw hv).complement; of_bits = λ x y k hx hk. bit_not 8 x k hx hk }
+
+-- eight bytes are written as one word
+module _ (g : Bool → Bool → Bool) (d s : List ℕ) where
+  update_list : (vs e : List ℕ) (i : ℕ) → Updated g d s e i → i + length vs ≤ set_bytes
+      → ((k j : ℕ) → k < length vs → j < 8 → bit (get_or vs k 0) j ≡ g (bit (get_or e (i + k) 0) j) (bit (get_or s (i + k) 0) j))
+      → Updated g d s (put_at e i vs) (i + length vs)
+  update_list [] e i u h law = rw (add-zero i) u
+  update_list (v ∷ vs) e i u h law =
+      let first : Updated g d s (set e i v) (i + 1) = update_more g d s e i v u (omega arith) (λ j l. rw (← (add-zero i)) (law 0 j (omega arith) l)) in
+      rw (add-suc i (length vs), ← (suc-add i (length vs)))
+      (update_list vs (set e i v) (suc i) (rw (← (add-one i)) first) (omega arith) (λ k j hk hj.
+      rw (get_or-set_other e i (suc i + k) v 0 (λ q. omega arith), suc-add i k, ← (add-suc i k)) (law (suc k) j (omega arith) hj)))
+
+  pub update_word : {F : ℕ → ℕ → ℕ} → Slotwise g F → (e : List ℕ) (i j : ℕ) {w v : ℕ} {e' : List ℕ} → Bytes d → Bytes s → Updated g d s e i
+      → w ≡ word 8 (drop i e) → v ≡ word 8 (drop i s) → e' ≡ put_at e i (bytes 8 (F w v)) → j ≡ i + 8 → j ≤ set_bytes → j ≤ length s → Updated g d s e' j
+  update_word {F} W e i j {w} {v} {e'} bd bs u hw hv he hj top long =
+      let a = take 8 (drop i e) in
+      let b = take 8 (drop i s) in
+      let fe : i + 8 ≤ length e = omega (arith, u.long) in
+      let fs : i + 8 ≤ length s = omega arith in
+      let be : Bytes (drop i e) = λ k. rw (get_or-drop i e k 0, u.rest (i + k) (omega arith)) (bd (i + k)) in
+      let la : length a ≡ 8 = at_length e i fe in
+      let lb : length b ≡ 8 = at_length s i fs in
+      let vs = pairwise W.f a b in
+      let lv : length vs ≡ 8 = pair_length W.f a b (la ∙ sym lb) ∙ la in
+      let words : bytes 8 (F w v) ≡ pairwise W.f (bytes 8 (word 8 (drop i e))) (bytes 8 (word 8 (drop i s)))
+      = rw (hw, hv) (W.of_bytes (word 8 (drop i e)) (word 8 (drop i s)) (word_lt 8 (drop i e) be) (word_lt 8 (drop i s) (drop-bytes i s bs))) in
+      let same : bytes 8 (F w v) ≡ vs = words ∙ ap₂ (pairwise W.f) (at-word e i fe be) (at-word s i fs (drop-bytes i s bs)) in
+      let bits : (k m : ℕ) → k < length vs → m < 8 → bit (get_or vs k 0) m ≡ g (bit (get_or e (i + k) 0) m) (bit (get_or s (i + k) 0) m)
+      = λ k m hk hm.
+      rw (pair_at W.f a b k (omega arith) (omega arith), at_byte e i fe k (omega arith), at_byte s i fs k (omega arith))
+      (W.of_bits (get_or e (i + k) 0) (get_or s (i + k) 0) m (rw (u.rest (i + k) (omega arith)) (bd (i + k))) hm) in
+      let end : i + length vs ≡ j = omega arith in
+      rw (he, same) (subst (λ (n : ℕ). Updated g d s (put_at e i vs) n) end (update_list vs e i u (omega arith) bits))
+
+-- the bytes of two equal words are equal, pair by pair
+pub word_same : (a b : List ℕ) (i j : ℕ) {w v : ℕ} → Bytes a → Bytes b → i + 8 ≤ length a → i + 8 ≤ length b
+    → w ≡ word 8 (drop i a) → v ≡ word 8 (drop i b) → w ≡ v → ((k : ℕ) → k < i → get_or a k 0 ≡ get_or b k 0) → j ≡ i + 8
+    → (k : ℕ) → k < j → get_or a k 0 ≡ get_or b k 0
+word_same a b i j ba bb fa fb hw hv same below hj k h =
+    either
+    (look (tests.below k i))
+    (λ q. below k (below_out k i q))
+    (λ q.
+    let l = not-below k i q in
+    let e : i + (k - i) ≡ k = omega arith in
+    subst (λ (n : ℕ). get_or a n 0 ≡ get_or b n 0) e
+    (sym (at_byte a i fa (k - i) (omega arith)) ∙ ap (λ (r : List ℕ). get_or r (k - i) 0) eight_same ∙ at_byte b i fb (k - i) (omega arith)))
+  where
+    eight_same : take 8 (drop i a) ≡ take 8 (drop i b)
+    eight_same =
+        sym (at-word a i fa (drop-bytes i a ba))
+        ∙ (eight (word 8 (drop i a)) (word 8 (drop i b)) (word_lt 8 (drop i a) (drop-bytes i a ba)) (word_lt 8 (drop i b) (drop-bytes i b bb))).equal.0 (sym hw ∙ same ∙ hv)
+        ∙ at-word b i fb (drop-bytes i b bb)
+
+-- the slots of a word
+pub has_word : (S : List ℕ) (i k : ℕ) → Bytes S → k < 64 → has S (i * 8 + k) ≡ bit (word 8 (drop i S)) k
+unfolding has
+has_word S i k b h = sym (word_bits_lem 8 S i k b h ∙ ap₂ (λ (x y : ℕ). bit (get_or S x 0) y) (omega arith) (omega arith))
+
+-- the ones of a word are those of its bytes
+count-bytes : (n i : ℕ) (S : List ℕ) → i + n ≤ length S → Bytes S → count ((i + n) * 8) (has S) ≡ count (i * 8) (has S) + ones (word n (drop i S))
+unfolding word
+count-bytes zero i S h b = rw (add-zero i, ones-zero) (omega arith)
+count-bytes (suc n) i S h b =
+    let rest : count ((i + suc n) * 8) (has S) ≡ count (i * 8 + 8) (has S) + ones (word n (drop (suc i) S))
+    = rw (add-suc i n, ← (suc-add i n), (let q : i * 8 + 8 ≡ suc i * 8 = omega arith in q)) (count-bytes n (suc i) S (omega arith) b) in
+    rw (drop-cons S i 0 (omega arith), ones_cat 8 (word n (drop (suc i) S)) (get_or S i 0) (b i)) (omega (arith, rest, count_byte S i (b i)))
+
+module _ (S : List ℕ) (i n : ℕ) {w : ℕ} (b : Bytes S) (fits : i + 8 ≤ length S) (so_far : n ≡ count (i * 8) (has S)) (here : w ≡ word 8 (drop i S)) where
+  pub count_word : (j : ℕ) → j ≡ i + 8 → n + ones w ≡ count (j * 8) (has S)
+  count_word j e = rw (e, so_far, here) (sym (count-bytes 8 i S fits b))
+
+  -- the sum of the code fits
+  pub count_fits : i < set_bytes → n + ones w < 2 ^ 32
+  count_fits h = rw here (omega (arith, count_le (i * 8) (has S), ones-le 64 (word 8 (drop i S)) (word_lt 8 (drop i S) (drop-bytes i S b))))
+
+-- the search for the lowest slot, a word at a time: no slot is in the words before
+module _ (S : List ℕ) (i : ℕ) {w : ℕ} (b : Bytes S) (here : w ≡ word 8 (drop i S)) (so_far : any (i * 8) (has S) ≡ false) where
+  none_bits : (n : ℕ) → n ≤ 64 → ((k : ℕ) → k < n → bit w k ≡ false) → any (i * 8 + n) (has S) ≡ false
+  none_bits n h clear =
+      none_any (i * 8 + n) (has S) (λ s l. either
+      (look (tests.below s (i * 8)))
+      (λ q. any_none (i * 8) (has S) so_far s (below_out s (i * 8) q))
+      (λ q.
+      let m = not-below s (i * 8) q in
+      let at : i * 8 + (s - i * 8) ≡ s = omega arith in
+      let k : s - i * 8 < n = omega arith in
+      subst (λ (t : ℕ). has S t ≡ false) at
+      (has_word S i (s - i * 8) b (omega arith) ∙ ap (λ (v : ℕ). bit v (s - i * 8)) (sym here) ∙ clear (s - i * 8) k)))
+
+  -- nor is one in this word
+  pub none-word : w ≡ 0 → (j : ℕ) → j ≡ i + 8 → any (j * 8) (has S) ≡ false
+  none-word z j e =
+      subst (λ (n : ℕ). any n (has S) ≡ false) (omega arith) (none_bits 64 (omega arith) (λ k _. ap (λ (v : ℕ). bit v k) z ∙ bit-zero k))
+
+  -- one is in this word
+  module _ (some : w ≢ 0) where
+    low : (count_trailing_zeros 64 w < 64) × (bit w (count_trailing_zeros 64 w) ≡ true)
+    low =
+        let p = lowest 64 w (rw here (word_lt 8 (drop i S) (drop-bytes i S b))) some in
+        (p.0, p.1 (count_trailing_zeros 64 w) ∙ rw (same_refl (count_trailing_zeros 64 w)))
+
+    pub lowest_fits : count_trailing_zeros 64 w < 64
+    lowest_fits = low.0
+
+    pub lowest_word : i + 8 ≤ set_bytes → (r : ℕ) → r ≡ i * 8 + count_trailing_zeros 64 w → r ≡ first set_slots (has S)
+    lowest_word f r e =
+        let t = count_trailing_zeros 64 w in
+        e ∙ sym (first_is set_slots (has S) (i * 8 + t) (omega (arith, low.0))
+        (none_bits t (omega (arith, low.0)) (λ k l. none_lower 64 w k l))
+        (has_word S i t b low.0 ∙ ap (λ (v : ℕ). bit v t) (sym here) ∙ low.1))

@@ -1,0 +1,47 @@
+-- When an edit goes through, test by test.
+use Rattle.std.specs.Prelude.{◌≡◌, ◌≢◌, Bool, true, false, ◌||◌, ℕ, ◌≤◌, ◌<◌, not}
+use Rattle.std.proofs.Common.{◌∙◌, sym, ap, ap₂}
+use Rattle.finite.specs.Tests.{same}
+use Rattle.finite.proofs.Laws.Bools.{and_r, not_out}
+use Rattle.finite.proofs.Laws.Below.{eq_same, below_in}
+use Rattle.limits.specs.Limits.{links, general_links}
+use Rattle.semantics.specs.Holds.{Model}
+use Rattle.semantics.specs.Edit.{AT, AS, DS, RT, functional, target, goes}
+use Rattle.site.proofs.Laws.Read.{functional_in}
+use Rattle.going.specs.Joins.{ends_on_site, joins}
+
+-- at the places of its names
+module _ (M : Model) {b : Bool} where
+  pub goes-AT : (m n1 n2 : ℕ) {x y : ℕ} → x ≡ M.place n1 → y ≡ M.place n2 → b ≡ joins M m x y → b ≡ goes (AT m n1 n2) M
+  unfolding goes joins
+  goes-AT m n1 n2 e f h = h ∙ ap₂ (joins M m) e f
+
+  pub goes-RT : (f n1 n2 : ℕ) {x y : ℕ} → x ≡ M.place n1 → y ≡ M.place n2 → b ≡ ends_on_site x y → b ≡ goes (RT f n1 n2) M
+  unfolding goes
+  goes-RT f n1 n2 e g h = h ∙ ap₂ ends_on_site e g
+
+  pub goes-AS : (n k : ℕ) → b ≡ M.present k → not b ≡ goes (AS n k) M
+  unfolding goes
+  goes-AS n k h = ap not h
+
+pub goes-DS : (M : Model) (n : ℕ) {x : ℕ} → x ≡ M.place n → not (same x 0) ≡ goes (DS n) M
+unfolding goes
+goes-DS M n e = ap (λ (z : ℕ). not (same z 0)) e
+
+-- the end that a link leads to is not nil
+pub end_there : (x y : ℕ) → ends_on_site x y ≡ true → y ≢ 0
+end_there x y p e = not_out (same y 0) (and_r (not (same x 0)) _ p) (eq_same e)
+
+-- when a link can be added, test by test
+module _ (M : Model) (m x y : ℕ) {b : Bool} (h : b ≡ ends_on_site x y) where
+  pub joins_nil : b ≡ false → false ≡ joins M m x y
+  unfolding joins
+  joins_nil e = rw (sym h ∙ e)
+
+  pub joins_general : b ≡ true → m < general_links → true ≡ joins M m x y
+  unfolding joins functional
+  joins_general e g = rw (sym h ∙ e, below_in m general_links g)
+
+  pub joins-functional : b ≡ true → general_links ≤ m → m < links → {u : ℕ} → u ≡ target M m x → (same u 0 || same u y) ≡ joins M m x y
+  unfolding joins
+  joins-functional e g k t = rw (t, sym h ∙ e, functional_in m g k)

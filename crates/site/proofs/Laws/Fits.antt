@@ -1,0 +1,159 @@
+-- The tests by sets say that items 4 to 6 are not met.
+use Rattle.std.specs.Prelude.{◌≡◌, refl, ◌≢◌, Bool, true, false, not, ◌&&◌, ◌||◌, List, ℕ, ◌+◌, ◌*◌, ◌≤◌, ◌<◌, length, get_or, take, drop, replicate}
+use Rattle.std.proofs.Common.{sym, ◌∙◌, ap, zero-add, arith}
+use Rattle.std.proofs.Math.Bool.{not-not}
+use Rattle.std.proofs.lemmas.Bool.{not-true}
+use Rattle.finite.specs.Tests.{same, all, bit}
+use Rattle.finite.proofs.Laws.Bools.{either, look, clash, or_out, or_l, or_r, imp_and}
+use Rattle.finite.proofs.Laws.Below.{equal?, same_refl, eq_same, ne_same, all_cong, all_in, all_out}
+use Rattle.finite.proofs.Laws.Loops.{all-not}
+use Rattle.finite.proofs.Laws.Weights.{no_bits}
+use Rattle.finite.proofs.Laws.Dual.{none-all}
+use Rattle.bitset.specs.Set.{set_bytes, set_slots, has, Is, removed}
+use Rattle.bitset.proofs.Laws.Bytes.{has_byte, has_empty}
+use Rattle.bitset.proofs.Laws.Slot.{has-removed}
+use Rattle.bitset.proofs.Laws.Part.{has_part}
+use Rattle.limits.specs.Limits.{slots, labels, names, links, general_links}
+use Rattle.semantics.specs.Holds.{Model}
+use Rattle.site.specs.Layout.{label_at, target_at, row_at}
+use Rattle.site.specs.Site.{site_of}
+use Rattle.site.specs.Refusal.{item4, item5, item6, barred, touches}
+use Rattle.site.specs.Inside.{OnSite, inside, row_inside, target_inside}
+use Rattle.site.proofs.Laws.Read.{present_is, marked_is, row_is, target_is}
+
+-- ---- item 4
+
+pub nil_absent : (M : Model) → M.present 0 ≡ false → not (item4 M) ≡ false
+unfolding item4
+nil_absent M e = rw e
+
+pub nil_elsewhere : (M : Model) → M.place 0 ≢ 0 → not (item4 M) ≡ false
+unfolding item4
+nil_elsewhere M n = ap not (or_r (not (M.present 0)) _ (or_l (not (same (M.place 0) 0)) _ (ap not (ne_same n))))
+
+pub names_present : (M : Model) → M.present 0 ≡ true → M.place 0 ≡ 0 → not (item4 M) ≡ all names (λ n. M.present (M.place n))
+unfolding item4
+names_present M p e =
+    rw (p, e, same_refl 0, none-all names (λ n. not (M.present (M.place n))))
+    (all_cong names (λ n. not (not (M.present (M.place n)))) (λ n. M.present (M.place n)) (λ n h. not-not (M.present (M.place n))))
+
+-- ---- the slots where labels and links may be
+
+-- the present slots are the first set
+has_first : (S : List ℕ) (s : ℕ) → s < slots → has (take set_bytes S) s ≡ (site_of S).present s
+unfolding slots
+has_first S s h = has_part S 0 set_bytes s h ∙ ap (has S) (zero-add s) ∙ sym (present_is S s h)
+
+-- and slot 0 is taken out of it
+pub onsite_are : (S X Y : List ℕ) → length X ≡ set_bytes → Is X (λ s. has (replicate set_bytes 0) s || has (take set_bytes S) s) → Y ≡ removed X 0
+    → OnSite S Y
+unfolding barred slots
+onsite_are S X Y l h e s hs =
+    rw (e, has-removed X 0 s (omega arith), h s hs, has_empty s hs, has_first S s hs) (swap ((site_of S).present s) (same s 0))
+  where
+    swap : (a b : Bool) → (a && not b) ≡ not (b || not a)
+    swap true true = refl
+    swap true false = refl
+    swap false true = refl
+    swap false false = refl
+
+-- ---- item 5
+
+pub labels-inside : (S E : List ℕ) → OnSite S E → all labels (λ p. inside S (label_at p) E) ≡ not (item5 (site_of S))
+unfolding item5 slots
+labels-inside S E i = sym (none-all labels _ ∙ all_cong labels _ _ (λ p hp. none-all slots _ ∙ all_cong slots _ _ (λ s hs. point p s hp hs)))
+  where
+    point : (p s : ℕ) → p < labels → s < slots
+        → not ((site_of S).marked p s && barred (site_of S) s) ≡ (not (has S (label_at p * 8 + s)) || has E s)
+    point p s hp hs =
+        let b : Bool = barred (site_of S) s in
+        rw (i s hs, ← (marked_is S p s hp hs))
+        (ap (λ x. not ((site_of S).marked p s && x)) (sym (not-not b)) ∙ sym (imp_and ((site_of S).marked p s) (not b)))
+
+-- ---- item 6
+
+pub part_inside : (S A : List ℕ) (b k : ℕ) → k ≡ set_bytes → all set_slots (λ t. not (has (take k (drop b S)) t) || has A t) ≡ inside S b A
+part_inside S A b k e = all_cong set_slots _ _ (λ t h. rw (e, has_part S b set_bytes t h))
+
+-- a row from which no link may start
+pub row-none : (S E : List ℕ) (b s : ℕ) → has E s ≡ false → inside S b (replicate set_bytes 0) ≡ row_inside S b E s
+row-none S E b s h = all_cong set_slots _ _ (λ t ht. rw (h, has_empty t ht))
+
+-- 32 bytes that are an empty set are 0; targets that are all none fit
+no_bytes : (S : List ℕ) (b j : ℕ) → j < set_bytes → get_or S (b + j) 0 < 256 → inside S b (replicate set_bytes 0) ≡ true → get_or S (b + j) 0 ≡ 0
+no_bytes S b j h small p = no_bits 8 _ small clear
+  where
+    clear : (i : ℕ) → i < 8 → bit (get_or S (b + j) 0) i ≡ false
+    clear i l =
+        let t : (b + j) * 8 + i ≡ b * 8 + (j * 8 + i) = omega arith in
+        let q = or_out (not (has S (b * 8 + (j * 8 + i)))) _ (all_out set_slots _ p (j * 8 + i) (omega arith)) in
+        sym (has_byte S (b + j) i l) ∙ ap (has S) t ∙ either q (λ n. not-true _ n) (λ o. clash o (has_empty (j * 8 + i) (omega arith)))
+
+pub none_fit : (S E : List ℕ) (f k b : ℕ) → b ≡ target_at f (set_bytes * k) → ((i : ℕ) → get_or S i 0 < 256) → inside S b (replicate set_bytes 0) ≡ true
+    → all set_bytes (λ j. target_inside E (set_bytes * k + j) (get_or S (target_at f (set_bytes * k + j)) 0)) ≡ true
+none_fit S E f k b e small p =
+    all_in set_bytes _ (λ j h.
+    let at : target_at f (set_bytes * k + j) ≡ b + j = omega (arith, e) in
+    or_l _ _ (eq_same (ap (λ i. get_or S i 0) at ∙ no_bytes S b j h (small (b + j)) p)))
+
+touches-all : (M : Model) (m : ℕ)
+    → not (touches M m) ≡ all slots (λ s. all slots (λ t. not (M.link m s t) || (not (barred M s) && not (barred M t))))
+unfolding touches
+touches-all M m = none-all slots _ ∙ all_cong slots _ _ (λ s hs. none-all slots _ ∙ all_cong slots _ _ (λ t ht. point (M.link m s t) (barred M s) (barred M t)))
+  where
+    point : (l a b : Bool) → not (l && (a || b)) ≡ (not l || (not a && not b))
+    point true true b = refl
+    point true false b = refl
+    point false a b = refl
+
+-- a general link by its rows
+pub link_rows : (S E : List ℕ) (m : ℕ) → m < general_links → OnSite S E
+    → all set_slots (λ s. row_inside S (row_at m s) E s) ≡ not (touches (site_of S) m)
+unfolding slots
+link_rows S E m hm i =
+    sym (touches-all (site_of S) m ∙ all_cong slots _ _ (λ s hs. all_cong slots _ _ (λ t ht. rw (row_is S m s t hm hs ht, i s hs, i t ht))))
+
+-- where all but one pass by themselves, that one decides
+all_single : (n : ℕ) (f : ℕ → Bool) (v : ℕ) → v < n → ((t : ℕ) → t ≢ v → f t ≡ true) → all n f ≡ f v
+all_single n f v hv h =
+    either
+    (look (f v))
+    (λ e. all_in n f (λ t l. either (equal? t v) (λ q. rw q e) (h t)) ∙ sym e)
+    (λ e. all-not n f v hv e ∙ sym e)
+
+target-all : (v : ℕ) (a : Bool) (e : ℕ → Bool) → v < slots
+    → all slots (λ t. not (same v t && not (same t 0)) || (a && e t)) ≡ (same v 0 || (a && e v))
+target-all v a e h =
+    all_single slots _ v h (λ t n. rw (ne_same (λ q. n (sym q))))
+    ∙ rw (same_refl v, not-not (same v 0))
+
+-- a functional link by its targets
+pub link_targets : (S E : List ℕ) (f : ℕ) → general_links ≤ f → f < links → ((s : ℕ) → get_or S (target_at f s) 0 < slots)
+    → OnSite S E
+    → all set_slots (λ s. target_inside E s (get_or S (target_at f s) 0)) ≡ not (touches (site_of S) f)
+unfolding slots
+link_targets S E f hg hl b i =
+    sym (touches-all (site_of S) f ∙ all_cong slots _ _ (λ s hs. all_cong slots _ _ (λ t ht. rw (target_is S f s t hg hl hs ht)) ∙ single s hs))
+  where
+    M : Model
+    M = site_of S
+
+    single : (s : ℕ) → s < slots
+        → all slots (λ t. not (same (get_or S (target_at f s) 0) t && not (same t 0)) || (not (barred M s) && not (barred M t)))
+        ≡ target_inside E s (get_or S (target_at f s) 0)
+    single s hs =
+        target-all (get_or S (target_at f s) 0) (not (barred M s)) (λ t. not (barred M t)) (b s)
+        ∙ rw (i s hs, i (get_or S (target_at f s) 0) (b s))
+
+pub links-all : (M : Model) → not (item6 M) ≡ all links (λ m. not (touches M m))
+unfolding item6
+links-all M = none-all links _
+
+-- what a test's answer r says of the item
+pub item_met : (r b : Bool) → r ≡ not b → not r ≡ true → b ≡ true
+item_met r true e p = refl
+item_met r false e p = sym (ap not e) ∙ p
+
+pub item_unmet : (r b : Bool) → r ≡ not b → not r ≡ false → b ≡ false
+item_unmet r true e p = sym (ap not e) ∙ p
+item_unmet r false e p = refl
