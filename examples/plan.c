@@ -3,7 +3,7 @@
  * first? Everything that this program uses is explained in docs/SPEC.md and include/desk.h. It prints examples/plan.out, and returns 1 if a call is
  * refused.
  *
- *     rt staticlib desk
+ *     tools/archive desk_c target/staticlib/libdesk.a
  *     gcc -std=c11 -Iinclude examples/plan.c target/staticlib/libdesk.a -o plan && ./plan
  */
 #include "desk.h"

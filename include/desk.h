@@ -1,4 +1,4 @@
-/* The desk for C: seven functions over bytes, in libdesk.a (`rt staticlib desk`), for x86-64 Linux.
+/* The desk for C: seven functions over bytes, in libdesk.a (tools/archive), for x86-64 Linux.
  *
  * docs/SPEC.md says what the bytes mean and has a glossary. This file names all the numbers, so that no caller has to write one: the
  * offset of each part of a site, the kinds of node, the ways, the operations, the editions, the lengths of buffers and the reasons for a refusal.

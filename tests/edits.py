@@ -43,7 +43,7 @@ def depends():
     for line in read("crates.txt").split("\n"):
         name, colon, rest = line.split("#")[0].partition(":")
         if colon:
-            direct[name.strip()] = rest.split()
+            direct[name.split()[0]] = rest.split()
     below = {}
     for name in direct:
         todo, below[name] = [name], set()

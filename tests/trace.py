@@ -13,9 +13,14 @@ def read(path):
         return f.read()
 
 
-def in_specs(crate, name, word):
-    """A definition, law, record, field or constructor `word` of crates/CRATE/specs/NAME.antt."""
-    path = f"crates/{crate}/specs/{name}.antt"
+def file_of(crate, name):
+    """Where crate/NAME stands: a definition in specs/, a law, Laws/NAME, in proofs/."""
+    return f"crates/{crate}/{'proofs' if name.startswith('Laws/') else 'specs'}/{name}.antt"
+
+
+def is_said(crate, name, word):
+    """A definition, law, record, field or constructor `word` of the file."""
+    path = file_of(crate, name)
     declared = r"(?m)^\s*(?:(?:unfoldable|abbrev|pub|record|data)\s+)*" + re.escape(word) + r"(?=[\s:({]|$)"
     return os.path.exists(path) and re.search(declared, read(path))
 
@@ -27,12 +32,12 @@ def in_source(crate, word):
 
 def missing(text):
     for crate, name, word in re.findall(r"`(\w+)/((?:Laws/)?\w+): ([^`\s]+)`", text):
-        if crate != "crate" and not in_specs(crate, name, word):
+        if crate != "crate" and not is_said(crate, name, word):
             yield f"{crate}/{name}: {word}"
     # fields, constructors or clauses, named behind the file that has them
     for crate, name, words in re.findall(r"`(\w+)/((?:Laws/)?\w+): [^`]+` \((`[^`\s]+`(?:, `[^`\s]+`)*)", text):
         for word in re.findall(r"`([^`]+)`", words):
-            path = f"crates/{crate}/specs/{name}.antt"
+            path = file_of(crate, name)
             if os.path.exists(path) and not re.search(r"(?<![\w-])" + re.escape(word) + r"(?![\w-])", read(path)):
                 yield f"{crate}/{name}: {word}"
     for crate, word in re.findall(r"`(\w+)::(\w+)`", text):

@@ -1,4 +1,6 @@
 // Applying, for every input: the inputs are judged, then the sheet is applied or refused.
+#![tactic(auto)]
+
 ghost use Rattle.std.specs.Prelude.{◌≡◌, length, replicate};
 ghost use Rattle.verdict.specs.Verdict.{◌then◌};
 ghost use Rattle.site.specs.Refusal.{site_verdict};

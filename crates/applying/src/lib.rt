@@ -1,4 +1,6 @@
 // A sheet applied to a site: the site that it leaves, or the first edit that does not go through.
+#![tactic(auto)]
+
 ghost use Rattle.std.specs.Prelude.{◌≡◌, length};
 ghost use Rattle.verdict.specs.declared.Verdict.TheVariants.{Accepted};
 ghost use Rattle.site.specs.Layout.{site_bytes};

@@ -1,5 +1,7 @@
 // Sets of 256 slots in 32 bytes: one slot tested, inserted, removed or alone; a set cleared or counted; its lowest slot. `member`, `insert` and `remove` take longer
 // bytes too, and the slot by its bit's address.
+#![tactic(auto)]
+
 ghost use Rattle.std.specs.Prelude.{◌≡◌, false, ◌/◌, ◌<◌, length, replicate};
 ghost use Rattle.finite.specs.Tests as tests;
 ghost use Rattle.bitset.specs.Set.{set_bytes, set_slots, has, Is, inserted, removed};

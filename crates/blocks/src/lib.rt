@@ -1,4 +1,6 @@
 // Blocks by their spellings: how many nodes one has, and its nodes written into a table. docs/SPEC.md, "Rewriting".
+#![tactic(auto)]
+
 ghost use Rattle.std.specs.Prelude.{◌≡◌, ◌+◌, ◌*◌, ◌/◌, ◌%◌, ◌≤◌, ◌<◌, length, get_or};
 ghost use Rattle.semantics.specs.Block.{size, emit};
 ghost use Rattle.spelling.specs.Rows.{copy_count, row_count};

@@ -1,4 +1,6 @@
 // Buffers that a caller lends, of whatever length; and a byte as an index.
+#![tactic(auto)]
+
 ghost use Rattle.std.specs.Prelude.{◌≡◌, ◌++◌, ◌≤◌, ◌<◌, length, take, drop, replicate};
 
 // Every byte becomes 0.

@@ -1,4 +1,6 @@
 // The chain behind a place, for every input: the inputs are judged, the goal is listed, and the chain or the set is given.
+#![tactic(auto)]
+
 ghost use Rattle.std.specs.Prelude.{◌≡◌, ◌<◌, length, replicate};
 ghost use Rattle.bitset.specs.Set.{set_bytes, set_slots};
 ghost use Rattle.limits.specs.Limits.{every_way, table_nodes};
@@ -27,7 +29,7 @@ const EVERY: u32 = limits::EVERY as u32;
 const SLOTS: u32 = SET_SLOTS as u32;
 
 // The answer: the steps of the chain that is given; that the set is given; or the item that is met and its W.
-#[derive(Drop)]
+#[derive(Clone, Copy)]
 pub enum Chaining {
     Given(u32),
     Reached,

@@ -2,4 +2,5 @@
 pub mod Rows
 -- what they say
 pub mod Said
+
 -- and that it is so

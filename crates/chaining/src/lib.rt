@@ -1,6 +1,8 @@
 // The chain behind a place: rounds from the start or from the goal until they meet, and a walk from the start; or, where they do not, the slots
 // that can be reached. The rows of a link are stored by the slot that it leads from, so that a round is cheap from the slots that the link
 // leads from to those that it leads to: along a link from the start, against it from the goal.
+#![tactic(auto)]
+
 ghost use Rattle.std.specs.Prelude.{◌≡◌, true, ◌&&◌, ◌≤◌, ◌<◌, length, replicate};
 ghost use Rattle.finite.specs.Tests.{same, any, first};
 ghost use Rattle.bitset.specs.Set.{set_bytes, set_slots, has};

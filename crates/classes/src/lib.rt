@@ -1,4 +1,6 @@
 // The class numbers of a site's slots: a partition, refined round by round until a round changes nothing.
+#![tactic(auto)]
+
 ghost use Rattle.std.specs.Prelude.{◌≡◌, ◌+◌, ◌*◌, ◌≤◌, ◌<◌, length, get_or};
 ghost use Rattle.finite.specs.Tests.{same, any, all};
 ghost use Rattle.bitset.specs.Set.{set_bytes, set_slots};

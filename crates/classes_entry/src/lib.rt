@@ -1,4 +1,6 @@
 // Class numbers, for every input: the inputs are judged, then the slots are numbered or it refuses.
+#![tactic(auto)]
+
 ghost use Rattle.std.specs.Prelude.{◌≡◌, length, replicate};
 ghost use Rattle.site.specs.Layout.{site_bytes};
 ghost use Rattle.site.specs.Site.{site_of};
@@ -12,7 +14,7 @@ use verdict::Verdict;
 const CLASSES_BYTES: usize = 256;
 
 // The answer: how many different class numbers there are, or the item that is met and its W.
-#[derive(Drop)]
+#[derive(Clone, Copy)]
 pub enum Classing {
     Numbered(u32),
     Refused(u8, u16),

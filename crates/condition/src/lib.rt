@@ -1,4 +1,6 @@
 // The node table of a condition: reading a node's fields, and items 7 and 8.
+#![tactic(auto)]
+
 ghost use Rattle.std.specs.Prelude.{◌≡◌, true, ◌+◌, ◌*◌, ◌≤◌, ◌<◌, length};
 ghost use Rattle.limits.specs.Limits.{not_no, or_no, and_no, nu_no};
 ghost use Rattle.semantics.specs.Table.{kind_of, node_fits, nodes_fit};
@@ -19,6 +21,7 @@ const VARIABLE_LIMIT: usize = limits::VARIABLES as usize;
 const WAY_LIMIT: usize = limits::EVERY as usize + 1;
 
 // Item 7 is not met by a table of n bytes.
+#[tactic(auto, using(finite::proofs::Laws::Below::ne_same, finite::proofs::Laws::Below::below_in), unfolding(crate::specs::Refusal::size_fits))]
 pub fn size_fits(n: usize) -> bool
     ensures { result ≡ size_fits n }
 {
@@ -98,6 +101,7 @@ pub fn right_child(table: &[u8], i: usize) -> usize
 }
 
 // The bounds of item 8 by kind. A field that is not used is below 1. The arms are constants, so that the compiler makes a table of them.
+#[tactic(auto, unfolding(semantics::specs::Table::kind_of, crate::specs::Limits::param_limit))]
 fn param_limit(k: u8) -> usize
     ensures { result ≡ param_limit (kind_of k) }
 {

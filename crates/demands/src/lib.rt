@@ -1,1 +1,2 @@
 // The demands, over bytes, and their proofs. No code.
+#![tactic(auto)]

@@ -1,4 +1,7 @@
-// The entry points of the desk for C: the answers in numbers. Every input has its answer: nothing is required of it.
+// The entry points of the desk: the answers in numbers. Every input has its answer: nothing is required of it. Its functions for C, which are the
+// same, stand in the crate desk_c.
+#![tactic(auto)]
+
 ghost use Rattle.desk.specs.Returned.{ReturnedList, ReturnedApply, ReturnedRewrite, ReturnedThrough, ReturnedClasses, ReturnedChain, ReturnedJob};
 ghost use Rattle.std.specs.Prelude.{◌≡◌};
 ghost use Rattle.verdict.specs.Verdict.{reason_of, fault_of};
@@ -14,7 +17,7 @@ use rewriting::Rewriting;
 
 // In each answer the reason is the number of the item that is met, 0 where none is, and the fault is W. The rounds are those that listing made.
 #[repr(C)]
-#[derive(Drop)]
+#[derive(Clone, Copy)]
 pub struct ListAnswer {
     pub reason: u32,
     pub fault: u32,
@@ -23,14 +26,14 @@ pub struct ListAnswer {
 }
 
 #[repr(C)]
-#[derive(Drop)]
+#[derive(Clone, Copy)]
 pub struct ApplyAnswer {
     pub reason: u32,
     pub fault: u32,
 }
 
 #[repr(C)]
-#[derive(Drop)]
+#[derive(Clone, Copy)]
 pub struct RewriteAnswer {
     pub reason: u32,
     pub fault: u32,
@@ -38,7 +41,7 @@ pub struct RewriteAnswer {
 }
 
 #[repr(C)]
-#[derive(Drop)]
+#[derive(Clone, Copy)]
 pub struct ClassesAnswer {
     pub reason: u32,
     pub fault: u32,
@@ -47,7 +50,7 @@ pub struct ClassesAnswer {
 
 // Whether a chain is given, 1 or 0, and how many steps it has.
 #[repr(C)]
-#[derive(Drop)]
+#[derive(Clone, Copy)]
 pub struct ChainAnswer {
     pub reason: u32,
     pub fault: u32,
@@ -57,7 +60,7 @@ pub struct ChainAnswer {
 
 // The slots listed on the site after and today, the rewritten nodes, the different class numbers, and the rounds of the two lists.
 #[repr(C)]
-#[derive(Drop)]
+#[derive(Clone, Copy)]
 pub struct JobAnswer {
     pub reason: u32,
     pub fault: u32,
@@ -69,8 +72,7 @@ pub struct JobAnswer {
     pub today_rounds: u32,
 }
 
-#[unsafe(no_mangle)]
-pub extern "C" fn desk_list(
+pub fn desk_list(
     site: &[u8],
     cond: &[u8],
     limit: u32,
@@ -92,8 +94,7 @@ pub extern "C" fn desk_list(
     }
 }
 
-#[unsafe(no_mangle)]
-pub extern "C" fn desk_apply(site: &[u8], sheet: &[u8], edition: u32, res: &mut [u8]) -> ApplyAnswer
+pub fn desk_apply(site: &[u8], sheet: &[u8], edition: u32, res: &mut [u8]) -> ApplyAnswer
     ensures { ReturnedApply edition site.now sheet.now res.old res.new result.reason result.fault }
 {
     let v = apply_entry::apply(site, sheet, edition, res);
@@ -120,27 +121,19 @@ fn table_in_numbers(answer: Rewriting) -> RewriteAnswer
     }
 }
 
-#[unsafe(no_mangle)]
-pub extern "C" fn desk_rewrite(
-    table: &[u8],
-    sheet: &[u8],
-    edition: u32,
-    res: &mut [u8],
-) -> RewriteAnswer
+pub fn desk_rewrite(table: &[u8], sheet: &[u8], edition: u32, res: &mut [u8]) -> RewriteAnswer
     ensures { ReturnedRewrite edition table.now sheet.now res.old res.new result.reason result.fault result.nodes }
 {
     table_in_numbers(rewrite_entry::rewrite(table, sheet, edition, res))
 }
 
-#[unsafe(no_mangle)]
-pub extern "C" fn desk_through(sheet: &[u8], edition: u32, res: &mut [u8]) -> RewriteAnswer
+pub fn desk_through(sheet: &[u8], edition: u32, res: &mut [u8]) -> RewriteAnswer
     ensures { ReturnedThrough edition sheet.now res.old res.new result.reason result.fault result.nodes }
 {
     table_in_numbers(rewrite_entry::through(sheet, edition, res))
 }
 
-#[unsafe(no_mangle)]
-pub extern "C" fn desk_classes(site: &[u8], classes: &mut [u8]) -> ClassesAnswer
+pub fn desk_classes(site: &[u8], classes: &mut [u8]) -> ClassesAnswer
     ensures { ReturnedClasses site.now classes.old classes.new result.reason result.fault result.count }
 {
     let answer = classes_entry::classes(site, classes);
@@ -181,8 +174,7 @@ fn chain_in_numbers(r: Chaining) -> ChainAnswer
     }
 }
 
-#[unsafe(no_mangle)]
-pub extern "C" fn desk_chain(
+pub fn desk_chain(
     site: &[u8],
     goal: &[u8],
     way: u32,
@@ -225,8 +217,7 @@ fn in_numbers(r: Job) -> JobAnswer
     }
 }
 
-#[unsafe(no_mangle)]
-pub extern "C" fn desk_job(
+pub fn desk_job(
     file: &[u8],
     limit: u32,
     changed: &mut [u8],

@@ -1,4 +1,6 @@
 // The editions of sheets, and item 18.
+#![tactic(auto)]
+
 ghost use Rattle.std.specs.Prelude.{◌≡◌};
 ghost use Rattle.editions.specs.Edition as editions;
 

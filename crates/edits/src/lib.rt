@@ -1,4 +1,6 @@
 // The edits on a site's bytes, in place: those of names, labels and slots, and the choice among all.
+#![tactic(auto)]
+
 ghost use Rattle.std.specs.Prelude.{◌≡◌, true, cond, ◌<◌, length};
 ghost use Rattle.finite.specs.Tests.{same};
 ghost use Rattle.bitset.specs.Set.{set_slots};

@@ -1,5 +1,7 @@
 // A table of nodes rewritten through one edit: a first pass gives each block its number, a second writes the blocks, by recursion on children.
 // docs/SPEC.md, "Rewriting".
+#![tactic(auto)]
+
 ghost use Rattle.std.specs.Prelude.{◌≡◌, true, false, ◌+◌, ◌≤◌, ◌<◌, length, get_or};
 ghost use Rattle.semantics.specs.Edit.{legal};
 ghost use Rattle.semantics.specs.Table.{nodes_fit};

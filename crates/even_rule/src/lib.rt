@@ -1,5 +1,7 @@
 // The check of a condition's table. Items 9 and 10 go by a word for each node: bit v for the variable v where it occurs free under an even
 // number of nots, bit v + 16 where it does under an odd number.
+#![tactic(auto)]
+
 ghost use Rattle.std.specs.Prelude.{◌≡◌, true, not, ◌+◌, ◌*◌, ◌-◌, ◌^◌, ◌≤◌, ◌<◌, length};
 ghost use Rattle.std.specs.Int.Bits.{bit_and};
 ghost use Rattle.finite.specs.Tests.{bit};

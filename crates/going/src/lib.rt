@@ -1,4 +1,6 @@
 // When an edit goes through on a site's bytes: item 13, for one edit.
+#![tactic(auto)]
+
 ghost use Rattle.std.specs.Prelude.{◌≡◌, true, ◌<◌, length};
 ghost use Rattle.bitset.specs.Set.{set_slots};
 ghost use Rattle.limits.specs.Limits.{links};

@@ -1,4 +1,6 @@
 // The job of a file, for every input: items 1, 16, 2 and 18 are tested, then the pieces are taken from the file and run.
+#![tactic(auto)]
+
 ghost use Rattle.std.specs.Prelude.{◌≡◌};
 ghost use Rattle.verdict.specs.Verdict.{◌then◌};
 ghost use Rattle.trailer.specs.Refusal.{file_verdict};

@@ -1,5 +1,7 @@
 // A job on the pieces `site`, `cond` and `sheet` of its file, with the edition of the sheet. The caller's buffers are `changed` for the site after, `table` for the
 // rewritten table, `after` and `today` for the lists on the site after and on the site, `classes` for the class numbers, and `work`.
+#![tactic(auto)]
+
 ghost use Rattle.std.specs.Prelude.{◌≡◌, ◌≤◌, length, replicate};
 ghost use Rattle.verdict.specs.Verdict.{◌then◌};
 ghost use Rattle.verdict.specs.declared.Verdict.TheVariants.{Accepted};
@@ -19,7 +21,7 @@ use verdict::Verdict;
 
 // The answer of a job: how many slots are listed and how many rounds made on the site after, and today; how many nodes the rewritten table
 // has, and how many different class numbers there are; or the item that is met and its W.
-#[derive(Drop)]
+#[derive(Clone, Copy)]
 pub enum Job {
     Done(Found, Found, u32, u32),
     Refused(u8, u16),

@@ -1,5 +1,7 @@
 // The steps of a job on its pieces `site`, `cond` and `sheet`: they are judged; the sheet is applied, into `changed`, and the condition
 // rewritten, into `table`; and the rewritten table is listed, into `today`.
+#![tactic(auto)]
+
 ghost use Rattle.std.specs.Prelude.{◌≡◌, ◌*◌, ◌≤◌, length, take, replicate};
 ghost use Rattle.bitset.specs.Set.{set_bytes};
 ghost use Rattle.verdict.specs.Verdict.{◌then◌};

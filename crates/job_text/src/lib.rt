@@ -1,5 +1,8 @@
 // The print of a job as text, docs/SPEC.md, "The print": four lines, or `refused N W`.
-ghost use Rattle.std.specs.Prelude.{◌≡◌, ◌+◌, ◌≤◌, ◌<◌, length, take};
+#![tactic(auto)]
+
+ghost use Rattle.std.specs.Prelude.{◌≡◌, ◌+◌, ◌≤◌, ◌<◌, length, take, OnOk};
+ghost use Rattle.std.specs.Io.KnownBytes.{Appends};
 ghost use Rattle.bitset.specs.Set.{set_bytes};
 ghost use Rattle.io.specs.Counts.{IsPrefixLen};
 ghost use Rattle.io.specs.Digits.{hex_digit_ascii};
@@ -7,7 +10,7 @@ ghost use Rattle.job_text.specs.Text.{decimal, hexadecimal, count_line, list_lin
 ghost use Rattle.job_text.specs.Put.{text_bytes, Puts};
 
 use job_run::Job;
-use libc::STDOUT_FILENO;
+use std::io::Write;
 
 // How many bytes the buffer for the text has: more than any print takes.
 pub const TEXT_BYTES: usize = 256;
@@ -17,12 +20,9 @@ fn put(text: &mut [u8], at: usize, word: &[u8]) -> usize
     requires { at + length word.now ≤ length text.old }
     ensures { Puts text.old at word.now text.new result }
 {
-    let mut k = 0;
-    while k < word.len() {
-        text[at + k] = word[k];
-        k += 1;
-    }
-    at + word.len()
+    let end = at + word.len();
+    text[at..end].copy_from_slice(word);
+    end
 }
 
 // Twenty digits are enough for any number.
@@ -52,12 +52,8 @@ fn put_bytes(text: &mut [u8], at: usize, bytes: &[u8]) -> usize
     ensures { Puts text.old at (hexadecimal bytes.now) text.new result }
 {
     let mut end = at;
-    let mut k = 0;
-    while k < bytes.len() {
-        text[end] = digit(bytes[k] / 16);
-        text[end + 1] = digit(bytes[k] % 16);
-        end += 2;
-        k += 1;
+    for x in bytes {
+        end = put(text, end, &[digit(*x / 16), digit(*x % 16)]);
     }
     end
 }
@@ -118,11 +114,17 @@ pub fn write(answer: Job, after: &[u8], today: &[u8], text: &mut [u8]) -> usize
     }
 }
 
-// Writes the print of a job's answer to standard output.
-pub fn print(answer: Job, after: &[u8], today: &[u8])
+// Writes the print of a job's answer to a writer.
+pub fn print<W: Write>(
+    output: &mut W,
+    answer: Job,
+    after: &[u8],
+    today: &[u8],
+) -> std::io::Result<()>
     requires { (length after.now ≡ set_bytes) × (length today.now ≡ set_bytes) }
+    ensures { OnOk result (Appends (W.contents output.old) (W.contents output.new) (job_text answer after.now today.now)) }
 {
     let mut text = [0u8; TEXT_BYTES];
     let n = write(answer, after, today, &mut text);
-    io::write_all(STDOUT_FILENO, &text[..n]);
+    output.write_all(&text[..n])
 }

@@ -1,4 +1,5 @@
 // The limits of the format and the numbers of its kinds of node. Each stands here once; specs/Limits.antt has the same for contracts.
+#![tactic(auto)]
 
 // How many labels, names, links and variables there are.
 pub const LABELS: u8 = 16;

@@ -1,4 +1,6 @@
 // The edits of links on a site's bytes, in place.
+#![tactic(auto)]
+
 ghost use Rattle.std.specs.Prelude.{◌≡◌, true, ◌≤◌, ◌<◌, length, set};
 ghost use Rattle.bitset.specs.Set.{set_slots};
 ghost use Rattle.limits.specs.Limits.{links, general_links};

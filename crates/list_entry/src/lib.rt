@@ -1,4 +1,6 @@
 // Listing, for every input: the inputs are judged, then it lists or refuses.
+#![tactic(auto)]
+
 ghost use Rattle.std.specs.Prelude.{◌≡◌, ◌≤◌, length, replicate};
 ghost use Rattle.bitset.specs.Set.{set_bytes};
 ghost use Rattle.limits.specs.Limits.{table_nodes, highest_limit};
@@ -19,7 +21,7 @@ use listing::{Found, WORK_BYTES};
 use verdict::Verdict;
 
 // The answer of listing: how many slots the condition lists and how many rounds were made, or the item that is met and its W.
-#[derive(Drop)]
+#[derive(Clone, Copy)]
 pub enum Listing {
     Listed(Found),
     Refused(u8, u16),

@@ -1,6 +1,8 @@
 // Lists a condition on a site: the set of the slots where it holds. Evaluation goes by recursion on a node's children and is
 // memoised: node i's set is written at byte 32 * i of the work buffer, with the rounds made for it beside, and is computed again only once a
 // variable that is free in the node has moved. Rounds are counted as if nothing were kept: a node that is known adds those that were made for it.
+#![tactic(auto)]
+
 ghost use Rattle.std.specs.Prelude.{◌≡◌, ◌⊎◌, true, false, ◌+◌, ◌-◌, ◌*◌, ◌≤◌, min, length, replicate};
 ghost use Rattle.bitset.specs.Set.{set_bytes, has};
 ghost use Rattle.semantics.specs.Table.{form_of, nodes_fit};
@@ -30,7 +32,7 @@ pub const WORK_BYTES: usize = SET_BYTES * TABLE_NODES;
 const ENOUGH: usize = SET_SLOTS + 1;
 
 // The answer of a list: how many slots the set holds, and how many rounds were made.
-#[derive(Drop)]
+#[derive(Clone, Copy)]
 pub struct Found {
     pub count: u32,
     pub rounds: u32,
@@ -38,7 +40,7 @@ pub struct Found {
 
 // What a call may count: its number goes as far as the cap, and it stops where its rounds are over the limit. The cap is one above the limit, so
 // that a number over the limit shows; or it is the limit itself, and then nothing stops.
-#[derive(Drop)]
+#[derive(Clone, Copy)]
 struct Budget {
     limit: u32,
     cap: u32,

@@ -1,6 +1,8 @@
 // What the evaluator keeps between calls, as sets in one buffer: the set of slots of each variable; the set of the nodes whose sets are known;
 // and, for each variable, the set of the nodes in which it is free. A set of nodes takes eight sets of slots, so that a variable that moves
 // costs eight operations on sets, however many nodes there are.
+#![tactic(auto)]
+
 ghost use Rattle.std.specs.Prelude.{◌≡◌, ◌≤◌, ◌<◌, length, replicate};
 ghost use Rattle.bitset.specs.Set.{has};
 ghost use Rattle.limits.specs.Limits.{variables, table_nodes};

@@ -1,5 +1,7 @@
 // Sets of slots in a buffer: set j is the 32 bytes from offset 32 * j on. Each write lends that part of the buffer to
 // an operation on sets, and says what the whole buffer becomes.
+#![tactic(auto)]
+
 ghost use Rattle.std.specs.Prelude.{◌≡◌, ◌⊎◌, true, not, ◌&&◌, ◌||◌, ◌+◌, ◌*◌, ◌≤◌, ◌<◌, length};
 ghost use Rattle.bitset.specs.Set.{set_bytes, has, Is};
 ghost use Rattle.limits.specs.Limits.{not_no, or_no, and_no, dia_no, box_no, nu_no};

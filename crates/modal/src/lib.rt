@@ -1,4 +1,6 @@
 // Diamonds and boxes of a site's ways on sets of slots, by whole rows.
+#![tactic(auto)]
+
 ghost use Rattle.std.specs.Prelude.{◌≡◌, not, ◌&&◌, ◌||◌, ◌+◌, ◌*◌, ◌<◌, length};
 ghost use Rattle.finite.specs.Tests.{same, any, all};
 ghost use Rattle.bitset.specs.Set.{set_bytes, set_slots, has, Is};

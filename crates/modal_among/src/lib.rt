@@ -1,5 +1,7 @@
 // The slots of a set from which a way leads into another set, for sets with few slots: from one slot to the next, by whole rows. Along a link the
 // rows of the first set's slots are looked at, and against it those of the other's. `modal::diamond` looks at all slots, or at all bytes.
+#![tactic(auto)]
+
 ghost use Rattle.std.specs.Prelude.{◌&&◌, ◌||◌, ◌≡◌, ◌+◌, ◌*◌, ◌≤◌, ◌<◌, length};
 ghost use Rattle.finite.specs.Tests.{bit, same, any};
 ghost use Rattle.bitset.specs.Set.{set_bytes, set_slots, has, Is};

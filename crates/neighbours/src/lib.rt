@@ -1,4 +1,6 @@
 // The neighbours of each slot by the ways 0 to 15, as rows of bits: read off a site once, before the rounds of refinement.
+#![tactic(auto)]
+
 ghost use Rattle.std.specs.Prelude.{◌≡◌, true, ◌&&◌, cond, ℕ, ◌+◌, ◌/◌, ◌%◌, ◌^◌, ◌≤◌, ◌<◌, length, get_or, replicate};
 ghost use Rattle.finite.specs.Tests.{same, any};
 ghost use Rattle.bitset.specs.Set.{set_bytes, set_slots};

@@ -1,4 +1,6 @@
 // An edit's own condition and the closing "and", put behind a table. docs/SPEC.md, "The condition for going through".
+#![tactic(auto)]
+
 ghost use Rattle.std.specs.Prelude.{◌≡◌, ◌+◌, ◌≤◌, ◌<◌, length, cond};
 ghost use Rattle.semantics.specs.Edit.{AT, functional};
 ghost use Rattle.semantics.specs.Block.{emit};

@@ -1,10 +1,14 @@
-// For the test programs: pieces of jobs, read on standard input; bytes, checksums and refusals, shown. A piece is written as its kind, its length, how
+// For the test programs: pieces of jobs, read from an input; bytes, checksums and refusals, shown. A piece is written as its kind, its length, how
 // many of its bytes are not 0, and each of these behind its offset (tests/pieces.py).
-ghost use Rattle.std.specs.Prelude.{◌≡◌, ◌<◌, length};
+#![tactic(auto)]
+
+ghost use Rattle.std.specs.Prelude.{◌≡◌, ◌<◌, length, IfOk};
 ghost use Rattle.pieces.specs.Room.{room};
 
+use bounded_read::read_full;
 use buffer::wide;
-use libc::{STDIN_FILENO, STDOUT_FILENO};
+use std::io;
+use std::io::{Read, Write};
 
 // Room for a piece of any length: a length and an offset are two bytes.
 pub const ROOM: usize = 65536;
@@ -14,7 +18,7 @@ pub const SITE: u8 = 1;
 pub const CONDITION: u8 = 2;
 
 // The kind of a piece, 0 at the end of the input, and its length.
-#[derive(Drop)]
+#[derive(Clone, Copy)]
 pub struct Piece {
     pub kind: u8,
     pub len: usize,
@@ -28,73 +32,73 @@ fn number(low: u8, high: u8) -> usize
 }
 
 // Puts the next byte of the input, which stands behind its offset, into the piece.
-fn put_next(piece: &mut [u8])
+fn put_next<R: Read>(input: &mut R, piece: &mut [u8]) -> io::Result<()>
     requires { length piece.old ≡ room }
 {
     let mut entry = [0u8; 3];
-    io::read_full(STDIN_FILENO, &mut entry);
+    read_full(input, &mut entry)?;
     let at = number(entry[0], entry[1]);
     piece[at] = entry[2];
+    Ok(())
 }
 
-fn fill(piece: &mut [u8], count: usize)
+fn fill<R: Read>(input: &mut R, piece: &mut [u8], count: usize) -> io::Result<()>
     requires { length piece.old ≡ room }
 {
-    for k in 0..count {
-        put_next(piece);
+    for _ in 0..count {
+        put_next(input, piece)?;
     }
+    Ok(())
 }
 
 // Reads the next piece into a buffer of zeros.
-pub fn read(piece: &mut [u8]) -> Piece
+pub fn read<R: Read>(input: &mut R, piece: &mut [u8]) -> io::Result<Piece>
     requires { length piece.old ≡ room }
-    ensures { result.len < room }
+    ensures { IfOk result (λ p. p.len < room) }
 {
     let mut head = [0u8; 5];
-    if io::read_full(STDIN_FILENO, &mut head) < 5 {
-        return Piece { kind: 0, len: 0 };
+    if read_full(input, &mut head)? < 5 {
+        return Ok(Piece { kind: 0, len: 0 });
     }
-    fill(piece, number(head[3], head[4]));
-    Piece {
+    fill(input, piece, number(head[3], head[4]))?;
+    Ok(Piece {
         kind: head[0],
         len: number(head[1], head[2]),
-    }
+    })
 }
 
-fn print_byte(x: u8) {
-    io::print_hex(STDOUT_FILENO, x as u64, 2);
+fn print_byte<W: Write>(output: &mut W, x: u8) -> io::Result<()> {
+    write!(output, "{x:02x}")
 }
 
 // Two hexadecimal digits a byte.
-pub fn print_bytes(bytes: &[u8]) {
-    let mut k = 0;
-    while k < bytes.len() {
-        print_byte(bytes[k]);
-        k += 1;
+pub fn print_bytes<W: Write>(output: &mut W, bytes: &[u8]) -> io::Result<()> {
+    for x in bytes {
+        print_byte(output, *x)?;
     }
+    Ok(())
 }
 
 pub fn all_zero(bytes: &[u8]) -> bool {
-    let mut k = 0;
-    while k < bytes.len() {
-        if bytes[k] != 0 {
+    for x in bytes {
+        if *x != 0 {
             return false;
         }
-        k += 1;
     }
     true
 }
 
 // Says the text where there is a fault.
-pub fn say(fault: bool, text: &[u8]) {
+pub fn say<W: Write>(output: &mut W, fault: bool, text: &[u8]) -> io::Result<()> {
     if fault {
-        io::write_all(STDOUT_FILENO, text);
+        output.write_all(text)?;
     }
+    Ok(())
 }
 
 // Says the text unless the bytes are zeros.
-pub fn say_left(bytes: &[u8], text: &[u8]) {
-    say(!all_zero(bytes), text);
+pub fn say_left<W: Write>(output: &mut W, bytes: &[u8], text: &[u8]) -> io::Result<()> {
+    say(output, !all_zero(bytes), text)
 }
 
 // A number below 4,294,967,291, a prime.
@@ -108,27 +112,22 @@ fn mixed(h: u64, x: u8) -> u64
 // Stands for bytes that are too many to be shown.
 pub fn checksum(bytes: &[u8]) -> u64 {
     let mut h = 0;
-    let mut k = 0;
-    while k < bytes.len() {
-        h = mixed(h, bytes[k]);
-        k += 1;
+    for x in bytes {
+        h = mixed(h, *x);
     }
     h
 }
 
 // The item that is met and its W, as `refused N W`.
-pub fn print_refusal(item: u8, w: u16) {
-    io::write_all(STDOUT_FILENO, b"refused ");
-    io::print_decimal(STDOUT_FILENO, item as u64);
-    io::write_all(STDOUT_FILENO, b" ");
-    io::print_decimal(STDOUT_FILENO, w as u64);
+pub fn print_refusal<W: Write>(output: &mut W, item: u8, w: u16) -> io::Result<()> {
+    write!(output, "refused {item} {w}")
 }
 
 // How many limits stand behind a pair or a job.
-pub fn read_count() -> u8 {
+pub fn read_count<R: Read>(input: &mut R) -> io::Result<u8> {
     let mut bytes = [0u8; 1];
-    io::read_full(STDIN_FILENO, &mut bytes);
-    bytes[0]
+    read_full(input, &mut bytes)?;
+    Ok(bytes[0])
 }
 
 // The number of four bytes, low byte first.
@@ -137,8 +136,8 @@ fn quad(b0: u8, b1: u8, b2: u8, b3: u8) -> u32 {
 }
 
 // A number of four bytes: a limit on rounds, an edition, a way or a start.
-pub fn read_number() -> u32 {
+pub fn read_number<R: Read>(input: &mut R) -> io::Result<u32> {
     let mut bytes = [0u8; 4];
-    io::read_full(STDIN_FILENO, &mut bytes);
-    quad(bytes[0], bytes[1], bytes[2], bytes[3])
+    read_full(input, &mut bytes)?;
+    Ok(quad(bytes[0], bytes[1], bytes[2], bytes[3]))
 }

@@ -1,4 +1,6 @@
 // Rewriting and the condition for going through, for every input: the inputs are judged, then the table is made or the inputs are refused.
+#![tactic(auto)]
+
 ghost use Rattle.std.specs.Prelude.{◌≡◌, length, replicate};
 ghost use Rattle.verdict.specs.Verdict.{◌then◌};
 ghost use Rattle.limits.specs.Limits.{table_bytes};

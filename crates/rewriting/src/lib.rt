@@ -1,5 +1,7 @@
 // A table of nodes rewritten through a sheet of edits, the last one first; and the condition for going through, which also gets each edit's own
 // condition. docs/SPEC.md, "Rewriting" and "The condition for going through", and item 14 of "Reasons".
+#![tactic(auto)]
+
 ghost use Rattle.std.specs.Prelude.{◌≡◌, ◌++◌, true, ◌-◌, ◌≤◌, ◌<◌, length, take, replicate};
 ghost use Rattle.finite.specs.Bytes.{Bytes};
 ghost use Rattle.semantics.specs.Edit.{legal, sheet_legal};
@@ -85,7 +87,7 @@ fn passes(
 }
 
 // The answer: how many nodes the table has that is made, or the item that is met and its W.
-#[derive(Drop)]
+#[derive(Clone, Copy)]
 pub enum Rewriting {
     Rewritten(u32),
     Refused(u8, u16),

@@ -1,1 +1,2 @@
 // No code: the examples of `samples` over bytes, as theorems in proofs/.
+#![tactic(auto)]

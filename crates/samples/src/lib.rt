@@ -1,1 +1,2 @@
 // No code: small examples worked out by hand, as theorems in proofs/.
+#![tactic(auto)]

@@ -1,4 +1,6 @@
 // Operations on whole sets of 256 slots in 32 bytes: union, intersection, complement and comparisons. All but `meets` go eight bytes to a word.
+#![tactic(auto)]
+
 ghost use Rattle.std.specs.Prelude.{◌≡◌, true, false, not, ◌&&◌, ◌||◌, length};
 ghost use Rattle.finite.specs.Tests.{any, all};
 ghost use Rattle.bitset.specs.Set.{set_bytes, set_slots, has, Is};

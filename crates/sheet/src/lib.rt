@@ -1,4 +1,6 @@
 // The sheet's bytes: edits read, and items 11 and 12.
+#![tactic(auto)]
+
 ghost use Rattle.std.specs.Prelude.{◌≡◌, not, ◌&&◌, ◌+◌, ◌*◌, ◌/◌, ◌≤◌, length};
 ghost use Rattle.finite.specs.Tests.{same, below, first};
 ghost use Rattle.limits.specs.Limits.{names};
@@ -11,7 +13,7 @@ use limits::{GENERAL_LINKS, LABELS, LINKS, NAMES};
 use verdict::Verdict;
 
 // The nine edits, with their operands in the order of the sheet; and last what AT on a functional link is in edition 2.
-#[derive(Drop)]
+#[derive(Clone, Copy)]
 pub enum Op {
     Cn1(u8, u8),
     Cn2(u8, u8, u8),

@@ -1,4 +1,6 @@
 // Signatures: for each slot the set of the classes that the slots of its row are in, 64 slots at a time.
+#![tactic(auto)]
+
 ghost use Rattle.std.specs.Prelude.{◌≡◌, true, ◌&&◌, ◌||◌, ◌<◌, length, get_or};
 ghost use Rattle.finite.specs.Tests.{same, any};
 ghost use Rattle.bitset.specs.Set.{set_bytes, set_slots, has, Is};

@@ -1,4 +1,6 @@
 // The block of a node through an edit, spelled: a row of a table, and the numbers that the row refers to. docs/SPEC.md, "Rewriting".
+#![tactic(auto)]
+
 ghost use Rattle.std.specs.Prelude.{◌≡◌, true, ◌<◌};
 ghost use Rattle.semantics.specs.Edit.{legal};
 ghost use Rattle.semantics.specs.Table.{way_of};
@@ -9,7 +11,7 @@ use limits::{BOX, DIA, EVERY, HERE, LABEL, LINKS, NAME, SLOT};
 use sheet::Op;
 
 // The spelling of a block: a row of the table, the old node's parameter w, and the numbers a and b, which the edit gives.
-#[derive(Drop)]
+#[derive(Clone, Copy)]
 pub struct Spelling {
     pub row: u8,
     pub w: u8,

@@ -1,4 +1,6 @@
 // Classes of slots, split by the rows of their slots and by the classes that these rows are in.
+#![tactic(auto)]
+
 ghost use Rattle.std.specs.Prelude.{◌≡◌, true, ℕ, ◌<◌, length, get_or};
 ghost use Rattle.finite.specs.Tests.{first};
 ghost use Rattle.bitset.specs.Set.{set_slots};

@@ -1,6 +1,9 @@
 // Reads pieces of jobs on standard input and prints for each that it is accepted, or the item and W with which it is refused.
-use libc::STDOUT_FILENO;
+#![tactic(auto)]
+
 use pieces::ROOM;
+use std::io;
+use std::io::{BufReader, BufWriter, Read, Write};
 use verdict::Verdict;
 
 fn judge(kind: u8, piece: &[u8]) -> Verdict {
@@ -14,44 +17,46 @@ fn judge(kind: u8, piece: &[u8]) -> Verdict {
     sheet::check(piece)
 }
 
-fn print_kind(kind: u8) {
+fn print_kind<W: Write>(output: &mut W, kind: u8) -> io::Result<()> {
     match kind {
-        1 => io::write_all(STDOUT_FILENO, b"site "),
-        2 => io::write_all(STDOUT_FILENO, b"condition "),
-        _ => io::write_all(STDOUT_FILENO, b"sheet "),
-    };
+        1 => write!(output, "site "),
+        2 => write!(output, "condition "),
+        _ => write!(output, "sheet "),
+    }
 }
 
-fn print_verdict(v: Verdict) {
+fn print_verdict<W: Write>(output: &mut W, v: Verdict) -> io::Result<()> {
     match v {
-        Verdict::Accepted => {
-            io::write_all(STDOUT_FILENO, b"accepted\n");
-        }
+        Verdict::Accepted => writeln!(output, "accepted"),
         Verdict::Refused(item, w) => {
-            pieces::print_refusal(item, w);
-            io::write_all(STDOUT_FILENO, b"\n");
+            pieces::print_refusal(output, item, w)?;
+            writeln!(output)
         }
     }
 }
 
 // Reads one piece and prints its line; false at the end of the input.
-fn next() -> bool {
+fn next<R: Read, W: Write>(input: &mut R, output: &mut W) -> io::Result<bool> {
     let mut bytes = [0u8; ROOM];
-    let piece = pieces::read(&mut bytes);
+    let piece = pieces::read(input, &mut bytes)?;
     let kind = piece.kind;
     if kind == 0 {
-        return false;
+        return Ok(false);
     }
     let len = piece.len;
-    print_kind(kind);
-    print_verdict(judge(kind, &bytes[0..len]));
-    true
+    print_kind(output, kind)?;
+    print_verdict(output, judge(kind, &bytes[0..len]))?;
+    Ok(true)
 }
 
-// A proved loop has to end, so the turns are counted down from a number that no input uses up.
-fn main() {
-    let mut turns = u64::MAX;
-    while turns > 0 && next() {
-        turns -= 1;
+// A proved loop has to end, so it counts to a number that no input uses up.
+fn main(rt: HostRuntime) -> io::Result<()> {
+    let mut input = BufReader::new(rt.alloc(), rt.stdin())?;
+    let mut output = BufWriter::new(rt.alloc(), rt.stdout())?;
+    for _ in 0..u64::MAX {
+        if !next(&mut input, &mut output)? {
+            break;
+        }
     }
+    output.flush()
 }

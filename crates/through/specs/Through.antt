@@ -29,10 +29,14 @@ own (DT2 f n) = none
 own (AS n k) = some (no! (⟨ every_way ⟩ (end k_here 0 & end k_slot k)))
 own (DS n) = some (no! (⟨ every_way ⟩ (nm n & nm 0)))
 
--- what is put behind a table of n nodes: a condition and a closing "and", the older table as the left operand; nothing, where there is none
+-- a condition and a closing "and" for a table of n nodes, the older table as the left operand
+abbrev pub joined : ℕ → Block → Block
+joined n B = old (n - 1) & B
+
+-- what is put behind a table of n nodes: a condition and a closing "and"; nothing, where there is none
 unfoldable pub closing : ℕ → Option Block → List Node
 closing n none = []
-closing n (some B) = emit (old (n - 1) & B) n
+closing n (some B) = emit (joined n B) n
 
 unfoldable pub behind : List Node → Option Block → List Node
 behind xs o = xs ++ closing (length xs) o

@@ -1,4 +1,6 @@
 // The job file: items 2 and 18, the edition of its sheet, and its pieces as parts of the caller's file.
+#![tactic(auto)]
+
 ghost use Rattle.std.specs.Prelude.{◌≡◌, false, ◌+◌, ◌*◌, ◌<◌, ◌≤◌, length};
 ghost use Rattle.trailer.specs.File.{number, quad_limit, start_of, trailer_at, trailer_bytes};
 ghost use Rattle.trailer.specs.Refusal.{item2, file_verdict};
@@ -64,7 +66,7 @@ fn start(file: &[u8], k: usize) -> usize
 // What the trailer of a file says: whether item 2 is met, the edition of the sheet, and where the site, the condition and the sheet end. Each
 // piece starts where the one before it ends, the site at 0. Where item 2 is met the edition is 0, and where item 2 or 18 is met the pieces are
 // empty and end at 0.
-#[derive(Drop)]
+#[derive(Clone, Copy)]
 pub struct Cuts {
     pub met: bool,
     pub edition: u32,

@@ -1,8 +1,10 @@
 // The outcome of a check: the input is accepted, or refused with an item's number and W.
+#![tactic(auto)]
+
 ghost use Rattle.std.specs.Prelude.{◌≡◌};
 ghost use Rattle.verdict.specs.Verdict.{reason_of, fault_of};
 
-#[derive(Drop)]
+#[derive(Clone, Copy)]
 pub enum Verdict {
     Accepted,
     Refused(u8, u16),

@@ -1,5 +1,7 @@
 // Eight bytes as a word, low byte first. They are put together from halves and not by a loop: so the compiler sees one load, or one store, before
 // it decides which calls to put in place.
+#![tactic(auto)]
+
 ghost use Rattle.std.specs.Prelude.{◌≡◌, ◌+◌, ◌^◌, ◌≤◌, ◌<◌, length, drop};
 ghost use Rattle.words.specs.Word.{word, bytes, put_at};
 

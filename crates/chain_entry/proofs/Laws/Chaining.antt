@@ -1,7 +1,6 @@
 -- The answers of the chain, case by case.
-use Rattle.std.specs.Prelude.{◌≡◌, List, ◌⊎◌, ◌≢◌, Bool, true, false, ℕ, ◌≤◌, ◌<◌, length, refl, replicate}
+use Rattle.std.specs.Prelude.{◌≡◌, List, ◌≢◌, Bool, true, false, ℕ, ◌≤◌, ◌<◌, length, refl, replicate}
 use Rattle.std.proofs.Common.{◌∙◌, inl, inr, sym, ap}
-use Rattle.finite.specs.Tests.{below}
 use Rattle.finite.proofs.Laws.Below.{below_in, below-not}
 use Rattle.bitset.specs.Set.{set_bytes, set_slots, has}
 use Rattle.limits.specs.Limits.{slots, every_way}
@@ -25,7 +24,7 @@ use Rattle.chain_entry.specs.declared.Chaining.{Chaining}
 use Rattle.chain_entry.specs.declared.Chaining.TheVariants as answer
 use Rattle.chain_entry.specs.Refusal.{chain_verdict}
 use Rattle.chain_entry.specs.Answer.{verdict_of, found_of, steps_of}
-use Rattle.chain_entry.specs.Chaining.{Goal, GivesChain, GivesSet, Gives}
+use Rattle.chain_entry.specs.Chaining.{Goal, Gives}
 use Rattle.chain_entry.specs.Answered.{ChainJudged, Searched, ChainAnswered}
 use Rattle.chain_entry.proofs.Laws.Refusal.{Accepts, chain_accepts}
 

@@ -1,5 +1,5 @@
 -- What the chain knows of inputs that meet no item.
-use Rattle.std.specs.Prelude.{◌≡◌, List, ℕ, ◌<◌}
+use Rattle.std.specs.Prelude.{◌≡◌, List, ℕ}
 use Rattle.bitset.specs.Set.{set_bytes}
 use Rattle.verdict.specs.declared.Verdict.TheVariants.{Accepted}
 use Rattle.site.specs.Site.{site_of}

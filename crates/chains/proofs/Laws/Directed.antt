@@ -120,8 +120,8 @@ unfolding exact
 exact_goal M w S S' e zero x h = e x h
 exact_goal M w S S' e (suc k) x h = ap₂ (λ (a b : Bool). a && not b) (within_goal M w S S' e (suc k) x h) (within_goal M w S S' e k x h)
 
-module _ (M : Model) (w : Way) (s : ℕ) where
 -- the search from the start s
+module _ (M : Model) (w : Way) (s : ℕ) where
   -- the slots before x, of a slot x that the start leads to
   onward_out : (i x : ℕ) → onward M w s (suc i) x ≡ true
       → (x ≡ s) ⊎ ((y : ℕ) × (y < slots) × (step M w y x ≡ true) × (onward M w s i y ≡ true))
@@ -139,8 +139,8 @@ module _ (M : Model) (w : Way) (s : ℕ) where
   unfolding onward
   onward-step i x t h p q = within_step M (reverse w) _ i t x h (step-reverse M w t x ∙ p) q
 
-module _ (M : Model) (w : Way) (S : Set) (s : ℕ) (hs : s < slots) where
 -- and the one from the goal S
+module _ (M : Model) (w : Way) (S : Set) (s : ℕ) (hs : s < slots) where
   -- a slot after i steps and k before the goal is on a chain of i + k
   onward-within : (i k x : ℕ) → x < slots → onward M w s i x ≡ true → within M w S k x ≡ true → within M w S (i + k) s ≡ true
   onward-within zero k x h p q =

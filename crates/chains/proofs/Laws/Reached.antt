@@ -16,7 +16,7 @@ use Rattle.chains.proofs.Laws.Layers.{last, toward_out, toward-step, within_star
 use Rattle.chains.specs.Reached.{reverse, onward}
 
 module _ (M : Model) (w : Way) (s : ℕ) where
--- the start can be reached, and what is a step from what can
+  -- the start can be reached, and what is a step from what can
   pub reached_start : s < slots → Reached M w s s
   unfolding Reached SomeChain
   reached_start h = (0, (λ i. s), chain_here s _ h refl refl)

@@ -1,12 +1,11 @@
 -- A sheet that goes through in edition 1 goes through in edition 2, and leaves the same site: where AT on a functional link goes through, the slot
 -- has no other target to be replaced.
-use Rattle.std.specs.Prelude.{◌≡◌, refl, Bool, false, not, ◌&&◌, ◌||◌, cond, List, [], ◌∷◌, ℕ, length, true}
+use Rattle.std.specs.Prelude.{◌≡◌, refl, ◌&&◌, ◌||◌, cond, List, [], ◌∷◌, ℕ, length, true}
 use Rattle.std.proofs.Math.Path.{fun_ext}
 use Rattle.std.proofs.Common.{◌∙◌, inr, sym, ap}
 use Rattle.finite.specs.Tests.{same}
 use Rattle.finite.proofs.Laws.Bools.{either, look, clash, both, and_in, and_l, and_r, or_l, or_r, or_out}
 use Rattle.finite.proofs.Laws.Below.{same_eq, eq_same}
-use Rattle.verdict.specs.declared.Verdict.TheVariants.{Accepted}
 use Rattle.semantics.specs.Holds.{Model}
 use Rattle.semantics.specs.Edit as edits
 use Rattle.semantics.specs.Edit.{Edit, AT, RT, functional, edit, legal, goes, set_link, Valid, sheet, sheet_legal, sheet_goes}

@@ -1,5 +1,5 @@
 -- The demand on the chain is met.
-use Rattle.std.specs.Prelude.{◌≡◌, refl, ◌⊎◌, ◌↔◌, ◌≢◌, true, List, ℕ, ◌≤◌, ◌<◌, length, false, get_or}
+use Rattle.std.specs.Prelude.{◌≡◌, ◌⊎◌, ◌↔◌, ◌≢◌, true, List, ℕ, ◌≤◌, ◌<◌, length, false, get_or}
 use Rattle.std.proofs.Common.{◌∙◌, ap, arith, sym, inl, inr}
 use Rattle.finite.proofs.Laws.Bools.{either, look, and_in}
 use Rattle.finite.proofs.Laws.Below.{below_in}
@@ -12,22 +12,21 @@ use Rattle.verdict.specs.declared.Verdict.TheVariants.{Accepted, Refused}
 use Rattle.semantics.specs.Holds.{Env, Holds}
 use Rattle.semantics.specs.Table.{way_of, form_of}
 use Rattle.site.specs.Site.{site_of}
-use Rattle.condition.specs.Bytes.{table_of, bytes_of}
+use Rattle.condition.specs.Bytes.{table_of}
 use Rattle.condition.specs.Refusal.{condition_verdict}
 use Rattle.condition.proofs.Laws.Bytes.{length_table, table_back_lem}
 use Rattle.condition.proofs.Laws.Verdict.{Sound, accepted_sound, bytes_accepted}
 use Rattle.refusals.specs.Refusal.{start_is_fit, start_verdict}
 use Rattle.refusals.proofs.Laws.Items.{buffer_in, start_in_lem, start_not, start_out, then_out}
 use Rattle.list_entry.specs.Refusal.{pair_verdict}
-use Rattle.chains.specs.Chain.{SomeChain, ReachedSet}
+use Rattle.chains.specs.Chain.{SomeChain}
 use Rattle.chains.specs.Given.{leads_table}
 use Rattle.chains.proofs.Laws.Loops.{given_one}
 use Rattle.chains.proofs.Laws.Longer.{leads-length, leads_fits, leads-even, leads-closed, table_chain}
 use Rattle.chains.proofs.Laws.Shortest.{shortest_short, shortest_apart}
 use Rattle.chains.proofs.Laws.Reached.{Closed, reached_one, reached_closure, no_chain}
-use Rattle.chaining.specs.Answer.{SetGiven}
 use Rattle.chain_entry.specs.Refusal.{chain_verdict}
-use Rattle.chain_entry.specs.Chaining.{Goal, GivesChain, GivesSet, Gives, ChainAfter}
+use Rattle.chain_entry.specs.Chaining.{Goal, GivesChain, GivesSet, Gives}
 use Rattle.chain_entry.proofs.Laws.Refusal.{numbered_chain}
 use Rattle.demands.specs.Demands.{ListCall}
 use Rattle.demands.specs.Rounds.{Listable}
@@ -147,7 +146,7 @@ module _ {site table : List ℕ} {way start : ℕ} (c : ChainCall site table way
         let h = inputs.1.start_fits in
         let k = (reached_closure (site_of site) (way_of way) start h (has c.set')).0 g.set.reached in
         record {
-          start_in_lem = k.start;
+          start_inside = k.start;
           is_closed = k.closed;
           no_goal = λ ρ. (no_chain (site_of site) (way_of way) start h (Goal site table ρ) (has c.set') g.set.reached).0 (g.none ρ);
         }

@@ -1,7 +1,7 @@
 -- The demands are met.
 use Rattle.std.specs.Prelude.{◌≡◌, ◌≢◌, true, false, List, ◌++◌, ℕ, ◌*◌, ◌-◌, ◌<◌, length, get_or, replicate}
 use Rattle.std.proofs.Common.{◌∙◌, ap, arith}
-use mathlib.Core.Logic.Iff
+use Rattle.std.proofs.Math.Logic.Iff
 use Rattle.verdict.specs.Verdict.{reason_of}
 use Rattle.verdict.specs.declared.Verdict.TheVariants.{Accepted}
 use Rattle.limits.specs.Limits.{slots, table_bytes}

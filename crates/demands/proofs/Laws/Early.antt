@@ -1,7 +1,7 @@
 -- The checks before item 15 never refuse with 15, 16 or 17: their items are 2 to 14 and 18. (Items 1 and 16 do not come up where buffers and limit
 -- are as stated.)
 use Rattle.std.specs.Prelude.{◌≡◌, refl, ◌≢◌, Bool, false, not, cond, List, ℕ, ◌-◌, ◌/◌, ◌≤◌, ◌<◌, true, length}
-use Rattle.std.proofs.Common.{sym, arith}
+use Rattle.std.proofs.Common.{arith}
 use Rattle.finite.specs.Tests.{same, below, first}
 use Rattle.finite.proofs.Laws.Bools.{either, look}
 use Rattle.verdict.specs.Verdict.{reason_of, ◌then◌}

@@ -1,5 +1,5 @@
 -- Item 18: the edition is tested before the other checks, and none of these refuses with 18.
-use Rattle.std.specs.Prelude.{◌≡◌, refl, ◌≢◌, true, false, List, ℕ, ◌≤◌, length}
+use Rattle.std.specs.Prelude.{◌≡◌, ◌≢◌, List, ℕ, ◌≤◌}
 use Rattle.std.proofs.Common.{sym, ◌∙◌, ap, inl, inr, arith}
 use Rattle.finite.proofs.Laws.Bools.{either, look}
 use Rattle.verdict.specs.Verdict.{reason_of, fault_of, ◌then◌}
@@ -17,10 +17,8 @@ use Rattle.condition.specs.Bytes.{table_of}
 use Rattle.condition.specs.Refusal.{condition_verdict}
 use Rattle.sheet.specs.Bytes.{edits_of}
 use Rattle.sheet.specs.Refusal.{sheet_verdict}
-use Rattle.applying.specs.Refusal.{goes_verdict}
-use Rattle.rewriting.specs.Refusal.{length_verdict}
 use Rattle.trailer.specs.File.{number}
-use Rattle.trailer.specs.Refusal.{item2, edition_in, trailer_verdict}
+use Rattle.trailer.specs.Refusal.{edition_in, trailer_verdict}
 use Rattle.trailer.specs.Pieces.{site_in, condition_in, sheet_in}
 use Rattle.trailer.proofs.Laws.Verdict.{trailer_refused, trailer_edition, edition_fourth}
 use Rattle.refusals.specs.Refusal.{rounds_verdict}

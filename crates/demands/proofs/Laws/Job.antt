@@ -1,7 +1,7 @@
 -- The demands on a job are met: what it leaves is what the entry points leave one by one, and theirs are.
 use Rattle.std.specs.Prelude.{◌≡◌, List, ℕ, ◌≤◌, length}
 use Rattle.std.proofs.Common.{sym, ◌∙◌, ap, arith}
-use Rattle.verdict.specs.Verdict.{reason_of, fault_of, ◌then◌}
+use Rattle.verdict.specs.Verdict.{reason_of, fault_of}
 use Rattle.verdict.specs.declared.Verdict.{Verdict}
 use Rattle.verdict.specs.declared.Verdict.TheVariants.{Accepted}
 use Rattle.semantics.specs.Edit as edits

@@ -1,7 +1,7 @@
 -- One verdict on one input leaves the same bytes and numbers in buffers of the same lengths.
 use Rattle.std.specs.Prelude.{◌≡◌, List, ℕ, length, replicate}
 use Rattle.std.proofs.Common.{◌∙◌, arith, ext_get_or, sym, ap}
-use mathlib.Core.Logic.Iff
+use Rattle.std.proofs.Math.Logic.Iff
 use Rattle.limits.specs.Limits.{slots}
 use Rattle.verdict.specs.declared.Verdict.{Verdict}
 use Rattle.verdict.specs.declared.Verdict.TheVariants.{Accepted, Refused}

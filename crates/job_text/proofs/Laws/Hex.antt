@@ -4,7 +4,7 @@ use Rattle.std.proofs.Common.{sym, ◌∙◌, ap, append_assoc, add-one, arith, 
 use Rattle.io.specs.Digits.{hex_digit_ascii}
 use Rattle.job_text.specs.Text.{hexadecimal}
 use Rattle.job_text.specs.Put.{Puts}
-use Rattle.job_text.proofs.Laws.Put.{puts_none, puts_byte, puts_as}
+use Rattle.job_text.proofs.Laws.Put.{puts_none, puts_byte, puts_as, puts_then}
 
 pub length-hexadecimal : (xs : List ℕ) → length (hexadecimal xs) ≡ length xs + length xs
 unfolding hexadecimal
@@ -30,6 +30,19 @@ hex_more {text} {text'} {a} {b} bytes k g h p lt room eg eh =
         rw (eg, eh, add-one, take-suc bytes k 0 lt)
         (append_assoc (hexadecimal (take k bytes)) (hex_digit_ascii (get_or bytes k 0 / 16) ∷ []) (hex_digit_ascii (get_or bytes k 0 % 16) ∷ [])
         ∙ sym (snoc_hexadecimal (take k bytes) (get_or bytes k 0)))
+
+-- the same, where the two digits are written as one word
+pub hex_then : {text text' text'' : List ℕ} {a b c : ℕ} (bytes : List ℕ) (k g h : ℕ) → Puts text a (hexadecimal (take k bytes)) text' b
+    → Puts text' b (g ∷ h ∷ []) text'' c → k < length bytes
+    → g ≡ hex_digit_ascii (get_or bytes k 0 / 16) → h ≡ hex_digit_ascii (get_or bytes k 0 % 16)
+    → Puts text a (hexadecimal (take (k + 1) bytes)) text'' c
+hex_then bytes k g h p q lt eg eh =
+    puts_as (said k g h lt eg eh) refl (puts_then p q)
+  where
+    said : (k g h : ℕ) → k < length bytes → g ≡ hex_digit_ascii (get_or bytes k 0 / 16) → h ≡ hex_digit_ascii (get_or bytes k 0 % 16)
+        → hexadecimal (take k bytes) ++ (g ∷ h ∷ []) ≡ hexadecimal (take (k + 1) bytes)
+    said k g h lt eg eh =
+        rw (eg, eh, add-one, take-suc bytes k 0 lt) (sym (snoc_hexadecimal (take k bytes) (get_or bytes k 0)))
 
 -- all of them
 pub hex_whole : {text text' : List ℕ} {a b : ℕ} (bytes : List ℕ) (k : ℕ) → Puts text a (hexadecimal (take k bytes)) text' b

@@ -2,7 +2,7 @@
 -- the variables have.
 use Rattle.std.specs.Prelude.{◌≡◌, refl, ◌↔◌, List, Bool, true, false, not, ℕ, ◌+◌, ◌*◌, ◌-◌, ◌/◌, ◌<◌, length}
 use Rattle.std.proofs.Common.{◌∙◌, subst, arith, sym, ap}
-use mathlib.Core.Logic.Iff
+use Rattle.std.proofs.Math.Logic.Iff
 use Rattle.finite.specs.Tests.{same}
 use Rattle.finite.proofs.Laws.Bools.{either, clash, no_true, and_l, and_r, or_out, not_out}
 use Rattle.finite.proofs.Laws.Below.{same_eq, below_in, below_out, all_out}

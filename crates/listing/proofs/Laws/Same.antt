@@ -2,7 +2,7 @@
 -- that holds everywhere or nowhere.
 use Rattle.std.specs.Prelude.{◌≡◌, ◌↔◌, Bool, true, cond, ℕ, ◌<◌, length, replicate, List, false}
 use Rattle.std.proofs.Common.{◌∙◌, sym, ap}
-use mathlib.Core.Logic.Iff
+use Rattle.std.proofs.Math.Logic.Iff
 use Rattle.finite.specs.Tests.{count}
 use Rattle.finite.proofs.Laws.Bools.{both}
 use Rattle.finite.proofs.Laws.Count.{count_like}

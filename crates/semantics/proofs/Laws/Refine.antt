@@ -139,7 +139,7 @@ bisimilar_trans M N O (suc k) s t u p q =
     ))
 
 module _ (M : Model) where
--- one site, which is stable after as many rounds as there are slots
+  -- one site, which is stable after as many rounds as there are slots
   -- s is the lowest of its class
   rep : ℕ → Set
   rep k s = not (any s (bisimilar_in k M M s))

@@ -6,10 +6,10 @@ use Rattle.finite.proofs.Laws.Bools.{and_in}
 use Rattle.finite.proofs.Laws.Below.{below_in}
 use Rattle.semantics.specs.Form.{and}
 use Rattle.semantics.specs.Table.{Node, two, trees, tree_at, form_of, nodes_fit, even_table}
-use Rattle.semantics.specs.Block.{Block, old, size, root, ◌&◌}
+use Rattle.semantics.specs.Block.{Block, size, root}
 use Rattle.semantics.proofs.Laws.Emit.{block_fits, fill, even_block}
 use Rattle.semantics.proofs.Laws.Append.{append_length, append_fits, append_even, append_form}
-use Rattle.through.specs.Through.{closing, behind}
+use Rattle.through.specs.Through.{joined, closing, behind}
 
 -- no condition
 pub behind-none : (xs : List Node) → behind xs none ≡ xs
@@ -19,7 +19,7 @@ behind-none xs = append-nil xs
 module _ (xs : List Node) (nonempty : 0 < length xs) (B : Block) (fits : (n : ℕ) → block_fits n B ≡ true) where
   -- the condition and the closing "and"
   abbrev C : Block
-  C = old (length xs - 1) & B
+  C = joined (length xs) B
 
   -- the block can be written behind the table's nodes
   closing_fits : block_fits (length xs) C ≡ true

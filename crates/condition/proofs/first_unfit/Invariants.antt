@@ -1,0 +1,12 @@
+-- No node below i meets item 8.
+use Rattle.std.proofs.Common.{length, ◌-◌, ◌≤◌, false, not, ◌≡◌}
+use Rattle.condition.specs.Bytes.{node_at, table_of}
+use Rattle.finite.specs.Tests.{any}
+use Rattle.semantics.specs.Table.{node_fits}
+use Rattle.condition.proofs.first_unfit.Given as goal
+
+abbrev pub invariant-loop-i : goal.invariant-loop-i
+invariant-loop-i l = (l.i ≤ l.n) × (l.n ≡ length (table_of l.table)) × (any l.i (λ j. not (node_fits j (node_at l.table j))) ≡ false)
+
+abbrev pub decreases-loop-i : goal.decreases-loop-i
+decreases-loop-i l = l.n - l.i

@@ -1,0 +1,13 @@
+-- No node before i is uneven.
+use Rattle.std.proofs.Common.{length, ◌-◌, ◌≤◌, false, not, ◌≡◌}
+use Rattle.condition.specs.Bytes.{table_of}
+use Rattle.finite.specs.Tests.{any}
+use Rattle.semantics.specs.Form.{even}
+use Rattle.semantics.specs.Table.{tree_at}
+use Rattle.even_rule.proofs.first_uneven.Given as goal
+
+abbrev pub invariant-loop-i : goal.invariant-loop-i
+invariant-loop-i l = (l.i ≤ l.n) × (l.n ≡ length (table_of l.table)) × (any l.i (λ j. not (even (tree_at (table_of l.table) j))) ≡ false)
+
+abbrev pub decreases-loop-i : goal.decreases-loop-i
+decreases-loop-i l = l.n - l.i

@@ -1,0 +1,31 @@
+-- The items in order, each by its test.
+use Rattle.finite.proofs.Laws.Below.{eq_same, ne_same}
+use Rattle.semantics.specs.Holds.{Model}
+use Rattle.site.proofs.Laws.Fits.{item_met, item_unmet}
+use Rattle.site.specs.Refusal.{item4, item5, item6, site_verdict}
+use Rattle.site.specs.Site.{site_of}
+use Rattle.site.proofs.check.Goals as goal
+
+pub returns-then-site-ne-SITE_BYTES : goal.returns-then-site-ne-SITE_BYTES
+unfolding site_verdict
+returns-then-site-ne-SITE_BYTES c = rw (ne_same c.if-site-ne-SITE_BYTES.true)
+
+pub returns-then-not-names_fit : goal.returns-then-not-names_fit
+unfolding site_verdict
+returns-then-not-names_fit c = let M : Model = site_of c.args.site.now in
+    rw (eq_same c.if-site-ne-SITE_BYTES.false, item_met _ (item4 M) c.names_fit.ensures c.if-not-names_fit.true-raw)
+
+pub returns-then-not-labels_fit : goal.returns-then-not-labels_fit
+unfolding site_verdict
+returns-then-not-labels_fit c = let M : Model = site_of c.args.site.now in
+    rw (eq_same c.if-site-ne-SITE_BYTES.false, item_unmet _ (item4 M) c.names_fit.ensures c.if-not-names_fit.false-raw, item_met _ (item5 M) c.labels_fit.ensures c.if-not-labels_fit.true-raw)
+
+pub returns-then-not-links_fit : goal.returns-then-not-links_fit
+unfolding site_verdict
+returns-then-not-links_fit c = let M : Model = site_of c.args.site.now in
+    rw (eq_same c.if-site-ne-SITE_BYTES.false, item_unmet _ (item4 M) c.names_fit.ensures c.if-not-names_fit.false-raw, item_unmet _ (item5 M) c.labels_fit.ensures c.if-not-labels_fit.false-raw, item_met _ (item6 M) c.links_fit.ensures c.if-not-links_fit.true-raw)
+
+pub returns : goal.returns
+unfolding site_verdict
+returns c = let M : Model = site_of c.args.site.now in
+    rw (eq_same c.if-site-ne-SITE_BYTES.false, item_unmet _ (item4 M) c.names_fit.ensures c.if-not-names_fit.false-raw, item_unmet _ (item5 M) c.labels_fit.ensures c.if-not-labels_fit.false-raw, item_unmet _ (item6 M) c.links_fit.ensures c.if-not-links_fit.false-raw)
