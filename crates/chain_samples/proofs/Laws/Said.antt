@@ -1,9 +1,8 @@
 -- Each row is as said: a test for each is computed.
-use Rattle.std.specs.Prelude.{◌≡◌, refl, List, [], ◌∷◌, Bool, true, false, not, ◌&&◌, ◌||◌, ℕ, suc, ◌-◌, ◌<◌, length, get_or}
-use Rattle.std.proofs.Common.{sym, ◌∙◌}
+use Rattle.std.specs.Prelude.{◌≡◌, refl, List, [], ◌∷◌, Bool, true, not, ◌&&◌, ◌||◌, ℕ, suc, ◌-◌, length, get_or}
 use Rattle.std.proofs.Math.Bool.{beq}
 use Rattle.finite.specs.Tests.{same, below, any, all, first}
-use Rattle.finite.proofs.Laws.Bools.{either, clash, no_true, and_l, and_r, or_out, not_out, beq-true}
+use Rattle.finite.proofs.Laws.Bools.{either, no_true, and_l, and_r, or_out, not_out, beq-true}
 use Rattle.finite.proofs.Laws.Below.{same_eq, any_none, all_out, below_out}
 use Rattle.limits.specs.Limits.{slots}
 use Rattle.semantics.specs.Form.{Way}
@@ -19,7 +18,7 @@ use Rattle.chains.proofs.Laws.Shortest.{Descends, descends_shortest}
 use Rattle.chains.specs.Reached.{reverse, onward}
 use Rattle.chains.proofs.Laws.Reached.{onward-rest, reached_same}
 use Rattle.chain_samples.specs.Rows.{Given, chain, reached, Row, plain, fork, detour, rows}
-use Rattle.chain_samples.specs.Said.{set_of, Goal, Says, AllSaid}
+use Rattle.chain_samples.specs.Said.{set_of, Says, AllSaid}
 
 -- the walk c of n steps goes from s always to the lowest slot that is nearer, as a test
 module _ (M : Model) (w : Way) (S : Set) (s n : ℕ) (c : ℕ → ℕ) where

@@ -2,7 +2,6 @@
 -- into D k.
 use Rattle.std.specs.Prelude.{◌≡◌, ◌↔◌, ◌⊎◌, true, ◌&&◌, ◌||◌, refl, ℕ, zero, suc, ◌≤◌, ◌<◌}
 use Rattle.std.proofs.Common.{◌∙◌, ap₂, arith, sym, ap, subst, inl, inr}
-use Rattle.finite.specs.Tests.{any}
 use Rattle.finite.proofs.Laws.Bools.{either, clash, and_in, and_l, and_r, or_l, or_r, or_out, both}
 use Rattle.finite.proofs.Laws.Below.{any_in, any_out, any_cong}
 use Rattle.limits.specs.Limits.{slots}

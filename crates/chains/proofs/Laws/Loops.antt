@@ -1,5 +1,5 @@
 -- What the code's loops go by: the walk from the start, the way back, and the bytes.
-use Rattle.std.specs.Prelude.{◌≡◌, List, true, ◌&&◌, cond, ℕ, suc, ◌+◌, ◌-◌, ◌<◌}
+use Rattle.std.specs.Prelude.{◌≡◌, List, true, ◌&&◌, ℕ, suc, ◌+◌, ◌-◌, ◌<◌}
 use Rattle.std.proofs.Common.{sym, ◌∙◌, ap, arith, ext_get_or}
 use Rattle.std.proofs.Math.Bool.{and-true, and-false}
 use Rattle.finite.specs.Tests.{same, below, any, first}

@@ -11,7 +11,7 @@ use Rattle.semantics.specs.Monotone.{◌⊆◌}
 use Rattle.semantics.specs.Agree.{◌≐◌}
 use Rattle.chains.specs.Chain.{Chain, SomeChain, Reached, ReachedSet}
 use Rattle.chains.proofs.Laws.Chains.{before, chain_slot, chain_first, chain_here, chain_before, chain_rest, chain_join, chain_to}
-use Rattle.chains.specs.Layers.{within, Rest}
+use Rattle.chains.specs.Layers.{Rest}
 use Rattle.chains.proofs.Laws.Layers.{last, toward_out, toward-step, within_start, within-next, within_here, rest-last}
 use Rattle.chains.specs.Reached.{reverse, onward}
 

@@ -1,6 +1,6 @@
 -- The chain of fewest steps, lowest at the first difference: there is one where there is a chain, there is only one, it is found by going to
 -- the lowest slot that is one step nearer, it has no slot twice and at most 255 steps.
-use Rattle.std.specs.Prelude.{◌≡◌, ◌↔◌, ◌≢◌, false, ◌&&◌, refl, Bool, true, ℕ, zero, suc, ◌+◌, ◌-◌, ◌≤◌, ◌<◌}
+use Rattle.std.specs.Prelude.{◌≡◌, ◌↔◌, ◌≢◌, ◌&&◌, refl, Bool, true, ℕ, zero, suc, ◌+◌, ◌-◌, ◌≤◌, ◌<◌}
 use Rattle.std.proofs.Common.{sym, ◌∙◌, ap, ap₂, arith}
 use Rattle.finite.specs.Tests.{same, any, first}
 use Rattle.finite.proofs.Laws.Bools.{either, clash, no_true, and_in, and_l, and_r}

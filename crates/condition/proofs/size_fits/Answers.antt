@@ -2,7 +2,7 @@
 use Rattle.std.proofs.Common.{arith}
 use Rattle.std.proofs.lemmas.Grind.{common_steps}
 use Rattle.condition.specs.Refusal.{size_fits}
-use Rattle.finite.proofs.Laws.Below.{eq_same, ne_same, below_in, below-not}
+use Rattle.finite.proofs.Laws.Below.{eq_same, below-not}
 use Rattle.limits.specs.Limits.{table_bytes}
 use Rattle.condition.proofs.size_fits.Goals as goal
 

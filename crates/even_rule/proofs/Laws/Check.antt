@@ -1,5 +1,5 @@
 -- The checks by the words: item 9, item 10, and the masks that are handed on.
-use Rattle.std.specs.Prelude.{◌≡◌, refl, List, Bool, ℕ, zero, suc, ◌+◌, ◌*◌, ◌-◌, ◌/◌, ◌≤◌, ◌<◌, length, get_or, set, replicate, true, false, not, ◌||◌}
+use Rattle.std.specs.Prelude.{◌≡◌, refl, List, Bool, ℕ, ◌+◌, ◌*◌, ◌-◌, ◌/◌, ◌≤◌, ◌<◌, length, get_or, set, true, false, not, ◌||◌}
 use Rattle.std.proofs.Common.{sym, ◌∙◌, not-suc-le-zero, arith, get_or-set_same, get_or-set_other, ap, ap₂}
 use Rattle.std.proofs.Math.Bool.{not-not}
 use Rattle.std.proofs.lemmas.List.{length-replicate}

@@ -1,5 +1,5 @@
 -- The digits below x are noted, and those that are left are the others.
-use Rattle.std.proofs.Common.{◌≡◌, ◌∙◌, arith, ltb-false}
+use Rattle.std.proofs.Common.{◌≡◌, ◌∙◌, arith}
 use Rattle.listing_memo.proofs.Laws.Memo.{noted_none, noted_skip, noted_more, noted_done, left_all, left_odd, left_even, left_more, left_none}
 use Rattle.listing_memo.proofs.note.Goals as goal
 use Rattle.listing_memo.proofs.note.Goals.{then-left-eq1, else-left-eq1}

@@ -1,5 +1,5 @@
 -- Partitions by a relation, and the search for the lowest slot of a class.
-use Rattle.std.specs.Prelude.{◌≡◌, refl, Bool, true, List, ℕ, zero, suc, ◌+◌, ◌≤◌, ◌<◌, length, get_or, set, false}
+use Rattle.std.specs.Prelude.{◌≡◌, true, List, ℕ, ◌+◌, ◌≤◌, ◌<◌, length, get_or, set, false}
 use Rattle.std.proofs.Common.{◌∙◌, subst, arith, get_or-set_same, get_or-set_other, sym}
 use Rattle.finite.specs.Tests.{any, first}
 use Rattle.finite.proofs.Laws.Bools.{either, both}

@@ -2,14 +2,12 @@
 use Rattle.std.specs.Prelude.{◌≡◌, Bool, true, false, not, cond, refl, ℕ, zero, suc, ◌+◌}
 use Rattle.std.proofs.Common.{ap₂}
 use Rattle.std.specs.Bool.{beq}
-use Rattle.finite.specs.Tests.{all}
 use Rattle.finite.proofs.Laws.Bools.{clash, or_l, or_r, beq-true, eq_beq}
 use Rattle.finite.proofs.Laws.Below.{all_in, all_out, all_cong}
 use Rattle.limits.specs.Limits.{slots}
 use Rattle.semantics.specs.Form.{Form, top, here, label, name, var, neg, or, and, dia, box, mu, nu, slot, occ, free}
 use Rattle.semantics.specs.Holds.{Set, Env, put, Model}
 use Rattle.semantics.specs.FixedPoint.{none, full}
-use Rattle.semantics.specs.Eval.{eval}
 use Rattle.semantics.specs.Agree.{◌≐◌}
 use Rattle.semantics.proofs.Laws.Agree.{Agrees, under, twice, agree, agrees_free}
 use Rattle.rounds.specs.Count.{equal_sets, loop, enough, rounds_by, rounds}

@@ -1,8 +1,7 @@
 -- The set of a condition, computed, and that it is the set of the slots where the condition holds.
-use Rattle.std.specs.Prelude.{◌≡◌, refl, ◌↔◌, List, Bool, true, false, not, ◌&&◌, ◌||◌, ℕ, ◌<◌, length}
+use Rattle.std.specs.Prelude.{◌≡◌, refl, ◌↔◌, List, Bool, true, false, not, ◌&&◌, ℕ, ◌<◌, length}
 use Rattle.std.proofs.Common.{sym, ◌∙◌, ap}
 use mathlib.Core.Logic.Iff
-use Rattle.finite.specs.Tests.{same, any, all}
 use Rattle.finite.proofs.Laws.Bools.{no_true, and_in, and_l, and_r, not_out}
 use Rattle.finite.proofs.Laws.Below.{all_out}
 use Rattle.finite.proofs.Laws.Reflect.{same_iff, not_iff, and_iff, or_iff, some_iff, every_iff}

@@ -1,6 +1,6 @@
 -- Refinement: slots of two sites that agree on presence, labels and names; of these, those whose neighbours cannot be told apart, round after round. On
 -- one site the relation is a bisimulation after as many rounds as there are slots.
-use Rattle.std.specs.Prelude.{◌≡◌, ◌⊎◌, ◌↔◌, Bool, true, false, ◌&&◌, ◌||◌, refl, not, ℕ, zero, suc, ◌≤◌, ◌<◌}
+use Rattle.std.specs.Prelude.{◌≡◌, ◌⊎◌, ◌↔◌, true, false, ◌&&◌, refl, not, ℕ, zero, suc, ◌≤◌, ◌<◌}
 use Rattle.std.proofs.Common.{sym, ◌∙◌, ap, subst, inl, inr, arith}
 use Rattle.std.proofs.Math.Bool.{beq}
 use mathlib.Core.Logic.Iff

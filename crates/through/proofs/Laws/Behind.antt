@@ -1,5 +1,5 @@
 -- A table with a condition and a closing "and" behind it is a table, and says both.
-use Rattle.std.specs.Prelude.{◌≡◌, List, [], true, ℕ, suc, ◌+◌, ◌-◌, ◌<◌, length, refl}
+use Rattle.std.specs.Prelude.{◌≡◌, List, [], true, ℕ, suc, ◌+◌, ◌<◌, length, refl}
 use Rattle.std.proofs.Common.{◌∙◌, append-nil, arith}
 use Rattle.std.proofs.Math.Option.{none, some}
 use Rattle.finite.proofs.Laws.Bools.{and_in}
