@@ -1,5 +1,5 @@
 -- The rows of blocks as texts.
-use Rattle.std.specs.Prelude.{List, [], ◌∷◌, ◌++◌, map, cond, ℕ, ◌+◌, ◌*◌, ◌-◌, ◌/◌, ◌%◌, get_or, replicate}
+use Rattle.std.specs.Prelude.{List, ◌∷◌, ◌++◌, map, cond, ℕ, ◌+◌, ◌*◌, ◌-◌, ◌/◌, ◌%◌, get_or, replicate}
 use Rattle.finite.specs.Tests.{same, below}
 use Rattle.semantics.specs.Table.{Node}
 use Rattle.semantics.specs.Block.{Block, old, size, emit}

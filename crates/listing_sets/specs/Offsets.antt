@@ -1,6 +1,6 @@
 -- Sets of slots at their offsets in a buffer: set j is the 32 bytes from offset 32 * j on. The work buffer has a set for each node; the first sets of
 -- the memo are those of the variables.
-use Rattle.std.specs.Prelude.{◌≡◌, ◌≢◌, List, ◌&&◌, ℕ, ◌+◌, ◌*◌}
+use Rattle.std.specs.Prelude.{◌≢◌, List, ◌&&◌, ℕ, ◌+◌, ◌*◌}
 use Rattle.finite.specs.Tests.{below}
 use Rattle.bitset.specs.Set.{set_bytes, set_slots, has}
 use Rattle.limits.specs.Limits.{variables}

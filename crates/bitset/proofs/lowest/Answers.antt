@@ -1,5 +1,5 @@
 -- No slot is in the words below j.
-use Rattle.std.proofs.Common.{◌≡◌, sym, false, ◌+◌, ◌*◌, arith}
+use Rattle.std.proofs.Common.{◌≡◌, sym, ◌+◌, ◌*◌, arith}
 use Rattle.bitset.proofs.Laws.Words.{none-word, lowest_word}
 use Rattle.bitset.specs.Set.{set_slots}
 use Rattle.finite.proofs.Laws.First.{none_start, first-none}

@@ -1,5 +1,5 @@
 -- The slots below s have the same numbers.
-use Rattle.std.proofs.Common.{sym, arith, true}
+use Rattle.std.proofs.Common.{sym, arith}
 use Rattle.bitset.specs.Set.{set_slots}
 use Rattle.finite.proofs.Laws.Below.{eq_same, ne_same}
 use Rattle.finite.proofs.Laws.Loops.{all_none, all_more, all_done, all-not}

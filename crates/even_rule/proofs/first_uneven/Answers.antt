@@ -1,5 +1,5 @@
 -- No node before i is uneven.
-use Rattle.std.proofs.Common.{arith, false, sym, ◌∙◌}
+use Rattle.std.proofs.Common.{arith, sym, ◌∙◌}
 use Rattle.condition.proofs.Laws.Bytes.{length_table}
 use Rattle.condition.specs.Refusal.{first_uneven}
 use Rattle.finite.proofs.Laws.First.{none_start, none_more, first_stop, first_is}

@@ -2,7 +2,6 @@
 use Rattle.std.proofs.Common.{◌+◌, ◌-◌, ◌*◌}
 use Rattle.bitset.specs.Set.{set_slots}
 use Rattle.condition.specs.Bytes.{node_at}
-use Rattle.listing.proofs.Laws.Memo.{moved}
 use Rattle.listing.proofs.Laws.Rounds.{Rounds}
 use Rattle.listing.proofs.+binary_compute_eval_fixpoint_fixpoint_from_unary.Given as goal
 

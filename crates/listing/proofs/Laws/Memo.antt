@@ -2,7 +2,6 @@
 use Rattle.std.specs.Prelude.{◌≡◌, refl, List, true, false, ℕ, ◌+◌, ◌-◌, ◌*◌, ◌≤◌, ◌<◌, min, length, get_or, set}
 use Rattle.std.proofs.Common.{sym, ◌∙◌, ap, subst, arith, get_or-set_same, get_or-set_other}
 use Rattle.std.proofs.Math.Bool.{or-false}
-use Rattle.finite.specs.Tests.{same}
 use Rattle.finite.proofs.Laws.Bools.{either, clash, no_true, and_l, and_r, not_out}
 use Rattle.finite.proofs.Laws.Below.{equal?, ne_same}
 use Rattle.limits.specs.Limits.{variables, table_nodes, table_bytes}

@@ -3,7 +3,7 @@ use Rattle.std.specs.Prelude.{◌≡◌, refl, List, [], ◌∷◌, ◌++◌, �
 use Rattle.std.proofs.Common.{sym, ◌∙◌, ap, ap₂, subst, append-nil, arith, length-drop, take-append-drop, drop_of_length-le, length-take-le, take_at, get_or-append-add, get_or-drop}
 use Rattle.std.proofs.Math.ListN.{get_or-append}
 use Rattle.std.proofs.Math.Seq.{take-length}
-use Rattle.finite.specs.Tests.{all, below}
+use Rattle.finite.specs.Tests.{below}
 use Rattle.finite.specs.Bytes.{Bytes}
 use Rattle.finite.proofs.Laws.Zeros.{zeros_at}
 use Rattle.finite.proofs.Laws.Bools.{either, look}

@@ -2,7 +2,7 @@
 use Rattle.std.specs.Prelude.{◌≡◌, Bool, true, false, ℕ, zero, suc, ◌+◌, ◌*◌, ◌-◌, ◌/◌, ◌≤◌, ◌<◌, get_or, take, drop, refl, List, [], ◌∷◌, ◌++◌, length, replicate}
 use Rattle.std.proofs.Common.{sym, ◌∙◌, ap, subst, arith, not-suc-le-zero, length-append, drop_of_length-le, length-take-le, take_at, get_or-take, get_or-append-add, ext_get_or, ap₂}
 use Rattle.std.proofs.Math.ListN.{get_or-append}
-use Rattle.finite.specs.Tests.{below, all}
+use Rattle.finite.specs.Tests.{below}
 use Rattle.finite.proofs.Laws.Bools.{either, look, clash, and_l, and_r, or_none}
 use Rattle.finite.proofs.Laws.Below.{below_in, below_out, below-not, not-below}
 use Rattle.verdict.specs.declared.Verdict.{Verdict}

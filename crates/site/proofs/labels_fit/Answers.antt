@@ -1,5 +1,5 @@
 -- The sets of the labels below p lie inside the slots on site.
-use Rattle.std.proofs.Common.{sym, ◌∙◌, true, arith}
+use Rattle.std.proofs.Common.{sym, ◌∙◌, arith}
 use Rattle.finite.proofs.Laws.Loops.{all_none, all_more, all_done, all-not}
 use Rattle.limits.specs.Limits.{labels}
 use Rattle.site.proofs.Laws.Fits.{labels-inside}

@@ -1,5 +1,5 @@
 -- The links below m fit.
-use Rattle.std.proofs.Common.{sym, ◌∙◌, true, arith}
+use Rattle.std.proofs.Common.{sym, ◌∙◌, arith}
 use Rattle.finite.proofs.Laws.Loops.{all_none, all_more, all_done, all-not}
 use Rattle.limits.specs.Limits.{links}
 use Rattle.site.proofs.Laws.Fits.{links-all}

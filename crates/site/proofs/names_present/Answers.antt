@@ -1,5 +1,5 @@
 -- The names below n are at present slots.
-use Rattle.std.proofs.Common.{sym, ◌∙◌, ap, true, arith}
+use Rattle.std.proofs.Common.{sym, ◌∙◌, ap, arith}
 use Rattle.finite.proofs.Laws.Loops.{all_none, all_more, all-not}
 use Rattle.limits.specs.Limits.{names}
 use Rattle.site.specs.Site.{site_of}

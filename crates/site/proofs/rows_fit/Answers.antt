@@ -1,5 +1,5 @@
 -- The rows of the slots below s fit.
-use Rattle.std.proofs.Common.{sym, ◌∙◌, true, arith}
+use Rattle.std.proofs.Common.{sym, ◌∙◌, arith}
 use Rattle.bitset.specs.Set.{set_slots}
 use Rattle.finite.proofs.Laws.Loops.{all_none, all_more, all-not}
 use borrow.Author.Tests.{not-true, not-false}

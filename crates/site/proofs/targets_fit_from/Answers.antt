@@ -1,5 +1,5 @@
 -- Where the 32 are none, they fit. Else the targets below j fit.
-use Rattle.std.proofs.Common.{sym, ◌∙◌, ap, true, ◌+◌, ◌*◌, arith}
+use Rattle.std.proofs.Common.{sym, ◌∙◌, ap, ◌+◌, ◌*◌, arith}
 use Rattle.bitset.specs.Set.{set_bytes}
 use Rattle.finite.proofs.Laws.Loops.{all_none, all_more, all-not}
 use Rattle.site.specs.Inside.{target_inside}

@@ -1,5 +1,5 @@
 -- No slot below t is in the class of s with its row.
-use Rattle.std.proofs.Common.{◌≡◌, sym, ◌∙◌, arith, false}
+use Rattle.std.proofs.Common.{◌≡◌, sym, ◌∙◌, arith}
 use Rattle.bitset.specs.Set.{set_slots}
 use Rattle.finite.proofs.Laws.First.{first_is, none_more}
 use Rattle.partition.proofs.Laws.Partitions.{number_le, number_low}
