@@ -1,1 +1,1 @@
--- What is proved of loops that fill buffers.
+-- No definitions: the contracts cite std's alone. What is proved of loops that fill buffers stands in proofs/Laws.

@@ -2,5 +2,3 @@
 pub mod Rows
 -- what they say
 pub mod Said
-
--- and that it is so

@@ -1,1 +1,1 @@
--- What is proved of diamonds and boxes. The contracts cite the definitions of the crates below alone.
+-- No definitions: the contracts cite those of the crates below alone. What is proved of diamonds and boxes stands in proofs/Laws.

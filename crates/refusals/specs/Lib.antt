@@ -1,2 +1,2 @@
--- Items 1, 15, 16 and 17, and what is proved of all items.
+-- Items 1, 15, 16 and 17. What is proved of all items stands in proofs/Laws.
 pub mod Refusal

@@ -1,6 +1,6 @@
 -- What rounds of refinement do not tell apart.
 use Rattle.std.specs.Prelude.{Bool, ◌&&◌, ◌||◌, not, ℕ, zero, suc}
-use Rattle.std.proofs.Math.Bool.{beq}
+use Rattle.std.specs.Bool.{beq}
 use Rattle.finite.specs.Tests.{same, any, all}
 use Rattle.limits.specs.Limits.{slots, labels, names, every_way}
 use Rattle.semantics.specs.Form.{Way}

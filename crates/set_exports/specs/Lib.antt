@@ -1,2 +1,2 @@
--- What the exports do with bytes of any length, and the laws of it.
+-- What the exports do with bytes of any length. Its laws stand in proofs/Laws.
 pub mod Length

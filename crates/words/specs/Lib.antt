@@ -1,3 +1,3 @@
--- Numbers as bytes, low byte first, and their laws.
+-- Numbers as bytes, low byte first. Their laws stand in proofs/Laws.
 pub mod Word
 pub mod Eight

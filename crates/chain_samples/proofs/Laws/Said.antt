@@ -1,6 +1,6 @@
 -- Each row is as said: a test for each is computed.
 use Rattle.std.specs.Prelude.{◌≡◌, refl, List, [], ◌∷◌, Bool, true, not, ◌&&◌, ◌||◌, ℕ, suc, ◌-◌, length, get_or}
-use Rattle.std.proofs.Math.Bool.{beq}
+use Rattle.std.specs.Bool.{beq}
 use Rattle.finite.specs.Tests.{same, below, any, all, first}
 use Rattle.finite.proofs.Laws.Bools.{either, no_true, and_l, and_r, or_out, not_out, beq-true}
 use Rattle.finite.proofs.Laws.Below.{same_eq, any_none, all_out, below_out}

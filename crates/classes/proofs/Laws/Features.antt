@@ -1,7 +1,7 @@
 -- Slots with the same features agree, so their partition is that before the first round.
 use Rattle.std.specs.Prelude.{◌≡◌, Bool, ◌&&◌, List, ℕ, ◌+◌, ◌-◌, ◌*◌, ◌/◌, ◌%◌, ◌≤◌, ◌<◌, get_or, replicate, true}
 use Rattle.std.proofs.Common.{◌∙◌, sym, ap, subst, arith}
-use Rattle.std.proofs.Math.Bool.{beq}
+use Rattle.std.specs.Bool.{beq}
 use Rattle.finite.specs.Tests.{same, below, any, all}
 use Rattle.finite.proofs.Laws.Bools.{either, look, and_in, and_l, and_r, both, beq-true, eq_beq}
 use Rattle.finite.proofs.Laws.Below.{same_eq, same_refl, eq_same, below_in, below_out, below-not, not-below, any_in, any_out, all_in, all_out, none_any}
