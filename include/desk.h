@@ -1,4 +1,4 @@
-/* The desk for C: seven functions over bytes, in libdesk.a (tools/archive), for x86-64 Linux.
+/* The desk for C: seven functions over bytes, in libdesk.a (tools/archive), for x86-64-v2 Linux (popcnt, SSE4).
  *
  * docs/SPEC.md says what the bytes mean and has a glossary. This file names all the numbers, so that no caller has to write one: the
  * offset of each part of a site, the kinds of node, the ways, the operations, the editions, the lengths of buffers and the reasons for a refusal.
@@ -12,8 +12,8 @@
  * Each pointer must be valid for its length and must not be NULL, even for a length of 0. No result or work buffer may overlap another
  * buffer or an input. Inputs are only read. Nothing is kept between calls, so several threads may call at the same time.
  *
- * Stack. No contract covers it; these figures are measured and rounded up. A thread with DESK_STACK_BYTES of stack can make every call.
- * By function:
+ * Stack. No contract covers it; these figures were measured, of the library as the older kit rattle-kit-5b-plain built it, and rounded up. A thread
+ * with DESK_STACK_BYTES of stack can make every call, and the tests are run in one. By function:
  *
  *   desk_apply     under 1 KB for any input
  *   desk_classes   142 KB for any site
@@ -41,9 +41,9 @@
  *
  * Time. The rounds of nested loops multiply, since each loop makes up to DESK_SLOT_COUNT + 1 of them. The limit bounds them, and so the time: a
  * round evaluates each node of its body at most once, and what does not depend on a variable that has changed is not evaluated again, though it
- * counts. On a line of 256 slots one loop took 0.1 ms, two nested loops, 66,000 rounds, took 21 ms, and sixteen were refused under the highest
- * limit after 0.34 s. A round can take far longer: with 1,990 diamonds in the body, on a site with every arc, 0.8 ms, so that the highest limit
- * allows a quarter of an hour. If conditions come from strangers, give a limit that suits your time. desk_chain takes none, and a goal of
+ * counts. In the library of the older kit, on a line of 256 slots, one loop took 0.1 ms, two nested loops, 66,000 rounds, took 21 ms, and sixteen were
+ * refused under the highest limit after 0.34 s. A round can take far longer: with 1,990 diamonds in the body, on a site with every arc, 0.8 ms, so
+ * that the highest limit allows a quarter of an hour. If conditions come from strangers, give a limit that suits your time. desk_chain takes none, and a goal of
  * sixteen nested loops can keep it for ever: list a stranger's goal with desk_list first, under a limit. desk_chain lists it again in about the
  * same time; the search for the chain or the set comes on top, and does not depend on the goal's length.
  */

@@ -17,7 +17,7 @@ from layout import *
 SITE, CONDITION, SHEET = 1, 2, 3
 WORDS = {SITE: "site", CONDITION: "condition", SHEET: "sheet"}
 SEED = 2048
-PRINTED_MOST = 1 << 20  # `rt try` ends a program that prints more
+PRINTED_MOST = 1 << 20  # `rt try` gives no answer for a program that prints more
 
 
 # ---- the items, as docs/SPEC.md, "Reasons" words them

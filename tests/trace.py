@@ -26,7 +26,7 @@ def is_said(crate, name, word):
 
 
 def in_source(crate, word):
-    return any(os.path.exists(p) and re.search(r"\bfn " + re.escape(word) + r"\(", read(p))
+    return any(os.path.exists(p) and re.search(r"\bfn " + re.escape(word) + r"[(<]", read(p))
                for p in (f"crates/{crate}/src/lib.rt", f"crates/{crate}/src/main.rt"))
 
 
@@ -53,7 +53,7 @@ def missing(text):
         for word in re.findall(r"\w+", words):
             if not (os.path.exists(path) and re.search(r"(?m)^static .*\b" + word + r"\(", read(path))) and word != "name":
                 yield f"{path}: {word}"
-    for path in re.findall(r"(?<![\w/])((?:crates|docs|tests|include|examples|bench)/[\w./]*\w)", text):
+    for path in re.findall(r"(?<![\w/])((?:crates|docs|tests|tools|include|examples|bench)/[\w./]*\w)", text):
         if not os.path.exists(path) and not path.startswith(("crates/crate", "tests/file")):
             yield path
 

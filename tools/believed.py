@@ -2,8 +2,8 @@
 """The files that a reader of the entry points' contracts has to believe: their list in docs/ARCHITECTURE.md, with the lines of each.
 
 They are the contracts of the exports, the statements of the demands and of the print (ROOTS), and every definition file that one of these
-cites, directly or through another: all that `use Rattle.CRATE.specs.FILE` reaches. The list there is a table of `| path | lines |`, with
-the sum in its last row.
+cites, directly or through another: all that `use Rattle.CRATE.specs.FILE` reaches, and `use Rattle.CRATE.proofs.FILE`, should one cite what stands among
+the laws. The list there is a table of `| path | lines |`, with the sum in its last row.
 
 Run at the repository's top. tools/believed.py prints the rows as they ought to be, and tools/believed.py --write puts them in place of
 those that stand there. tools/believed.py --check says where they differ (a file that is not listed, one too many, another number of lines),
@@ -35,10 +35,10 @@ def read(path):
 
 def cited(path):
     """The definition files of the repository that a file cites. `declared` is no file: it is what src/ declares, as an enum."""
-    for crate, rest in re.findall(r"(?m)^(?:ghost )?use Rattle\.(\w+)\.specs\.([\w.]+)", read(path)):
+    for crate, folder, rest in re.findall(r"(?m)^(?:pub )?(?:ghost )?use Rattle\.(\w+)\.(specs|proofs)\.([\w.]+)", read(path)):
         parts = rest.rstrip(".").split(".")
         if parts[0] != "declared" and os.path.isdir(f"crates/{crate}"):
-            yield f"crates/{crate}/specs/{'/'.join(parts)}.antt"
+            yield f"crates/{crate}/{folder}/{'/'.join(parts)}.antt"
 
 
 def believed():
