@@ -52,7 +52,7 @@ leads_bytes way table = bytes_of (leads_table way (table_of table))
 
 -- the set s of slots holds the start, is closed under the way, and holds no slot of the goal
 pub record Apart (site table : List ℕ) (way start : ℕ) (s : List ℕ) : Type 0 where
-  pub start_inside : has s start ≡ true
+  pub start_in : has s start ≡ true
   pub is_closed : (t u : ℕ) → t < slots → u < slots → step (site_of site) (way_of way) t u ≡ true → has s t ≡ true → has s u ≡ true
   pub no_goal : (ρ : Env) (t : ℕ) → t < slots → has s t ≡ true → ¬ Goal site table ρ t
 

@@ -17,7 +17,7 @@ unfoldable pub loop : ℕ → (Set → Set) → (Set → ℕ) → Set → ℕ
 loop zero F g S = 0
 loop (suc k) F g S = let rest = loop k F g (F S) in 1 + g S + cond (equal_sets (F S) S) 0 rest
 
--- evaluations of a body that are enough (Laws/Exact) and needed (Laws/Examples): a loop is at rest after as many as there are slots, and one more shows it
+-- evaluations of a body that are enough (proofs/Laws/Exact) and needed (proofs/Laws/Examples): a loop is at rest after as many as there are slots, and one more shows it
 abbrev pub enough : ℕ
 enough = suc slots
 

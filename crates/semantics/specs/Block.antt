@@ -1,5 +1,5 @@
 -- Rewriting a table through an edit: each node becomes a block of nodes in postfix order (docs/SPEC.md, "Rewriting"). The table that comes out
--- is the weakest precondition: it says before the edit what the old one says after it (Laws/Rewrite).
+-- is the weakest precondition: it says before the edit what the old one says after it (proofs/Laws/Rewrite).
 use Rattle.std.specs.Prelude.{List, [], ◌∷◌, ◌++◌, cond, ℕ, suc, ◌+◌, length, get_or}
 use Rattle.finite.specs.Tests.{same}
 use Rattle.limits.specs.Limits.{links, every_way}

@@ -15,7 +15,7 @@ unfoldable pub unused_zero : ℕ → ℕ → ℕ → Bool
 unused_zero o y z = (below 1 (operands o) || same y 0) && (below 2 (operands o) || same z 0)
 
 -- item 12 is not met by an edit's bytes: a known operation, operands in range and not forbidden, and unused ones 0
--- It is the same in both editions: what is legal in edition 1 is legal in edition 2 (Laws/Fits, legal_alike)
+-- It is the same in both editions: what is legal in edition 1 is legal in edition 2 (proofs/Laws/Fits, legal_alike)
 unfoldable pub edit_fits : ℕ → ℕ → ℕ → ℕ → Bool
 edit_fits o x y z = below o 9 && (legal (read_edit 1 o x y z) && unused_zero o y z)
 

@@ -146,7 +146,7 @@ module _ {site table : List ℕ} {way start : ℕ} (c : ChainCall site table way
         let h = inputs.1.start_fits in
         let k = (reached_closure (site_of site) (way_of way) start h (has c.set')).0 g.set.reached in
         record {
-          start_inside = k.start;
+          start_in = k.start;
           is_closed = k.closed;
           no_goal = λ ρ. (no_chain (site_of site) (way_of way) start h (Goal site table ρ) (has c.set') g.set.reached).0 (g.none ρ);
         }

@@ -61,7 +61,7 @@ none_free : (φ : Form) → FewVariables φ → closed φ ≡ true → (v : ℕ)
 unfolding FewVariables closed free
 none_free φ k c v = no_true (λ o. not_out _ (all_out variables _ c v (either (or_out (occ true v φ) _ o) (k true v) (k false v))) o)
 
--- at the start no node is few-variables
+-- at the start no node is known
 pub none-known : {site S masks sets made work : List ℕ} {limit cap n : ℕ} → length site ≡ site_bytes → Sound S → FreeRows S masks → Started masks sets n
     → n ≡ length S / 6 → length made ≡ table_nodes → length work ≡ work_bytes → Budgeted limit cap → Evaluable site S limit cap sets made work
 unfolding set_at
