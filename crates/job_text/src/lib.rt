@@ -114,7 +114,7 @@ pub fn write(answer: Job, after: &[u8], today: &[u8], text: &mut [u8]) -> usize
     }
 }
 
-// Writes the print of a job's answer to a writer.
+// Writes the print of a job's answer to a writer. After an error the writer may have got a part of it, of which std's `write_all` promises nothing.
 pub fn print<W: Write>(
     output: &mut W,
     answer: Job,

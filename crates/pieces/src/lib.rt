@@ -51,7 +51,7 @@ fn fill<R: Read>(input: &mut R, piece: &mut [u8], count: usize) -> io::Result<()
     Ok(())
 }
 
-// Reads the next piece into a buffer of zeros.
+// Reads the next piece into a buffer of zeros. After an error the buffer may hold a part of the piece.
 pub fn read<R: Read>(input: &mut R, piece: &mut [u8]) -> io::Result<Piece>
     requires { length piece.old ≡ room }
     ensures { IfOk result (λ p. p.len < room) }
