@@ -3,3 +3,4 @@ pub mod Bytes
 pub mod Eight
 pub mod Bits
 pub mod Lowest
+pub mod Library

@@ -1,5 +1,5 @@
-use Rattle.words.proofs.Laws.Bytes.{word_at}
+use Rattle.words.proofs.Laws.Library.{from_le}
 use Rattle.words.proofs.get.Goals as goal
 
 pub returns : goal.returns
-returns c = word_at 4 4 c.args.at c.args.s.now c.get_four.ensures.0 c.get_four-2.ensures.0
+returns c = from_le c.args.s.now _ c.args.at _ (λ k. (c.type_inv.s k).fits) c.requires c.in-Some.ensures.cases.same c.from_le_bytes.type_inv c.from_le_bytes.ensures

@@ -1,5 +1,6 @@
-use Rattle.words.proofs.Laws.Bytes.{put-at}
+use Rattle.std.proofs.Common.{◌∙◌, arith}
+use Rattle.words.proofs.Laws.Library.{put_copied}
 use Rattle.words.proofs.put.Goals as goal
 
 pub returns : goal.returns
-returns c = put-at 4 4 c.args.at c.args.w c.args.d.now c.put_four-2.ensures c.put_four.ensures
+returns c = put_copied c.args.d.now _ c.args.at _ c.args.w c.requires (omega arith) (c.copy_from_slice.ensures.after ∙ c.to_le_bytes.ensures)
