@@ -1,2 +1,6 @@
 -- Sets of slots as bytes.
 pub mod Set
+-- and as words
+pub mod Words
+-- what a copy rests on
+pub mod Stored

@@ -1,5 +1,5 @@
 -- Loops that go up over the bytes or the words of two sets and test their slots at once.
-use Rattle.std.specs.Prelude.{◌≡◌, Bool, not, ◌&&◌, ◌||◌, List, ℕ, zero, suc, ◌+◌, ◌-◌, ◌*◌, ◌^◌, ◌≤◌, ◌<◌, eqb, get_or, drop, refl}
+use Rattle.std.specs.Prelude.{◌≡◌, Bool, not, ◌&&◌, ◌||◌, List, ℕ, zero, suc, ◌+◌, ◌-◌, ◌*◌, ◌^◌, ◌<◌, eqb, drop, refl}
 use Rattle.std.proofs.Common.{sym, ◌∙◌, ap, arith, ne_eqb}
 use Rattle.std.specs.Int.Bits.{bit_and, bit_or, and_lt, or_zero_l, or_add_and}
 use Rattle.std.proofs.lemmas.Nat.{and_le_l, and_le_r}
@@ -11,10 +11,9 @@ use Rattle.finite.proofs.Laws.Bools.{either, no_true, not_out, imp_and}
 use Rattle.finite.proofs.Laws.Weights.{bit-zero, no_bits}
 use Rattle.finite.proofs.Laws.Dual.{any-all}
 use Rattle.finite.proofs.Laws.Loops.{all_add}
-use Rattle.bitset.specs.Set.{set_bytes, set_slots, has}
+use Rattle.bitset.specs.Set.{has}
 use Rattle.words.specs.Word.{word}
 use Rattle.words.proofs.Laws.Bytes.{drop-bytes, word_lt}
-use Rattle.bitset.proofs.Laws.Bytes.{has_byte}
 use Rattle.bitset.proofs.Laws.Words.{has_word}
 
 -- a number of n binary digits is 0 where it has none
@@ -35,44 +34,42 @@ or_zero (suc n) w = rw (ne_eqb (suc n) 0 (λ e. omega arith)) (ne_eqb (bit_or (s
 
 -- the slots of the first i bytes pass where v is 0
 pub record Tested (p : ℕ → Bool) (i v : ℕ) : Type 0 where
-  pub upto : i ≤ set_bytes
   pub passed : all (i * 8) p ≡ eqb v 0
 
 module _ (p : ℕ → Bool) where
   pub test_none : Tested p 0 0
   unfolding all
-  test_none = record { upto = omega arith; passed = refl }
+  test_none = record { passed = refl }
 
   -- those of the next m bytes pass where w is 0
-  test_more : (m i j v w : ℕ) → j ≡ i + m → j ≤ set_bytes → w < 2 ^ (m * 8) → ((k : ℕ) → k < m * 8 → p (i * 8 + k) ≡ not (bit w k)) → Tested p i v → Tested p j (bit_or v w)
-  test_more m i j v w e h hw law t = record {
-    upto = h;
+  test_more : (m i j v w : ℕ) → j ≡ i + m → w < 2 ^ (m * 8) → ((k : ℕ) → k < m * 8 → p (i * 8 + k) ≡ not (bit w k)) → Tested p i v → Tested p j (bit_or v w)
+  test_more m i j v w e hw law t = record {
     passed = rw (let q : j * 8 ≡ i * 8 + m * 8 = omega arith in q, all_add (i * 8) (m * 8) p, t.passed, here, or_zero v w);
   }
     where
       here : all (m * 8) (λ k. p (i * 8 + k)) ≡ eqb w 0
       here = all_cong (m * 8) (λ k. p (i * 8 + k)) (λ k. not (bit w k)) law ∙ sym (zero_bits (m * 8) w hw)
 
-  pub test_done : (i v : ℕ) → Tested p i v → set_bytes ≤ i → all set_slots p ≡ eqb v 0
-  test_done i v t h = rw (let e : set_slots ≡ i * 8 = omega arith in e) t.passed
+  pub test_done : (n i v : ℕ) → Tested p i v → n ≡ i * 8 → all n p ≡ eqb v 0
+  test_done n i v t e = rw e t.passed
+
+small : (S : List ℕ) (w i : ℕ) → Bytes S → w ≡ word 8 (drop i S) → w < 2 ^ 64
+small S w i bs hw = rw hw (word_lt 8 (drop i S) (drop-bytes i S bs))
 
 -- is every slot of A in B? A bit of a & !b says no
-pub subset_more : (A B : List ℕ) (i j v : ℕ) {a b : ℕ} → Bytes A → Bytes B → a ≡ word 8 (drop i A) → b ≡ word 8 (drop i B) → j ≡ i + 8 → j ≤ set_bytes
+pub subset_more : (A B : List ℕ) (i j v : ℕ) {a b : ℕ} → Bytes A → Bytes B → a ≡ word 8 (drop i A) → b ≡ word 8 (drop i B) → j ≡ i + 8
     → Tested (λ s. not (has A s) || has B s) i v → Tested (λ s. not (has A s) || has B s) j (bit_or v (bit_and a (2 ^ 64 - 1 - b)))
-subset_more A B i j v {a} {b} ba bb ha hb e h =
-    test_more (λ s. not (has A s) || has B s) 8 i j v (bit_and a (2 ^ 64 - 1 - b)) e h (and_lt 64 a (2 ^ 64 - 1 - b) (small A a ba ha) (omega arith)) (λ k hk.
-    rw (has_word A i k ba hk, has_word B i k bb hk, ← ha, ← hb, bit-bit_and a (2 ^ 64 - 1 - b) k, bit_not 64 b k (small B b bb hb) hk)
+subset_more A B i j v {a} {b} ba bb ha hb e =
+    test_more (λ s. not (has A s) || has B s) 8 i j v (bit_and a (2 ^ 64 - 1 - b)) e (and_lt 64 a (2 ^ 64 - 1 - b) (small A a i ba ha) (omega arith)) (λ k hk.
+    rw (has_word A i k ba hk, has_word B i k bb hk, ← ha, ← hb, bit-bit_and a (2 ^ 64 - 1 - b) k, bit_not 64 b k (small B b i bb hb) hk)
     (imp_and (bit a k) (bit b k)))
-  where
-    small : (S : List ℕ) (w : ℕ) → Bytes S → w ≡ word 8 (drop i S) → w < 2 ^ 64
-    small S w bs hw = rw hw (word_lt 8 (drop i S) (drop-bytes i S bs))
 
 -- is some slot in both? A bit of a & b says yes
-pub meets_more : (A B : List ℕ) (i v : ℕ) → i < set_bytes → get_or A i 0 < 256 → get_or B i 0 < 256
-    → Tested (λ s. not (has A s && has B s)) i v → Tested (λ s. not (has A s && has B s)) (i + 1) (bit_or v (bit_and (get_or A i 0) (get_or B i 0)))
-meets_more A B i v hi ha hb =
-    test_more (λ s. not (has A s && has B s)) 1 i (i + 1) v (bit_and (get_or A i 0) (get_or B i 0)) refl (omega arith) (and_lt 8 _ _ ha hb) (λ k hk.
-    rw (has_byte A i k hk, has_byte B i k hk, bit-bit_and (get_or A i 0) (get_or B i 0) k))
+pub meets_more : (A B : List ℕ) (i j v : ℕ) {a b : ℕ} → Bytes A → Bytes B → a ≡ word 8 (drop i A) → b ≡ word 8 (drop i B) → j ≡ i + 8
+    → Tested (λ s. not (has A s && has B s)) i v → Tested (λ s. not (has A s && has B s)) j (bit_or v (bit_and a b))
+meets_more A B i j v {a} {b} ba bb ha hb e =
+    test_more (λ s. not (has A s && has B s)) 8 i j v (bit_and a b) e (and_lt 64 a b (small A a i ba ha) (small B b i bb hb)) (λ k hk.
+    rw (has_word A i k ba hk, has_word B i k bb hk, ← ha, ← hb, bit-bit_and a b k) refl)
 
-pub meets_done : (A B : List ℕ) (i v : ℕ) → Tested (λ s. not (has A s && has B s)) i v → set_bytes ≤ i → any set_slots (λ s. has A s && has B s) ≡ not (eqb v 0)
-meets_done A B i v t h = any-all set_slots (λ s. has A s && has B s) ∙ ap not (test_done (λ s. not (has A s && has B s)) i v t h)
+pub meets_done : (A B : List ℕ) (n i v : ℕ) → Tested (λ s. not (has A s && has B s)) i v → n ≡ i * 8 → any n (λ s. has A s && has B s) ≡ not (eqb v 0)
+meets_done A B n i v t e = any-all n (λ s. has A s && has B s) ∙ ap not (test_done (λ s. not (has A s && has B s)) n i v t e)

@@ -18,7 +18,7 @@ use Rattle.words.proofs.Laws.Bytes.{drop-bytes, word_lt, bytes_of-word}
 use Rattle.words.proofs.Laws.Eight.{eight}
 use Rattle.words.proofs.Laws.Bits.{word_bits_lem}
 use Rattle.words.proofs.Laws.Lowest.{lowest, none_lower}
-use Rattle.bitset.specs.Set.{set_bytes, set_slots, has}
+use Rattle.bitset.specs.Set.{set_bytes, has}
 use Rattle.bitset.proofs.Laws.Count.{count_byte}
 use Rattle.bitset.proofs.Laws.Update.{Updated, update_more}
 
@@ -26,7 +26,7 @@ ones-zero : ones 0 ≡ 0
 unfolding ones
 ones-zero = refl
 
-pair_at : (f : ℕ → ℕ → ℕ) (a b : List ℕ) (k : ℕ) → k < length a → k < length b → get_or (pairwise f a b) k 0 ≡ f (get_or a k 0) (get_or b k 0)
+pub pair_at : (f : ℕ → ℕ → ℕ) (a b : List ℕ) (k : ℕ) → k < length a → k < length b → get_or (pairwise f a b) k 0 ≡ f (get_or a k 0) (get_or b k 0)
 unfolding pairwise
 pair_at f [] b k ha hb = absurd (omega arith)
 pair_at f (x ∷ a) [] k ha hb = absurd (omega arith)
@@ -139,7 +139,7 @@ module _ (S : List ℕ) (i n : ℕ) {w : ℕ} (b : Bytes S) (fits : i + 8 ≤ le
   count_word j e = rw (e, so_far, here) (sym (count-bytes 8 i S fits b))
 
   -- the sum of the code fits
-  pub count_fits : i < set_bytes → n + ones w < 2 ^ 32
+  pub count_fits : i * 8 + 64 < 2 ^ 32 → n + ones w < 2 ^ 32
   count_fits h = rw here (omega (arith, count_le (i * 8) (has S), ones-le 64 (word 8 (drop i S)) (word_lt 8 (drop i S) (drop-bytes i S b))))
 
 -- the search for the lowest slot, a word at a time: no slot is in the words before
@@ -171,9 +171,9 @@ module _ (S : List ℕ) (i : ℕ) {w : ℕ} (b : Bytes S) (here : w ≡ word 8 (
     pub lowest_fits : count_trailing_zeros 64 w < 64
     lowest_fits = low.0
 
-    pub lowest_word : i + 8 ≤ set_bytes → (r : ℕ) → r ≡ i * 8 + count_trailing_zeros 64 w → r ≡ first set_slots (has S)
-    lowest_word f r e =
+    pub lowest_word : (n : ℕ) → (i + 8) * 8 ≤ n → (r : ℕ) → r ≡ i * 8 + count_trailing_zeros 64 w → r ≡ first n (has S)
+    lowest_word n f r e =
         let t = count_trailing_zeros 64 w in
-        e ∙ sym (first_is set_slots (has S) (i * 8 + t) (omega (arith, low.0))
+        e ∙ sym (first_is n (has S) (i * 8 + t) (omega (arith, low.0))
         (none_bits t (omega (arith, low.0)) (λ k l. none_lower 64 w k l))
         (has_word S i t b low.0 ∙ ap (λ (v : ℕ). bit v t) (sym here) ∙ low.1))

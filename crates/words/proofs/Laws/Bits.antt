@@ -27,7 +27,7 @@ high_bits zero a x k h = rw (zero-add k) (ap (λ z. bit z k) (let e : a * 2 ^ 0 
 high_bits (suc n) a x k h =
     rw (suc-add n k) (bit-suc (a * 2 ^ suc n + x) (n + k) ∙ ap (λ z. bit z (n + k)) (block_half a n x) ∙ high_bits n a (x / 2) k (omega arith))
 
-byte_bits : (n : ℕ) (S : List ℕ) (k : ℕ) → Bytes S → k < n * 8 → bit (word n S) k ≡ bit (get_or S (k / 8) 0) (k % 8)
+pub byte_bits : (n : ℕ) (S : List ℕ) (k : ℕ) → Bytes S → k < n * 8 → bit (word n S) k ≡ bit (get_or S (k / 8) 0) (k % 8)
 unfolding word
 byte_bits zero S k b h = absurd (omega arith)
 byte_bits (suc n) [] k b h = bit-zero k ∙ sym (bit-zero (k % 8))

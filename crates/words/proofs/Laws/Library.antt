@@ -34,13 +34,13 @@ unfolding bytes
 length_bytes zero w = refl
 length_bytes (suc n) w = ap suc (length_bytes n (w / 256))
 
-word_take : (n : ℕ) (S : List ℕ) → word n (take n S) ≡ word n S
+pub word_take : (n : ℕ) (S : List ℕ) → word n (take n S) ≡ word n S
 unfolding word
 word_take zero S = refl
 word_take (suc n) [] = refl
 word_take (suc n) (x ∷ S) = rw (word_take n S) refl
 
-take_small : (n : ℕ) (S : List ℕ) → n ≤ length S → Bytes S → Bytes (take n S)
+pub take_small : (n : ℕ) (S : List ℕ) → n ≤ length S → Bytes S → Bytes (take n S)
 take_small n S l b i =
     either
     (look (below i n))

@@ -1,0 +1,8 @@
+-- No number of the words below k is in both where nothing is found.
+use Rattle.std.proofs.Common.{not, ◌&&◌, ◌*◌}
+use Rattle.bitset.specs.Set.{has}
+use Rattle.bitset.proofs.Laws.Test.{Tested}
+use Rattle.bitset.proofs.set.BitSet.meets.Given as goal
+
+abbrev pub invariant-loop-k : goal.invariant-loop-k
+invariant-loop-k g l = Tested (λ s. not (has l.self s && has l.other s)) (8 * l.k) l.both
