@@ -1,6 +1,10 @@
 // The limits of the format and the numbers of its kinds of node. Each stands here once; specs/Limits.antt has the same for contracts.
 #![tactic(auto)]
 
+mod below;
+
+pub use below::Below;
+
 // How many labels, names, links and variables there are.
 pub const LABELS: u8 = 16;
 

@@ -3,3 +3,5 @@ pub mod Layout
 pub mod Site
 pub mod Refusal
 pub mod Inside
+-- links and ways
+pub mod Ways

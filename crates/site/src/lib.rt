@@ -1,6 +1,12 @@
 // The site's bytes: accessors by offset, and the tests of a valid site (items 3 to 6).
 #![tactic(auto)]
 
+mod link;
+mod ways;
+
+pub use link::link;
+pub use ways::{Link, Way};
+
 ghost use Rattle.std.specs.Prelude.{◌≡◌, not, ◌+◌, ◌*◌, ◌≤◌, ◌<◌, length, get_or};
 ghost use Rattle.finite.specs.Tests.{all};
 ghost use Rattle.bitset.specs.Set.{set_bytes, set_slots};
