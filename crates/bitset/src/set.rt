@@ -1,4 +1,5 @@
 ghost use Rattle.std.specs.Prelude.{◌≡◌, true, false, not, ◌&&◌, ◌||◌, ℕ, ◌*◌, ◌^◌, ◌<◌, length, replicate, IfSome, IsNone, slice_index};
+ghost use Rattle.finite.specs.Bytes.{Bytes};
 ghost use Rattle.finite.specs.Tests.{any, all, count, first};
 ghost use Rattle.finite.specs.Tests as tests;
 ghost use Rattle.bitset.specs.Set.{has, Holds};
@@ -67,7 +68,8 @@ impl<const W: usize> BitSet<W> {
     pub fn read(part: &[u8]) -> Self
         requires small { 64 * W < 2 ^ 32 }
         requires len { length part.now ≡ 8 * W }
-        ensures { result ≡ part.now }
+        ensures bytes { result ≡ part.now }
+        ensures small { Bytes result }
     {
         let mut words = [0; W];
         for k in 0..W {

@@ -4,3 +4,4 @@ pub mod Target
 pub mod Fits
 pub mod Valid
 pub mod Same
+pub mod Links

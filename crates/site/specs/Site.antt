@@ -1,5 +1,5 @@
 -- What a site's bytes say: the model that they are read as (docs/SPEC.md, "The site").
-use Rattle.std.specs.Prelude.{Bool, not, ◌&&◌, cond, List, ℕ, ◌+◌, ◌*◌, get_or}
+use Rattle.std.specs.Prelude.{Bool, not, ◌&&◌, cond, Option, Some, None, List, ℕ, ◌+◌, ◌*◌, get_or}
 use Rattle.finite.specs.Tests.{same, below}
 use Rattle.bitset.specs.Set.{has}
 use Rattle.limits.specs.Limits.{slots, labels, names, general_links}
@@ -20,3 +20,8 @@ site_of S = record {
   place = λ n. cond (below n names) (get_or S (name_at n) 0) 0;
   link = λ m s t. (below s slots && below t slots) && linked S m s t;
 }
+
+-- the slot of a target, which is nil where there is none
+abbrev pub or_nil : Option ℕ → ℕ
+or_nil None = 0
+or_nil (Some t) = t

@@ -9,8 +9,8 @@ use Rattle.site.specs.declared.ways.Way.TheVariants.{Along, Against, Everywhere}
 
 -- a link's number among all: the general ones come first
 abbrev pub link_number : Link → ℕ
-link_number (General k) = k
-link_number (Functional k) = general_links + k
+link_number (General k) = k.number
+link_number (Functional k) = general_links + k.number
 
 -- the way of the semantics
 abbrev pub meant : Way → form.Way

@@ -1,25 +1,22 @@
 -- The tests by sets say that items 4 to 6 are not met.
-use Rattle.std.specs.Prelude.{◌≡◌, refl, ◌≢◌, Bool, true, false, not, ◌&&◌, ◌||◌, List, ℕ, ◌+◌, ◌*◌, ◌≤◌, ◌<◌, length, get_or, take, drop, replicate}
-use Rattle.std.proofs.Common.{sym, ◌∙◌, ap, zero-add, arith}
-use Rattle.std.proofs.Math.Bool.{not-not}
-use Rattle.std.proofs.lemmas.Bool.{not-true}
-use Rattle.finite.specs.Tests.{same, all, bit}
-use Rattle.finite.proofs.Laws.Bools.{either, look, clash, or_out, or_l, or_r, imp_and}
-use Rattle.finite.proofs.Laws.Below.{equal?, same_refl, eq_same, ne_same, all_cong, all_in, all_out}
+use Rattle.std.specs.Prelude.{◌≡◌, refl, ◌≢◌, Bool, true, false, not, ◌&&◌, ◌||◌, List, ℕ, ◌+◌, ◌*◌, ◌≤◌, ◌<◌, get_or}
+use Rattle.std.proofs.Common.{sym, ◌∙◌, ap, arith}
+use Rattle.std.proofs.Math.Bool.{not-not, or-false}
+use Rattle.finite.specs.Tests.{same, any, all, bit}
+use Rattle.finite.proofs.Laws.Bools.{either, look, no_true, not_out, or_l, or_r, imp_and}
+use Rattle.finite.proofs.Laws.Below.{equal?, same_refl, eq_same, ne_same, all_cong, all_in, any_none}
 use Rattle.finite.proofs.Laws.Loops.{all-not}
 use Rattle.finite.proofs.Laws.Weights.{no_bits}
 use Rattle.finite.proofs.Laws.Dual.{none-all}
-use Rattle.bitset.specs.Set.{set_bytes, set_slots, has, Is, removed}
-use Rattle.bitset.proofs.Laws.Bytes.{has_byte, has_empty}
-use Rattle.bitset.proofs.Laws.Slot.{has-removed}
-use Rattle.bitset.proofs.Laws.Part.{has_part}
+use Rattle.bitset.specs.Set.{set_bytes, set_slots, has, Is}
+use Rattle.bitset.proofs.Laws.Bytes.{has_byte}
 use Rattle.limits.specs.Limits.{slots, labels, names, links, general_links}
 use Rattle.semantics.specs.Holds.{Model}
 use Rattle.site.specs.Layout.{label_at, target_at, row_at}
 use Rattle.site.specs.Site.{site_of}
 use Rattle.site.specs.Refusal.{item4, item5, item6, barred, touches}
 use Rattle.site.specs.Inside.{OnSite, inside, row_inside, target_inside}
-use Rattle.site.proofs.Laws.Read.{present_is, marked_is, row_is, target_is}
+use Rattle.site.proofs.Laws.Read.{marked_is, row_is, target_is}
 
 -- ---- item 4
 
@@ -39,17 +36,10 @@ names_present M p e =
 
 -- ---- the slots where labels and links may be
 
--- the present slots are the first set
-has_first : (S : List ℕ) (s : ℕ) → s < slots → has (take set_bytes S) s ≡ (site_of S).present s
-unfolding slots
-has_first S s h = has_part S 0 set_bytes s h ∙ ap (has S) (zero-add s) ∙ sym (present_is S s h)
-
--- and slot 0 is taken out of it
-pub onsite_are : (S X Y : List ℕ) → length X ≡ set_bytes → Is X (λ s. has (replicate set_bytes 0) s || has (take set_bytes S) s) → Y ≡ removed X 0
-    → OnSite S Y
-unfolding barred slots
-onsite_are S X Y l h e s hs =
-    rw (e, has-removed X 0 s (omega arith), h s hs, has_empty s hs, has_first S s hs) (swap ((site_of S).present s) (same s 0))
+-- slot 0 is taken out of the present ones
+pub onsite_are : (S X Y : List ℕ) → Is X (site_of S).present → Is Y (λ t. has X t && not (same t 0)) → OnSite S Y
+unfolding barred
+onsite_are S X Y p h s hs = h s hs ∙ ap (λ (b : Bool). b && not (same s 0)) (p s hs) ∙ swap ((site_of S).present s) (same s 0)
   where
     swap : (a b : Bool) → (a && not b) ≡ not (b || not a)
     swap true true = refl
@@ -72,29 +62,35 @@ labels-inside S E i = sym (none-all labels _ ∙ all_cong labels _ _ (λ p hp. n
 
 -- ---- item 6
 
-pub part_inside : (S A : List ℕ) (b k : ℕ) → k ≡ set_bytes → all set_slots (λ t. not (has (take k (drop b S)) t) || has A t) ≡ inside S b A
-part_inside S A b k e = all_cong set_slots _ _ (λ t h. rw (e, has_part S b set_bytes t h))
+-- a row T from which no link may start
+pub row-none : (S E T : List ℕ) (b s : ℕ) → Is T (λ t. has S (b * 8 + t)) → has E s ≡ false → not (any set_slots (has T)) ≡ row_inside S b E s
+row-none S E T b s i h =
+    none-all set_slots (has T)
+    ∙ all_cong set_slots _ _ (λ t ht. rw h (ap not (i t ht) ∙ sym (or-false (not (has S (b * 8 + t))))))
 
--- a row from which no link may start
-pub row-none : (S E : List ℕ) (b s : ℕ) → has E s ≡ false → inside S b (replicate set_bytes 0) ≡ row_inside S b E s
-row-none S E b s h = all_cong set_slots _ _ (λ t ht. rw (h, has_empty t ht))
-
--- 32 bytes that are an empty set are 0; targets that are all none fit
-no_bytes : (S : List ℕ) (b j : ℕ) → j < set_bytes → get_or S (b + j) 0 < 256 → inside S b (replicate set_bytes 0) ≡ true → get_or S (b + j) 0 ≡ 0
-no_bytes S b j h small p = no_bits 8 _ small clear
+-- 32 bytes that are an empty set T are 0; targets that are all none fit
+no_bytes : (S T : List ℕ) (b j : ℕ) → j < set_bytes → get_or S (b + j) 0 < 256 → Is T (λ t. has S (b * 8 + t)) → not (any set_slots (has T)) ≡ true → get_or S (b + j) 0 ≡ 0
+no_bytes S T b j h small e p = no_bits 8 _ small clear
   where
     clear : (i : ℕ) → i < 8 → bit (get_or S (b + j) 0) i ≡ false
     clear i l =
-        let t : (b + j) * 8 + i ≡ b * 8 + (j * 8 + i) = omega arith in
-        let q = or_out (not (has S (b * 8 + (j * 8 + i)))) _ (all_out set_slots _ p (j * 8 + i) (omega arith)) in
-        sym (has_byte S (b + j) i l) ∙ ap (has S) t ∙ either q (λ n. not-true _ n) (λ o. clash o (has_empty (j * 8 + i) (omega arith)))
+        let at : (b + j) * 8 + i ≡ b * 8 + (j * 8 + i) = omega arith in
+        let none : any set_slots (has T) ≡ false = no_true (not_out _ p) in
+        sym (has_byte S (b + j) i l) ∙ ap (has S) at ∙ sym (e (j * 8 + i) (omega arith)) ∙ any_none set_slots (has T) none (j * 8 + i) (omega arith)
 
-pub none_fit : (S E : List ℕ) (f k b : ℕ) → b ≡ target_at f (set_bytes * k) → ((i : ℕ) → get_or S i 0 < 256) → inside S b (replicate set_bytes 0) ≡ true
+pub none_fit : (S E T : List ℕ) (f k b : ℕ) → b ≡ target_at f (set_bytes * k) → ((j : ℕ) → j < set_bytes → get_or S (b + j) 0 < 256) → Is T (λ t. has S (b * 8 + t)) → not (any set_slots (has T)) ≡ true
     → all set_bytes (λ j. target_inside E (set_bytes * k + j) (get_or S (target_at f (set_bytes * k + j)) 0)) ≡ true
-none_fit S E f k b e small p =
+none_fit S E T f k b e small i p =
     all_in set_bytes _ (λ j h.
     let at : target_at f (set_bytes * k + j) ≡ b + j = omega (arith, e) in
-    or_l _ _ (eq_same (ap (λ i. get_or S i 0) at ∙ no_bytes S b j h (small (b + j)) p)))
+    or_l _ _ (eq_same (ap (λ i. get_or S i 0) at ∙ no_bytes S T b j h (small j h) i p)))
+
+-- the target v, read as t
+pub target_some : (E : List ℕ) (s t v : ℕ) → t ≡ v → t ≢ 0 → (has E s && has E t) ≡ target_inside E s v
+target_some E s t v e n = rw (← e, ne_same n)
+
+pub target_no : (E : List ℕ) (s v : ℕ) → 0 ≡ v → true ≡ target_inside E s v
+target_no E s v e = rw (eq_same (sym e))
 
 touches-all : (M : Model) (m : ℕ)
     → not (touches M m) ≡ all slots (λ s. all slots (λ t. not (M.link m s t) || (not (barred M s) && not (barred M t))))

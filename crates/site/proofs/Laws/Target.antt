@@ -1,5 +1,5 @@
 -- The target byte of a functional link is the model's target.
-use Rattle.std.specs.Prelude.{◌≡◌, ◌⊎◌, ◌≢◌, Bool, true, false, not, ◌&&◌, List, ℕ, zero, suc, ◌≤◌, ◌<◌, get_or}
+use Rattle.std.specs.Prelude.{◌≡◌, ◌⊎◌, ◌≢◌, Bool, true, false, not, ◌&&◌, List, ℕ, zero, suc, ◌+◌, ◌*◌, ◌≤◌, ◌<◌, get_or}
 use Rattle.std.proofs.Common.{sym, ◌∙◌, ap, inl, inr, arith}
 use Rattle.std.proofs.Math.Bool.{and-false}
 use Rattle.finite.specs.Tests.{same}
@@ -35,3 +35,11 @@ pub target_byte : (S : List ℕ) (f s : ℕ) → general_links ≤ f → f < lin
     → target (site_of S) f s ≡ get_or S (target_at f s) 0
 unfolding target
 target_byte S f s hg hl hs b = find-one slots (get_or S (target_at f s) 0) ((site_of S).link f s) (λ t ht. target_is S f s t hg hl hs ht) (inl b)
+
+-- the byte that was read of the functional link f, counted among its kind
+pub target_shown : (S : List ℕ) (f i s j v : ℕ) → i ≡ f → i < 4 → j ≡ s → s < 256 → v < 256 → v ≡ get_or S (592 + 256 * i + j) 0 → v ≡ target (site_of S) (general_links + f) s
+unfolding slots
+target_shown S f i s j v e l q h b r =
+    let at : 592 + 256 * i + j ≡ target_at (general_links + f) s = omega (arith, e, q) in
+    let here : v ≡ get_or S (target_at (general_links + f) s) 0 = r ∙ ap (λ k. get_or S k 0) at in
+    here ∙ sym (target_byte S (general_links + f) s (omega arith) (omega (arith, e, l)) h (rw (← here) b))
