@@ -12,7 +12,7 @@ ghost use Rattle.site.specs.Refusal.{item4, item5, item6, touches, site_verdict}
 ghost use Rattle.site.specs.Inside.{OnSite, inside, row_inside, target_inside};
 
 use bitset::{SET_BYTES, SET_SLOTS};
-use verdict::Verdict;
+use verdict::Refusal;
 
 // The limits as `usize`.
 pub const LABELS: usize = limits::LABELS as usize;
@@ -229,21 +229,21 @@ fn links_fit(site: &[u8], onsite: &[u8]) -> bool
 }
 
 // The first of items 3 to 6 that the bytes meet.
-pub fn check(site: &[u8]) -> Verdict
+pub fn check(site: &[u8]) -> Result<(), Refusal>
     ensures { result ≡ site_verdict site.now }
 {
     if site.len() != SITE_BYTES {
-        return Verdict::Refused(3, 0);
+        return Err(Refusal::SiteLength);
     }
     if !names_fit(site) {
-        return Verdict::Refused(4, 0);
+        return Err(Refusal::Names);
     }
     let onsite = onsite_slots(site);
     if !labels_fit(site, &onsite) {
-        return Verdict::Refused(5, 0);
+        return Err(Refusal::Labels);
     }
     if !links_fit(site, &onsite) {
-        return Verdict::Refused(6, 0);
+        return Err(Refusal::Links);
     }
-    Verdict::Accepted
+    Ok(())
 }
