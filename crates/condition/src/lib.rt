@@ -6,10 +6,11 @@ ghost use Rattle.limits.specs.Limits.{not_no, or_no, and_no, nu_no};
 ghost use Rattle.semantics.specs.Table.{kind_of, node_fits, nodes_fit};
 ghost use Rattle.condition.specs.Bytes.{word_at, node_at, table_of};
 ghost use Rattle.condition.specs.Limits.{param_limit, child_limit};
-ghost use Rattle.condition.specs.Refusal.{size_fits, first_unfit};
+ghost use Rattle.condition.specs.Refusal.{size_fits, nodes_verdict};
 
 use buffer::wide;
 use limits::{DIA, KINDS, NOT, OR, SLOT, TABLE_BYTES};
+use verdict::Refusal;
 
 // The bounds of parameters, as they are compared.
 const LABEL_LIMIT: usize = limits::LABELS as usize;
@@ -146,17 +147,17 @@ fn node_fits(table: &[u8], i: usize) -> bool
     (k < KINDS) & p & l & r
 }
 
-// The lowest node that meets item 8, and the number of nodes where none does.
-pub fn first_unfit(table: &[u8]) -> usize
-    ensures { result ≡ first_unfit table.now }
+// The first of items 7 and 8 that is met; 8 by the lowest node that meets it.
+pub fn check_nodes(table: &[u8]) -> Result<(), Refusal>
+    ensures { result ≡ nodes_verdict table.now }
 {
-    let n = table.len() / 6;
-    let mut i = 0;
-    while i < n {
-        if !node_fits(table, i) {
-            return i;
-        }
-        i += 1;
+    if !size_fits(table.len()) {
+        return Err(Refusal::ConditionLength);
     }
-    i
+    for i in 0..table.len() / 6 {
+        if !node_fits(table, i) {
+            return Err(Refusal::MalformedNode(i as u16));
+        }
+    }
+    Ok(())
 }

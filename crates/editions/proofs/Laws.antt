@@ -1,10 +1,11 @@
 -- What item 18 says of an edition.
-use Rattle.std.specs.Prelude.{◌≡◌, ◌⊎◌, true, false, ℕ}
+use Rattle.std.specs.Prelude.{◌≡◌, ◌⊎◌, true, false, ℕ, Err}
 use Rattle.std.proofs.Common.{sym, ◌∙◌, inl, inr}
 use Rattle.finite.specs.Tests.{same}
 use Rattle.finite.proofs.Laws.Bools.{either, look, or_l, or_r, or_out}
 use Rattle.finite.proofs.Laws.Below.{same_eq, eq_same}
-use Rattle.verdict.specs.declared.Verdict.TheVariants.{Accepted, Refused}
+use Rattle.verdict.specs.Verdict.{Accepted}
+use Rattle.verdict.specs.declared.Refusal.TheVariants.{Edition}
 use Rattle.verdict.proofs.Laws.{refused}
 use Rattle.editions.specs.Edition.{second, known, edition_verdict}
 
@@ -12,7 +13,7 @@ pub edition_known : (d : ℕ) → known d ≡ true → edition_verdict d ≡ Acc
 unfolding edition_verdict
 edition_known d p = rw p
 
-pub edition_refused : (d : ℕ) → known d ≡ false → edition_verdict d ≡ Refused 18 0
+pub edition_refused : (d : ℕ) → known d ≡ false → edition_verdict d ≡ Err Edition
 unfolding edition_verdict
 edition_refused d p = rw p
 

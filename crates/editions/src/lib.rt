@@ -4,7 +4,7 @@
 ghost use Rattle.std.specs.Prelude.{◌≡◌};
 ghost use Rattle.editions.specs.Edition as editions;
 
-use verdict::Verdict;
+use verdict::Refusal;
 
 pub const FIRST: u32 = 1;
 
@@ -18,11 +18,13 @@ pub fn known(edition: u32) -> bool
 }
 
 // The outcome of item 18.
-pub fn check(edition: u32) -> Verdict
+#[tactic(auto, unfolding(crate::specs::Edition::edition_verdict))]
+pub fn check(edition: u32) -> Result<(), Refusal>
     ensures { result ≡ editions.edition_verdict edition }
 {
     if known(edition) {
-        return Verdict::Accepted;
+        Ok(())
+    } else {
+        Err(Refusal::Edition)
     }
-    Verdict::Refused(18, 0)
 }

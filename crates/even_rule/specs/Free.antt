@@ -1,8 +1,7 @@
 -- What the check of a condition's table hands on: a mask of the free variables of each node.
-use Rattle.std.specs.Prelude.{◌≡◌, List, ℕ, ◌≤◌, ◌<◌, length, get_or, replicate}
+use Rattle.std.specs.Prelude.{◌≡◌, List, ℕ, ◌≤◌, ◌<◌, length, get_or, replicate, Ok, Err}
 use Rattle.finite.specs.Tests.{bit}
-use Rattle.verdict.specs.declared.Verdict.{Verdict}
-use Rattle.verdict.specs.declared.Verdict.TheVariants.{Accepted, Refused}
+use Rattle.verdict.specs.Verdict.{Verdict, Accepted}
 use Rattle.limits.specs.Limits.{variables, table_nodes}
 use Rattle.semantics.specs.Form.{free}
 use Rattle.semantics.specs.Table.{tree_at}
@@ -20,8 +19,8 @@ no_masks = replicate table_nodes 0
 
 -- the masks after a verdict: all are 0 where the table is refused
 unfoldable pub FreeAfter : Verdict → List ℕ → List ℕ → Type 0
-FreeAfter Accepted S rows = FreeRows S rows
-FreeAfter (Refused n w) S rows = rows ≡ no_masks
+FreeAfter (Ok _) S rows = FreeRows S rows
+FreeAfter (Err r) S rows = rows ≡ no_masks
 
 -- the check of the table S answers r and leaves these masks
 pub record Checked (S rows : List ℕ) (r : Verdict) : Type 0 where

@@ -2,19 +2,20 @@
 // number of nots, bit v + 16 where it does under an odd number.
 #![tactic(auto)]
 
-ghost use Rattle.std.specs.Prelude.{◌≡◌, true, not, ◌+◌, ◌*◌, ◌-◌, ◌^◌, ◌≤◌, ◌<◌, length};
+ghost use Rattle.std.specs.Prelude.{◌≡◌, not, ◌+◌, ◌*◌, ◌-◌, ◌^◌, ◌≤◌, ◌<◌, length};
 ghost use Rattle.std.specs.Int.Bits.{bit_and};
+ghost use Rattle.verdict.specs.Verdict.{Accepted};
 ghost use Rattle.finite.specs.Tests.{bit};
 ghost use Rattle.limits.specs.Limits.{table_nodes};
 ghost use Rattle.semantics.specs.Form.{even};
-ghost use Rattle.semantics.specs.Table.{tree_at, nodes_fit};
+ghost use Rattle.semantics.specs.Table.{tree_at};
 ghost use Rattle.condition.specs.Bytes.{table_of};
-ghost use Rattle.condition.specs.Refusal.{size_fits, first_uneven};
+ghost use Rattle.condition.specs.Refusal.{nodes_verdict, even_verdict};
 ghost use Rattle.even_rule.specs.Free.{no_masks, Checked};
 ghost use Rattle.even_rule.specs.Masks.{word_bits, full_word, swap, free_bits, Shows, Children, Rows, Fit, Visitable, Visited, United};
 
 use limits::{DIA, MU, NOT, NU, OR, TABLE_NODES, VAR};
-use verdict::Verdict;
+use verdict::Refusal;
 
 // A mask has 16 bits and is below 65,536: a bit for each variable.
 const MASK_BITS: usize = 16;
@@ -166,21 +167,19 @@ fn uneven(table: &[u8], words: &[u64; TABLE_NODES], i: usize) -> bool
     )
 }
 
-// Item 9: the lowest node that breaks the even rule, and the number of nodes where none does.
-fn first_uneven(table: &[u8], words: &[u64; TABLE_NODES]) -> usize
+// Item 9, by the lowest node that breaks the even rule.
+fn check_even(table: &[u8], words: &[u64; TABLE_NODES]) -> Result<(), Refusal>
     requires fit { Fit table.now }
     requires rows { Rows table.now words.now }
-    ensures { result ≡ first_uneven table.now }
+    ensures { result ≡ even_verdict table.now }
 {
     let n = table.len() / 6;
-    let mut i = 0;
-    while i < n {
+    for i in 0..n {
         if uneven(table, words, i) {
-            return i;
+            return Err(Refusal::EvenRule(i as u16));
         }
-        i += 1;
     }
-    i
+    Ok(())
 }
 
 // The free variables of the first n nodes.
@@ -209,38 +208,28 @@ pub fn no_masks() -> [u16; TABLE_NODES]
 }
 
 // Items 9 and 10 of a table that meets neither 7 nor 8.
-fn check_rules(table: &[u8], free: &mut [u16]) -> Verdict
-    requires table_value { size_fits (length table.now) ≡ true }
-    requires table_value_2 { nodes_fit 0 (table_of table.now) ≡ true }
+fn check_rules(table: &[u8], free: &mut [u16]) -> Result<(), Refusal>
+    requires nodes { nodes_verdict table.now ≡ Accepted }
     requires free_value { free.old ≡ no_masks }
     ensures { Checked table.now free.new result }
 {
     let n = table.len() / 6;
     let mut words = no_words();
     visit_all(table, &mut words, n);
-    let w = first_uneven(table, &words);
-    if w < n {
-        return Verdict::Refused(9, w as u16);
-    }
+    check_even(table, &words)?;
     let last = n - 1;
     if 0 < free_in(words[last]) {
-        return Verdict::Refused(10, last as u16);
+        return Err(Refusal::FreeVariable(last as u16));
     }
     unite(&words, free, n);
-    Verdict::Accepted
+    Ok(())
 }
 
 // Items 7 to 10, in this order. An accepted table's free variables are written to `free`, which is zero before, and after a refusal.
-pub fn check(table: &[u8], free: &mut [u16]) -> Verdict
+pub fn check(table: &[u8], free: &mut [u16]) -> Result<(), Refusal>
     requires { free.old ≡ no_masks }
     ensures { Checked table.now free.new result }
 {
-    if !condition::size_fits(table.len()) {
-        return Verdict::Refused(7, 0);
-    }
-    let w = condition::first_unfit(table);
-    if w < table.len() / 6 {
-        return Verdict::Refused(8, w as u16);
-    }
+    condition::check_nodes(table)?;
     check_rules(table, free)
 }

@@ -9,7 +9,7 @@ ghost use Rattle.semantics.specs.Table.{form_of, nodes_fit};
 ghost use Rattle.semantics.specs.Agree.{◌≐◌};
 ghost use Rattle.site.specs.Layout.{site_bytes};
 ghost use Rattle.site.specs.Site.{site_of};
-ghost use Rattle.verdict.specs.declared.Verdict.TheVariants.{Accepted};
+ghost use Rattle.verdict.specs.Verdict.{Accepted};
 ghost use Rattle.condition.specs.Bytes.{node_at, table_of};
 ghost use Rattle.condition.specs.Refusal.{condition_verdict};
 ghost use Rattle.even_rule.specs.Free.{FreeRows};

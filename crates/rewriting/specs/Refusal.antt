@@ -1,8 +1,8 @@
 -- Item 14 of docs/SPEC.md, "Reasons".
-use Rattle.std.specs.Prelude.{List, [], ◌∷◌, Bool, false, ◌||◌, cond, length}
+use Rattle.std.specs.Prelude.{List, [], ◌∷◌, Bool, false, ◌||◌, cond, length, Err}
 use Rattle.finite.specs.Tests.{below}
-use Rattle.verdict.specs.declared.Verdict.{Verdict}
-use Rattle.verdict.specs.declared.Verdict.TheVariants.{Accepted, Refused}
+use Rattle.verdict.specs.Verdict.{Verdict, Accepted}
+use Rattle.verdict.specs.declared.Refusal.TheVariants.{TableFull}
 use Rattle.semantics.specs.Table.{Node}
 use Rattle.semantics.specs.Edit.{Edit}
 use Rattle.semantics.specs.Block.{Pass, passed}
@@ -15,4 +15,4 @@ is_too_long pass (e ∷ es) xs = is_too_long pass es xs || below table_nodes (le
 
 -- the outcome of that check
 unfoldable pub length_verdict : Pass → List Edit → List Node → Verdict
-length_verdict pass es xs = cond (is_too_long pass es xs) (Refused 14 0) Accepted
+length_verdict pass es xs = cond (is_too_long pass es xs) (Err TableFull) Accepted

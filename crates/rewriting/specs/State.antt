@@ -1,8 +1,8 @@
 -- How far the passes of a sheet have come, and what is answered on inputs that meet no item before 14.
-use Rattle.std.specs.Prelude.{◌≡◌, List, ◌++◌, Bool, true, false, ℕ, ◌*◌, ◌-◌, ◌≤◌, ◌<◌, length, take, replicate}
+use Rattle.std.specs.Prelude.{◌≡◌, List, ◌++◌, Bool, true, false, ℕ, ◌*◌, ◌-◌, ◌≤◌, ◌<◌, length, take, replicate, Err}
 use Rattle.limits.specs.Limits.{table_nodes, table_bytes}
-use Rattle.verdict.specs.declared.Verdict.{Verdict}
-use Rattle.verdict.specs.declared.Verdict.TheVariants.{Accepted, Refused}
+use Rattle.verdict.specs.Verdict.{Verdict, Accepted}
+use Rattle.verdict.specs.declared.Refusal.TheVariants.{TableFull}
 use Rattle.semantics.specs.Table.{Node}
 use Rattle.semantics.specs.Edit.{Edit}
 use Rattle.semantics.specs.Block.{Pass, passed, rewrite_table}
@@ -29,7 +29,7 @@ pub record Passed (pass : Pass) (es : List Edit) (xs : List Node) (o : List ℕ)
 
 -- the verdict v, the node count n and the result (as it was, and as it is: ') after edits that made a table of so many nodes
 pub record Finished (work : List ℕ) (made : ℕ) (result result' : List ℕ) (v : Verdict) (n : ℕ) : Type 0 where
-  pub long : table_nodes < made → (v ≡ Refused 14 0) × (n ≡ 0) × (result' ≡ replicate (length result) 0)
+  pub long : table_nodes < made → (v ≡ Err TableFull) × (n ≡ 0) × (result' ≡ replicate (length result) 0)
   pub short : made ≤ table_nodes → (v ≡ Accepted) × (n ≡ made) × (result' ≡ take (6 * made) work ++ replicate (table_bytes - 6 * made) 0)
 
 -- inputs that meet none of the items before 14 have the verdict v and the node count n

@@ -12,12 +12,13 @@ ghost use Rattle.condition.specs.Bytes.{nodes, table_of};
 ghost use Rattle.sheet.specs.Bytes.{edit_of, edits_of};
 ghost use Rattle.limits.specs.Limits.{table_nodes, node_size, table_bytes};
 ghost use Rattle.rewriting.specs.State.{pass_of, TableMade, Passed, Finished, Rewrote};
-ghost use Rattle.rewriting.specs.Answer.{verdict_of, nodes_of};
+ghost use Rattle.verdict.specs.Verdict.{outcome};
+ghost use Rattle.rewriting.specs.Answer.{nodes_of};
 
 use buffer::copy;
 use limits::{NODE_BYTES, TABLE_BYTES, TABLE_NODES};
 use sheet::Op;
-use verdict::Verdict;
+use verdict::Refusal;
 
 // Zeros from byte n on.
 fn clear_from(b: &mut [u8], n: usize)
@@ -86,25 +87,18 @@ fn passes(
     count
 }
 
-// The answer: how many nodes the table has that is made, or the item that is met and its W.
-#[derive(Clone, Copy)]
-pub enum Rewriting {
-    Rewritten(u32),
-    Refused(u8, u16),
-}
-
 // The answer after all edits: a table of so many nodes, copied into result with zeros after it; or zeros alone where it is too long.
-fn finish(res: &mut [u8], work: &[u8; TABLE_BYTES], made: usize) -> Rewriting
+fn finish(res: &mut [u8], work: &[u8; TABLE_BYTES], made: usize) -> Result<u32, Refusal>
     requires { (length res.old ≡ table_bytes) × (length work.now ≡ table_bytes) }
-    ensures { Finished work.now made res.old res.new (verdict_of result) (nodes_of result) }
+    ensures { Finished work.now made res.old res.new (outcome result) (nodes_of result) }
 {
     if TABLE_NODES < made {
         buffer::zero(res);
-        return Rewriting::Refused(14, 0);
+        return Err(Refusal::TableFull);
     }
     copy(res, work, NODE_BYTES * made);
     clear_from(res, NODE_BYTES * made);
-    Rewriting::Rewritten(made as u32)
+    Ok(made as u32)
 }
 
 fn no_table() -> [u8; TABLE_BYTES]
@@ -126,10 +120,10 @@ fn no_rows() -> [u8; TABLE_NODES]
 }
 
 // The passes of a sheet over a table, and the answer.
-fn rewrite_from(table: &[u8], sheet: &[u8], edition: u32, own: bool, res: &mut [u8]) -> Rewriting
+fn rewrite_from(table: &[u8], sheet: &[u8], edition: u32, own: bool, res: &mut [u8]) -> Result<u32, Refusal>
     requires in_bounds { (6 ≤ length table.now) × (length table.now ≤ table_bytes) × (length res.old ≡ table_bytes) }
     requires table_value { (nodes_fit 0 (table_of table.now) ≡ true) × (sheet_legal (edits_of edition sheet.now) ≡ true) }
-    ensures { Rewrote (pass_of own) (edits_of edition sheet.now) (table_of table.now) res.old res.new (verdict_of result) (nodes_of result) }
+    ensures { Rewrote (pass_of own) (edits_of edition sheet.now) (table_of table.now) res.old res.new (outcome result) (nodes_of result) }
 {
     let mut work = no_table();
     let mut spare = no_table();
@@ -150,11 +144,11 @@ fn rewrite_from(table: &[u8], sheet: &[u8], edition: u32, own: bool, res: &mut [
     finish(res, &work, made)
 }
 
-// A table rewritten for a sheet: its bytes and then zeros in result, and zeros alone where item 14 is met.
-pub fn rewrite_sheet(table: &[u8], sheet: &[u8], edition: u32, res: &mut [u8]) -> Rewriting
+// A table rewritten for a sheet: its bytes and then zeros in result, and zeros alone where item 14 is met. Gives how many nodes it has.
+pub fn rewrite_sheet(table: &[u8], sheet: &[u8], edition: u32, res: &mut [u8]) -> Result<u32, Refusal>
     requires in_bounds { (6 ≤ length table.now) × (length table.now ≤ table_bytes) × (length res.old ≡ table_bytes) }
     requires table_value { (nodes_fit 0 (table_of table.now) ≡ true) × (sheet_legal (edits_of edition sheet.now) ≡ true) }
-    ensures { Rewrote rewrite_table (edits_of edition sheet.now) (table_of table.now) res.old res.new (verdict_of result) (nodes_of result) }
+    ensures { Rewrote rewrite_table (edits_of edition sheet.now) (table_of table.now) res.old res.new (outcome result) (nodes_of result) }
 {
     rewrite_from(table, sheet, edition, false, res)
 }
@@ -166,29 +160,11 @@ fn one_true() -> [u8; NODE_BYTES]
     [0; NODE_BYTES]
 }
 
-// The condition for going through: its bytes and then zeros in result, and zeros alone where item 14 is met.
-pub fn through_sheet(sheet: &[u8], edition: u32, res: &mut [u8]) -> Rewriting
+// The condition for going through: its bytes and then zeros in result, and zeros alone where item 14 is met. Gives how many nodes it has.
+pub fn through_sheet(sheet: &[u8], edition: u32, res: &mut [u8]) -> Result<u32, Refusal>
     requires { (length res.old ≡ table_bytes) × (sheet_legal (edits_of edition sheet.now) ≡ true) }
-    ensures { Rewrote through_edit (edits_of edition sheet.now) one_true res.old res.new (verdict_of result) (nodes_of result) }
+    ensures { Rewrote through_edit (edits_of edition sheet.now) one_true res.old res.new (outcome result) (nodes_of result) }
 {
     let start = one_true();
     rewrite_from(&start, sheet, edition, true, res)
-}
-
-pub fn verdict(r: Rewriting) -> Verdict
-    ensures { result ≡ verdict_of r }
-{
-    match r {
-        Rewriting::Rewritten(_) => Verdict::Accepted,
-        Rewriting::Refused(item, w) => Verdict::Refused(item, w),
-    }
-}
-
-pub fn nodes(r: Rewriting) -> u32
-    ensures { result ≡ nodes_of r }
-{
-    match r {
-        Rewriting::Rewritten(n) => n,
-        Rewriting::Refused(_, _) => 0,
-    }
 }

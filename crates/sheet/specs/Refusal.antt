@@ -1,9 +1,9 @@
 -- Items 11 and 12 of docs/SPEC.md, "Reasons", with W.
-use Rattle.std.specs.Prelude.{List, [], ◌∷◌, Bool, not, ◌&&◌, ◌||◌, cond, ℕ, ◌/◌, ◌%◌, length, get_or}
+use Rattle.std.specs.Prelude.{List, [], ◌∷◌, Bool, not, ◌&&◌, ◌||◌, cond, ℕ, ◌/◌, ◌%◌, length, get_or, Err}
 use Rattle.finite.specs.Tests.{same, below, first}
 use Rattle.semantics.specs.Edit.{legal}
-use Rattle.verdict.specs.declared.Verdict.{Verdict}
-use Rattle.verdict.specs.declared.Verdict.TheVariants.{Accepted, Refused}
+use Rattle.verdict.specs.Verdict.{Verdict, Accepted}
+use Rattle.verdict.specs.declared.Refusal.TheVariants.{SheetLength, MalformedEdit}
 use Rattle.sheet.specs.Bytes.{read_edit, four_at}
 
 -- how many operands the operations 0 to 8 have
@@ -36,4 +36,4 @@ unfoldable pub sheet_verdict : List ℕ → Verdict
 sheet_verdict s =
     let n : ℕ = length s / 4 in
     let w : ℕ = first n (faulty s) in
-    cond (sized s) (cond (below w n) (Refused 12 w) Accepted) (Refused 11 0)
+    cond (sized s) (cond (below w n) (Err (MalformedEdit w)) Accepted) (Err SheetLength)

@@ -1,16 +1,16 @@
 // The sheet's bytes: edits read, and items 11 and 12.
 #![tactic(auto)]
 
-ghost use Rattle.std.specs.Prelude.{◌≡◌, not, ◌&&◌, ◌+◌, ◌*◌, ◌/◌, ◌≤◌, length};
-ghost use Rattle.finite.specs.Tests.{same, below, first};
+ghost use Rattle.std.specs.Prelude.{◌≡◌, not, ◌&&◌, ◌+◌, ◌*◌, ◌≤◌, length};
+ghost use Rattle.finite.specs.Tests.{same, below};
 ghost use Rattle.limits.specs.Limits.{names};
 ghost use Rattle.semantics.specs.Edit.{functional};
 ghost use Rattle.sheet.specs.Bytes.{edit_of, link_edit, read_edit, edit_at};
-ghost use Rattle.sheet.specs.Refusal.{edit_fits, fits_at, faulty, sheet_verdict};
+ghost use Rattle.sheet.specs.Refusal.{edit_fits, fits_at, sheet_verdict};
 
 use editions::SECOND;
 use limits::{GENERAL_LINKS, LABELS, LINKS, NAMES};
-use verdict::Verdict;
+use verdict::Refusal;
 
 // The nine edits, with their operands in the order of the sheet; and last what AT on a functional link is in edition 2.
 #[derive(Clone, Copy)]
@@ -110,35 +110,21 @@ fn edit_fits(sheet: &[u8], k: usize) -> bool
     fits(sheet[at], sheet[at + 1], sheet[at + 2], sheet[at + 3])
 }
 
-// The lowest faulty edit, or the number of edits where none is.
-fn first_fault(sheet: &[u8]) -> usize
-    ensures { result ≡ first (length sheet.now / 4) (faulty sheet.now) }
-{
-    let n = sheet.len() / 4;
-    let mut k = 0;
-    while k < n {
-        if !edit_fits(sheet, k) {
-            return k;
-        }
-        k += 1;
-    }
-    k
-}
-
-// The outcome of items 11 and 12 on a sheet.
-pub fn check(sheet: &[u8]) -> Verdict
+// The first of items 11 and 12 that a sheet meets; 12 by the lowest edit that meets it.
+pub fn check(sheet: &[u8]) -> Result<(), Refusal>
     ensures { result ≡ sheet_verdict sheet.now }
 {
     if sheet.len() % 4 != 0 {
-        return Verdict::Refused(11, 0);
+        return Err(Refusal::SheetLength);
     }
     if 256 < sheet.len() {
-        return Verdict::Refused(11, 0);
+        return Err(Refusal::SheetLength);
     }
     let n = sheet.len() / 4;
-    let w = first_fault(sheet);
-    if w < n {
-        return Verdict::Refused(12, w as u16);
+    for k in 0..n {
+        if !edit_fits(sheet, k) {
+            return Err(Refusal::MalformedEdit(k as u16));
+        }
     }
-    Verdict::Accepted
+    Ok(())
 }

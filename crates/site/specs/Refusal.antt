@@ -1,10 +1,10 @@
 -- Which sites are refused: items 3 to 6 of docs/SPEC.md, "Reasons", in their order.
-use Rattle.std.specs.Prelude.{Bool, not, ◌&&◌, ◌||◌, cond, List, ℕ, length}
+use Rattle.std.specs.Prelude.{Bool, not, ◌&&◌, ◌||◌, cond, List, ℕ, length, Err}
 use Rattle.finite.specs.Tests.{same, any}
 use Rattle.limits.specs.Limits.{slots, labels, names, links}
 use Rattle.semantics.specs.Holds.{Model}
-use Rattle.verdict.specs.declared.Verdict.{Verdict}
-use Rattle.verdict.specs.declared.Verdict.TheVariants.{Accepted, Refused}
+use Rattle.verdict.specs.Verdict.{Verdict, Accepted}
+use Rattle.verdict.specs.declared.Refusal.TheVariants.{SiteLength, Names, Labels, Links}
 use Rattle.site.specs.Layout.{site_bytes}
 use Rattle.site.specs.Site.{site_of}
 
@@ -31,8 +31,8 @@ item6 M = any links (λ m. touches M m)
 -- the first item that the bytes meet; 3: the site's length is wrong. W is 0
 unfoldable pub site_verdict : List ℕ → Verdict
 site_verdict S =
-    cond (not (same (length S) site_bytes)) (Refused 3 0)
-    (cond (item4 (site_of S)) (Refused 4 0)
-    (cond (item5 (site_of S)) (Refused 5 0)
-    (cond (item6 (site_of S)) (Refused 6 0)
+    cond (not (same (length S) site_bytes)) (Err SiteLength)
+    (cond (item4 (site_of S)) (Err Names)
+    (cond (item5 (site_of S)) (Err Labels)
+    (cond (item6 (site_of S)) (Err Links)
     Accepted)))

@@ -12,7 +12,7 @@ ghost use Rattle.site.specs.Ways.{link_number};
 use crate::{LABELS_AT, Link, ROWS_AT, ROWS_BYTES, Site, TARGETS_AT};
 use bitset::{SET_BYTES, SET_SLOTS, SlotSet};
 use limits::{Below, LABELS, LINKS, NAMES};
-use verdict::Verdict;
+use verdict::Refusal;
 
 // Is every name at a present slot?
 fn names_present(site: &Site) -> bool
@@ -159,21 +159,21 @@ fn links_fit(site: &Site, onsite: &SlotSet) -> bool
 }
 
 // The first of items 3 to 6 that the bytes meet.
-pub fn check(bytes: &[u8]) -> Verdict
+pub fn check(bytes: &[u8]) -> Result<(), Refusal>
     ensures { result ≡ site_verdict bytes.now }
 {
     let Some(site) = Site::new(bytes) else {
-        return Verdict::Refused(3, 0);
+        return Err(Refusal::SiteLength);
     };
     if !names_fit(&site) {
-        return Verdict::Refused(4, 0);
+        return Err(Refusal::Names);
     }
     let onsite = onsite_slots(&site);
     if !labels_fit(&site, &onsite) {
-        return Verdict::Refused(5, 0);
+        return Err(Refusal::Labels);
     }
     if !links_fit(&site, &onsite) {
-        return Verdict::Refused(6, 0);
+        return Err(Refusal::Links);
     }
-    Verdict::Accepted
+    Ok(())
 }

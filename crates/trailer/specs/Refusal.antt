@@ -1,8 +1,8 @@
 -- Items 2 and 18 of docs/SPEC.md, "Reasons", of a file. W is 0.
-use Rattle.std.specs.Prelude.{Bool, not, ◌||◌, cond, List, ℕ, length}
+use Rattle.std.specs.Prelude.{Bool, not, ◌||◌, cond, List, ℕ, length, Err}
 use Rattle.finite.specs.Tests.{same, below}
-use Rattle.verdict.specs.declared.Verdict.{Verdict}
-use Rattle.verdict.specs.declared.Verdict.TheVariants.{Refused}
+use Rattle.verdict.specs.Verdict.{Verdict}
+use Rattle.verdict.specs.declared.Refusal.TheVariants.{File}
 use Rattle.editions.specs.Edition.{edition_verdict}
 use Rattle.trailer.specs.File.{trailer_bytes, file_limit, trailer_at, number}
 
@@ -21,7 +21,7 @@ edition_in file = cond (item2 file) 0 (number 3 file)
 
 -- the verdict where item 2 is met or not: item 18 of the edition comes right after it
 abbrev pub file_verdict : (met : Bool) (edition : ℕ) → Verdict
-file_verdict met edition = cond met (Refused 2 0) (edition_verdict edition)
+file_verdict met edition = cond met (Err File) (edition_verdict edition)
 
 unfoldable pub trailer_verdict : List ℕ → Verdict
 trailer_verdict file = file_verdict (item2 file) (edition_in file)

@@ -7,7 +7,7 @@ ghost use Rattle.trailer.specs.Refusal.{item2, file_verdict};
 ghost use Rattle.trailer.specs.Pieces.{site_in, condition_in, sheet_in};
 ghost use Rattle.trailer.specs.Cuts.{Cut};
 
-use verdict::Verdict;
+use verdict::Refusal;
 
 const TRAILER_BYTES: usize = 16;
 
@@ -111,11 +111,11 @@ pub fn read(file: &[u8]) -> Cuts
 }
 
 // The outcome of item 2, then of item 18.
-pub fn check(c: Cuts) -> Verdict
+pub fn check(c: Cuts) -> Result<(), Refusal>
     ensures { result ≡ file_verdict c.met c.edition }
 {
     if c.met {
-        return Verdict::Refused(2, 0);
+        return Err(Refusal::File);
     }
     editions::check(c.edition)
 }

@@ -3,7 +3,7 @@ use Rattle.std.specs.Prelude.{◌≡◌, true, List, ℕ, length}
 use Rattle.std.proofs.Common.{sym, subst}
 use Rattle.semantics.specs.Edit as edits
 use Rattle.semantics.proofs.Laws.Edits.{sheet_valid}
-use Rattle.verdict.specs.declared.Verdict.TheVariants.{Accepted}
+use Rattle.verdict.specs.Verdict.{Accepted}
 use Rattle.site.specs.Layout.{site_bytes}
 use Rattle.site.specs.Site.{site_of}
 use Rattle.site.specs.Refusal.{site_verdict}

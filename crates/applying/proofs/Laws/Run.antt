@@ -1,5 +1,5 @@
 -- The loop over the edits: at the start, after one more, at the one that does not go through, and at the end; and the answer.
-use Rattle.std.specs.Prelude.{◌≡◌, refl, List, [], ◌∷◌, true, false, not, ℕ, suc, ◌+◌, ◌/◌, ◌≤◌, ◌<◌, length, drop, replicate}
+use Rattle.std.specs.Prelude.{◌≡◌, refl, List, [], ◌∷◌, true, false, not, ℕ, suc, ◌+◌, ◌/◌, ◌≤◌, ◌<◌, length, drop, replicate, Err}
 use Rattle.std.proofs.Common.{◌∙◌, ap₂, add-one, arith, sym, ap, drop_of_length-le}
 use Rattle.std.proofs.Math.ListN.{length-replicate}
 use Rattle.finite.specs.Tests.{below}
@@ -11,10 +11,14 @@ use Rattle.site.specs.Layout.{site_bytes}
 use Rattle.site.specs.Site.{site_of}
 use Rattle.sheet.specs.Bytes.{edit_at, edits_of}
 use Rattle.sheet.proofs.Laws.Read.{edits-length, edits-drop}
-use Rattle.verdict.specs.declared.Verdict.TheVariants.{Accepted, Refused}
+use Rattle.verdict.specs.Verdict.{Verdict, Accepted}
+use Rattle.verdict.specs.declared.Refusal.{Refusal}
+use Rattle.verdict.specs.declared.Refusal.TheVariants.{NotThrough}
+use Rattle.verdict.proofs.Laws.{refused}
 use Rattle.applying.specs.Stuck.{stuck_at}
 use Rattle.applying.specs.Refusal.{goes_verdict}
 use Rattle.applying.specs.Applies.{Applies, Ran}
+use Rattle.applying.proofs.Laws.Goes.{goes_out, goes-not}
 
 -- one edit of a sheet
 stuck_on : (e : Edit) (es : List Edit) (M : Model) → goes e M ≡ true → stuck_at (e ∷ es) M ≡ suc (stuck_at es (edit e M))
@@ -24,6 +28,23 @@ stuck_on e es M g = rw g
 stuck_here : (e : Edit) (es : List Edit) (M : Model) → goes e M ≡ false → stuck_at (e ∷ es) M ≡ 0
 unfolding stuck_at
 stuck_here e es M g = rw g
+
+-- a sheet goes through just where it is stuck nowhere
+pub stuck_goes : (es : List Edit) (M : Model) → (sheet_goes es M ≡ not (below (stuck_at es M) (length es))) × (stuck_at es M ≤ length es)
+unfolding stuck_at sheet_goes
+stuck_goes [] M = (sym (ap not (below-not 0 0 (omega arith))), omega arith)
+stuck_goes (e ∷ es) M =
+    let ih = stuck_goes es (edit e M) in
+    either
+    (look (goes e M))
+    (λ g. rw g (ih.0 ∙ ap not (step (stuck_at es (edit e M)) (length es)), omega (arith, ih.1)))
+    (λ g. rw g (sym (ap not (below_in 0 (suc (length es)) (omega arith))), omega arith))
+  where
+    step : (m n : ℕ) → below m n ≡ below (suc m) (suc n)
+    step m n =
+        both
+        (λ p. let h = below_out m n p in below_in (suc m) (suc n) (omega arith))
+        (λ p. let h = below_out (suc m) (suc n) p in below_in m n (omega arith))
 
 -- the first k edits went through and left the bytes R
 pub record Progress (edition : ℕ) (S s R : List ℕ) (k : ℕ) : Type 0 where
@@ -58,65 +79,48 @@ module _ {edition : ℕ} {S s R : List ℕ} {k : ℕ} (p : Progress edition S s 
           upto = omega arith;
         }
 
-    pub run_stop : goes e (site_of R) ≡ false → Ran edition S s R k
+    pub run_stop : goes e (site_of R) ≡ false → Ran edition S s R (Err (NotThrough k))
+    unfolding goes_verdict
     run_stop g =
-        let z : stuck_at (drop k (edits_of edition s)) (site_of R) ≡ 0 =
-        ap (λ (es : List Edit). stuck_at es (site_of R)) ahead ∙ stuck_here e (drop (suc k) (edits_of edition s)) (site_of R) g
+        let es : List Edit = edits_of edition s in
+        let z : stuck_at (drop k es) (site_of R) ≡ 0 =
+        ap (λ (es : List Edit). stuck_at es (site_of R)) ahead ∙ stuck_here e (drop (suc k) es) (site_of R) g
         in
-        record { far = omega (arith, z, p.far); whole = λ u. absurd (omega (arith, u, edits-length edition s)) }
+        let w : stuck_at es (site_of S) ≡ k = omega (arith, z, p.far) in
+        let n : sheet_goes es (site_of S) ≡ false =
+        (stuck_goes es (site_of S)).0 ∙ ap not (below_in (stuck_at es (site_of S)) (length es) (omega (arith, w, edits-length edition s)))
+        in
+        record { answer = rw (n, w); whole = λ e. refused e }
 
-  pub run_end : length s / 4 ≤ k → Ran edition S s R k
-  unfolding stuck_at sheet
+  pub run_end : length s / 4 ≤ k → Ran edition S s R Accepted
+  unfolding stuck_at sheet goes_verdict
   run_end h =
-      let n : length (edits_of edition s) ≤ k = omega (arith, edits-length edition s) in
-      let d : drop k (edits_of edition s) ≡ [] = drop_of_length-le (edits_of edition s) n in
-      let z : stuck_at (drop k (edits_of edition s)) (site_of R) ≡ 0 = ap (λ (es : List Edit). stuck_at es (site_of R)) d in
-      record { far = omega (arith, z, p.far); whole = λ u. sym (p.whole ∙ ap (λ (es : List Edit). sheet es (site_of R)) d) }
-
--- a sheet goes through just where it is stuck nowhere
-pub stuck_goes : (es : List Edit) (M : Model) → (sheet_goes es M ≡ not (below (stuck_at es M) (length es))) × (stuck_at es M ≤ length es)
-unfolding stuck_at sheet_goes
-stuck_goes [] M = (sym (ap not (below-not 0 0 (omega arith))), omega arith)
-stuck_goes (e ∷ es) M =
-    let ih = stuck_goes es (edit e M) in
-    either
-    (look (goes e M))
-    (λ g. rw g (ih.0 ∙ ap not (step (stuck_at es (edit e M)) (length es)), omega (arith, ih.1)))
-    (λ g. rw g (sym (ap not (below_in 0 (suc (length es)) (omega arith))), omega arith))
-  where
-    step : (m n : ℕ) → below m n ≡ below (suc m) (suc n)
-    step m n =
-        both
-        (λ p. let h = below_out m n p in below_in (suc m) (suc n) (omega arith))
-        (λ p. let h = below_out (suc m) (suc n) p in below_in m n (omega arith))
+      let es : List Edit = edits_of edition s in
+      let n : length es ≤ k = omega (arith, edits-length edition s) in
+      let d : drop k es ≡ [] = drop_of_length-le es n in
+      let z : stuck_at (drop k es) (site_of R) ≡ 0 = ap (λ (es : List Edit). stuck_at es (site_of R)) d in
+      let g : sheet_goes es (site_of S) ≡ true =
+      (stuck_goes es (site_of S)).0 ∙ ap not (below-not (stuck_at es (site_of S)) (length es) (omega (arith, z, p.far)))
+      in
+      record { answer = rw g; whole = λ u. sym (p.whole ∙ ap (λ (es : List Edit). sheet es (site_of R)) d) }
 
 -- the edits ran on a copy S₀ of the site S
-module _ {edition : ℕ} {S S₀ s R : List ℕ} {w : ℕ} (c : S₀ ≡ S) (r : Ran edition S₀ s R w) where
-  on_site_lem : Ran edition S s R w
-  on_site_lem = rw c at r
+module _ {edition : ℕ} {S S₀ s R : List ℕ} {r : Verdict} (c : S₀ ≡ S) (ran : Ran edition S₀ s R r) where
+  on_site_lem : Ran edition S s R r
+  on_site_lem = rw c at ran
 
-  -- the sheet goes through just where all its edits ran
-  through : sheet_goes (edits_of edition s) (site_of S) ≡ not (below w (length s / 4))
-  through = (stuck_goes (edits_of edition s) (site_of S)).0 ∙ ap₂ (λ (a b : ℕ). not (below a b)) (sym on_site_lem.far) (edits-length edition s)
+  pub ran_through : length R ≡ site_bytes → r ≡ Accepted → Applies edition S s R r
+  ran_through l e = record {
+    answer = on_site_lem.answer;
+    left = λ u. on_site_lem.whole e;
+    zeros = λ u. clash (goes_out (edits_of edition s) (site_of S) (sym on_site_lem.answer ∙ e)) u;
+    long = l;
+  }
 
-  pub ran_through : length R ≡ site_bytes → length s / 4 ≤ w → Applies edition S s R Accepted
-  unfolding goes_verdict
-  ran_through l h =
-      let g : sheet_goes (edits_of edition s) (site_of S) ≡ true = through ∙ ap not (below-not w (length s / 4) h) in
-      record {
-        answer = rw g;
-        left = λ u. on_site_lem.whole (omega (arith, edits-length edition s));
-        zeros = λ u. clash g u;
-        long = l;
-      }
-
-  pub ran_stuck : length R ≡ site_bytes → w < length s / 4 → {Z : List ℕ} → Z ≡ replicate (length R) 0 → Applies edition S s Z (Refused 13 w)
-  unfolding goes_verdict
-  ran_stuck l h z =
-      let g : sheet_goes (edits_of edition s) (site_of S) ≡ false = through ∙ ap not (below_in w (length s / 4) h) in
-      record {
-        answer = rw g (ap (Refused 13) on_site_lem.far);
-        left = λ u. clash u g;
-        zeros = λ u. z ∙ ap (λ (n : ℕ). replicate n 0) l;
-        long = ap length z ∙ length-replicate {A = ℕ} (length R) 0 ∙ l;
-      }
+  pub ran_stuck : length R ≡ site_bytes → {q : Refusal} → r ≡ Err q → {Z : List ℕ} → Z ≡ replicate (length R) 0 → Applies edition S s Z r
+  ran_stuck l e z = record {
+    answer = on_site_lem.answer;
+    left = λ u. clash u (goes-not (edits_of edition s) (site_of S) (sym on_site_lem.answer ∙ e));
+    zeros = λ u. z ∙ ap (λ (n : ℕ). replicate n 0) l;
+    long = ap length z ∙ length-replicate {A = ℕ} (length R) 0 ∙ l;
+  }

@@ -1,19 +1,21 @@
 -- The verdict item by item, and what an accepted table has.
-use Rattle.std.specs.Prelude.{◌≡◌, List, Bool, true, false, not, cond, ℕ, ◌-◌, ◌%◌, ◌≤◌, ◌<◌, length, refl}
+use Rattle.std.specs.Prelude.{◌≡◌, List, Bool, true, false, not, cond, ℕ, ◌-◌, ◌/◌, ◌%◌, ◌≤◌, ◌<◌, length, refl, Err}
 use Rattle.std.proofs.Common.{ap, arith}
 use Rattle.std.proofs.lemmas.Bool.{not-true, not-false}
 use Rattle.limits.specs.Limits.{table_nodes, table_bytes}
-use Rattle.finite.specs.Tests.{same, below}
+use Rattle.finite.specs.Tests.{same, below, any}
 use Rattle.finite.proofs.Laws.Bools.{and_in, and_l, and_r}
-use Rattle.finite.proofs.Laws.Below.{same_eq, eq_same, below-not, not-below, any_none, none_any, all_in, all_out}
-use Rattle.finite.proofs.Laws.First.{first-none, first_past}
-use Rattle.verdict.specs.declared.Verdict.{Verdict}
-use Rattle.verdict.specs.declared.Verdict.TheVariants.{Accepted, Refused}
+use Rattle.finite.proofs.Laws.Below.{same_eq, eq_same, below_in, below-not, not-below, any_none, none_any, all_in, all_out}
+use Rattle.finite.proofs.Laws.First.{first-none, first_past, first_is, first_stop}
+use Rattle.verdict.specs.Verdict.{Accepted, ◌then◌}
+use Rattle.verdict.specs.declared.Refusal.{Refusal}
+use Rattle.verdict.proofs.Laws.{refused}
+use Rattle.verdict.specs.declared.Refusal.TheVariants.{ConditionLength, MalformedNode, EvenRule, FreeVariable}
 use Rattle.semantics.specs.Form.{even, closed}
-use Rattle.semantics.specs.Table.{Node, tree_at, form_of, nodes_fit, even_table}
-use Rattle.condition.specs.Bytes.{table_of, bytes_of}
-use Rattle.condition.specs.Refusal.{size_fits, first_unfit, first_uneven, condition_verdict}
-use Rattle.condition.proofs.Laws.Bytes.{length-bytes, table_back_lem}
+use Rattle.semantics.specs.Table.{Node, tree_at, form_of, node_fits, nodes_fit, even_table}
+use Rattle.condition.specs.Bytes.{node_at, table_of, bytes_of}
+use Rattle.condition.specs.Refusal.{size_fits, first_unfit, first_uneven, nodes_verdict, even_verdict, closed_verdict, condition_verdict}
+use Rattle.condition.proofs.Laws.Bytes.{length_table, length-bytes, table_back_lem}
 use Rattle.condition.proofs.Laws.Fits.{none-unfit, fit_none}
 
 -- ---- item 7 and item 9, each both ways
@@ -48,27 +50,61 @@ even-none S f =
 -- ---- the verdict, item by item
 
 module _ (S : List ℕ) where
-  pub item_7 : size_fits (length S) ≡ false → condition_verdict S ≡ Refused 7 0
-  unfolding condition_verdict
+  pub missized : size_fits (length S) ≡ false → nodes_verdict S ≡ Err ConditionLength
+  unfolding nodes_verdict
+  missized e = rw e
+
+  abbrev unfit : ℕ → Bool
+  unfit i = not (node_fits i (node_at S i))
+
+  -- node i is the lowest that item 8 is met by; none is
+  pub malformed : size_fits (length S) ≡ true → (i : ℕ) → i < length S / 6 → any i unfit ≡ false → node_fits i (node_at S i) ≡ false
+      → nodes_verdict S ≡ Err (MalformedNode i)
+  unfolding nodes_verdict first_unfit
+  malformed e i h a f =
+      let n = length (table_of S) in
+      let l : i < n = omega (arith, length_table S) in
+      let w : first_unfit S ≡ i = first_is n unfit i l a (ap not f) in
+      rw (e, w, below_in i n l)
+
+  pub well_formed : size_fits (length S) ≡ true → {i : ℕ} → length S / 6 ≤ i → i ≤ length S / 6 → any i unfit ≡ false → nodes_verdict S ≡ Accepted
+  unfolding nodes_verdict first_unfit
+  well_formed e {i} h l a =
+      let n = length (table_of S) in
+      let w : first_unfit S ≡ i = first_stop n unfit i a (omega (arith, length_table S)) (omega (arith, length_table S)) in
+      rw (e, w, below-not i n (omega (arith, length_table S)))
+
+  pub item_7 : size_fits (length S) ≡ false → condition_verdict S ≡ Err ConditionLength
+  unfolding condition_verdict nodes_verdict even_verdict closed_verdict
   item_7 e = rw e refl
 
+  -- neither 7 nor 8 is met
+  pub nodes_accepted : nodes_verdict S ≡ Accepted → ((length S % 6 ≡ 0) × (6 ≤ length S) × (length S ≤ table_bytes)) × (nodes_fit 0 (table_of S) ≡ true)
+  unfolding nodes_verdict
+  nodes_accepted e = let p = chain _ _ _ _ e in (size_out (length S) (not-false _ p.0), none-unfit S p.1)
+    where
+      chain : (a b : Bool) (r₇ r₈ : Refusal) → cond a (Err r₇) (cond b (Err r₈) Accepted) ≡ Accepted → (a ≡ false) × (b ≡ false)
+      chain true b r₇ r₈ p = refused p
+      chain false true r₇ r₈ p = refused p
+      chain false false r₇ r₈ p = (refl, refl)
+
   module _ (e₇ : size_fits (length S) ≡ true) where
-    pub item_8 : below (first_unfit S) (length (table_of S)) ≡ true → condition_verdict S ≡ Refused 8 (first_unfit S)
-    unfolding condition_verdict
+    pub item_8 : below (first_unfit S) (length (table_of S)) ≡ true → condition_verdict S ≡ Err (MalformedNode (first_unfit S))
+    unfolding condition_verdict nodes_verdict even_verdict closed_verdict
     item_8 e = rw (e₇, e) refl
 
     module _ (e₈ : below (first_unfit S) (length (table_of S)) ≡ false) where
-      pub item_9 : below (first_uneven S) (length (table_of S)) ≡ true → condition_verdict S ≡ Refused 9 (first_uneven S)
-      unfolding condition_verdict
+      pub item_9 : below (first_uneven S) (length (table_of S)) ≡ true → condition_verdict S ≡ Err (EvenRule (first_uneven S))
+      unfolding condition_verdict nodes_verdict even_verdict closed_verdict
       item_9 e = rw (e₇, e₈, e) refl
 
       module _ (e₉ : below (first_uneven S) (length (table_of S)) ≡ false) where
-        pub item_10 : closed (form_of (table_of S)) ≡ false → condition_verdict S ≡ Refused 10 (length (table_of S) - 1)
-        unfolding condition_verdict
+        pub item_10 : closed (form_of (table_of S)) ≡ false → condition_verdict S ≡ Err (FreeVariable (length (table_of S) - 1))
+        unfolding condition_verdict nodes_verdict even_verdict closed_verdict
         item_10 e = rw (e₇, e₈, e₉, e) refl
 
         pub no_item : closed (form_of (table_of S)) ≡ true → condition_verdict S ≡ Accepted
-        unfolding condition_verdict
+        unfolding condition_verdict nodes_verdict even_verdict closed_verdict
         no_item e = rw (e₇, e₈, e₉, e) refl
 
 -- ---- an accepted table meets none of them, and the other way
@@ -81,25 +117,27 @@ pub record Sound (S : List ℕ) : Type 0 where
   pub even_rule : even_table (table_of S) ≡ true
   pub is_closed : closed (form_of (table_of S)) ≡ true
 
-pass : (b : Bool) (n w : ℕ) (v : Verdict) → cond b (Refused n w) v ≡ Accepted → (b ≡ false) × (v ≡ Accepted)
-pass true n w v e = let z : ◌≡◌ {A = ℕ} 0 1 = cc in absurd (omega arith)
-pass false n w v e = (refl, e)
+chain : (a b c d : Bool) (r₇ r₈ r₉ r₁₀ : Refusal)
+    → cond a (Err r₇) (cond b (Err r₈) Accepted) then cond c (Err r₉) Accepted then cond d (Err r₁₀) Accepted ≡ Accepted
+    → (a ≡ false) × (b ≡ false) × (c ≡ false) × (d ≡ false)
+chain true b c d r₇ r₈ r₉ r₁₀ e = refused e
+chain false true c d r₇ r₈ r₉ r₁₀ e = refused e
+chain false false true d r₇ r₈ r₉ r₁₀ e = refused e
+chain false false false true r₇ r₈ r₉ r₁₀ e = refused e
+chain false false false false r₇ r₈ r₉ r₁₀ e = (refl, refl, refl, refl)
 
 pub accepted_sound : (S : List ℕ) → condition_verdict S ≡ Accepted → Sound S
-unfolding condition_verdict
+unfolding condition_verdict nodes_verdict even_verdict closed_verdict
 accepted_sound S e =
-    let p₇ = pass _ 7 0 _ e in
-    let p₈ = pass _ 8 (first_unfit S) _ p₇.1 in
-    let p₉ = pass _ 9 (first_uneven S) _ p₈.1 in
-    let p₁₀ = pass _ 10 (length (table_of S) - 1) _ p₉.1 in
-    let size = size_out (length S) (not-false _ p₇.0) in
+    let p = chain _ _ _ _ _ _ _ _ e in
+    let size = size_out (length S) (not-false _ p.0) in
     record {
       multiple = size.0;
       some = size.1;
       few = size.2;
-      fits = none-unfit S p₈.0;
-      even_rule = none-uneven S p₉.0;
-      is_closed = not-false _ p₁₀.0;
+      fits = none-unfit S p.1;
+      even_rule = none-uneven S p.2;
+      is_closed = not-false _ p.3;
     }
 
 sound_accepted : (S : List ℕ) → Sound S → condition_verdict S ≡ Accepted

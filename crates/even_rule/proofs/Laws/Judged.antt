@@ -1,9 +1,8 @@
 -- One check after another.
-use Rattle.std.specs.Prelude.{◌≡◌, List, ℕ}
-use Rattle.verdict.specs.Verdict.{◌then◌}
+use Rattle.std.specs.Prelude.{◌≡◌, List, ℕ, Err}
+use Rattle.verdict.specs.Verdict.{Verdict, Accepted, ◌then◌}
+use Rattle.verdict.specs.declared.Refusal.{Refusal}
 use Rattle.verdict.proofs.Laws.{refused}
-use Rattle.verdict.specs.declared.Verdict.{Verdict}
-use Rattle.verdict.specs.declared.Verdict.TheVariants.{Accepted, Refused}
 use Rattle.condition.specs.Refusal.{condition_verdict}
 use Rattle.even_rule.specs.Free.{FreeRows, FreeAfter, Checked}
 use Rattle.even_rule.specs.Judged.{Judged}
@@ -19,7 +18,7 @@ module _ {cond masks : List ℕ} where
   judged_condition k = record { verdict = k.verdict; rows = λ e. checked_rows k e }
 
   -- the first of two checks refuses
-  pub judged_refused : {u : Verdict} (w : Verdict) {item fault : ℕ} → u ≡ Refused item fault → Judged (u then w) cond masks (Refused item fault)
+  pub judged_refused : {u : Verdict} (w : Verdict) {r : Refusal} → u ≡ Err r → Judged (u then w) cond masks (Err r)
   judged_refused w e = record { verdict = rw e; rows = λ f. refused f }
 
   -- the first of two checks accepts, and the second judges

@@ -24,7 +24,7 @@ use Rattle.site.specs.Layout.{site_bytes}
 use Rattle.site.specs.Site.{site_of}
 use Rattle.condition.specs.Bytes.{table_of}
 use Rattle.condition.proofs.Laws.Bytes.{length_table}
-use Rattle.verdict.specs.declared.Verdict.TheVariants.{Accepted}
+use Rattle.verdict.specs.Verdict.{Accepted}
 use Rattle.condition.specs.Refusal.{condition_verdict}
 use Rattle.condition.proofs.Laws.Verdict.{Sound, accepted_sound}
 use Rattle.even_rule.specs.Free.{FreeRows}

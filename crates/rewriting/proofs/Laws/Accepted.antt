@@ -2,7 +2,7 @@
 use Rattle.std.specs.Prelude.{◌≡◌, true, false, List, ◌++◌, ℕ, ◌*◌, ◌≤◌, ◌<◌, length, take}
 use Rattle.std.proofs.Common.{sym, ◌∙◌, ap, arith, take_at}
 use Rattle.finite.proofs.Laws.Below.{not-below}
-use Rattle.verdict.specs.declared.Verdict.TheVariants.{Accepted}
+use Rattle.verdict.specs.Verdict.{Accepted}
 use Rattle.semantics.specs.Table.{Node}
 use Rattle.semantics.specs.Edit.{Edit, sheet_legal}
 use Rattle.semantics.specs.Block.{rewrite_table, rewrite_sheet}

@@ -1,12 +1,12 @@
 -- The passes of a sheet's edits over a table, the last one first.
-use Rattle.std.specs.Prelude.{◌≡◌, Bool, true, false, ℕ, zero, suc, ◌+◌, ◌*◌, ◌-◌, ◌/◌, ◌≤◌, ◌<◌, get_or, take, drop, refl, List, [], ◌∷◌, ◌++◌, length, replicate}
+use Rattle.std.specs.Prelude.{◌≡◌, Bool, true, false, ℕ, zero, suc, ◌+◌, ◌*◌, ◌-◌, ◌/◌, ◌≤◌, ◌<◌, get_or, take, drop, refl, List, [], ◌∷◌, ◌++◌, length, replicate, Err}
 use Rattle.std.proofs.Common.{sym, ◌∙◌, ap, subst, arith, not-suc-le-zero, length-append, drop_of_length-le, length-take-le, take_at, get_or-take, get_or-append-add, ext_get_or, ap₂}
 use Rattle.std.proofs.Math.ListN.{get_or-append}
 use Rattle.finite.specs.Tests.{below}
 use Rattle.finite.proofs.Laws.Bools.{either, look, clash, and_l, and_r, or_none}
 use Rattle.finite.proofs.Laws.Below.{below_in, below_out, below-not, not-below}
-use Rattle.verdict.specs.declared.Verdict.{Verdict}
-use Rattle.verdict.specs.declared.Verdict.TheVariants.{Accepted, Refused}
+use Rattle.verdict.specs.Verdict.{Verdict, Accepted}
+use Rattle.verdict.specs.declared.Refusal.TheVariants.{TableFull}
 use Rattle.semantics.specs.Edit.{Edit, DS, legal, sheet_legal}
 use Rattle.semantics.specs.Table.{Node, kind_no, nodes_fit}
 use Rattle.semantics.specs.Block.{emit, rewrite_table, Pass, passed}
@@ -210,7 +210,7 @@ module _ {pass : Pass} {es : List Edit} {xs : List Node} {o : List ℕ} {r : ℕ
   is_short h = either (look (is_too_long pass es xs)) (λ t. let g = P.long t in absurd (omega arith)) (λ f. f)
 
 -- zeros, where the table is too long
-pub finished_long : {o result result' : List ℕ} {r : ℕ} → table_nodes < r → result' ≡ replicate (length result) 0 → Finished o r result result' (Refused 14 0) 0
+pub finished_long : {o result result' : List ℕ} {r : ℕ} → table_nodes < r → result' ≡ replicate (length result) 0 → Finished o r result result' (Err TableFull) 0
 finished_long h e = record { long = λ _. (refl, refl, e); short = λ g. absurd (omega arith) }
 
 -- the table is copied into the result, o₁, and zeros follow it

@@ -1,5 +1,5 @@
 -- A sheet is accepted just where its bytes are those of at most 64 legal edits, which are edits of the edition in which it is read.
-use Rattle.std.specs.Prelude.{◌≡◌, refl, List, [], ◌∷◌, true, false, not, ℕ, zero, suc, ◌*◌, ◌/◌, ◌%◌, ◌≤◌, ◌<◌, length, get_or}
+use Rattle.std.specs.Prelude.{◌≡◌, refl, List, [], ◌∷◌, true, false, not, ℕ, zero, suc, ◌*◌, ◌/◌, ◌%◌, ◌≤◌, ◌<◌, length, get_or, Err}
 use Rattle.std.proofs.Common.{sym, ap, ◌∙◌, arith, drop_at}
 use Rattle.std.proofs.lemmas.Bool.{not-false}
 use Rattle.finite.specs.Tests.{same, below, any, first}
@@ -7,8 +7,8 @@ use Rattle.finite.proofs.Laws.Bools.{either, look, clash, no_true, and_in, and_l
 use Rattle.finite.proofs.Laws.Below.{same_eq, eq_same, below_in, below_out, below-not, not-below, any_none, none_any}
 use Rattle.finite.proofs.Laws.First.{first_is, first-none, first_past, none_start}
 use Rattle.semantics.specs.Edit.{Edit, legal, sheet_legal}
-use Rattle.verdict.specs.Verdict.{reason_of}
-use Rattle.verdict.specs.declared.Verdict.TheVariants.{Accepted, Refused}
+use Rattle.verdict.specs.Verdict.{Accepted, reason_of}
+use Rattle.verdict.specs.declared.Refusal.TheVariants.{MalformedEdit}
 use Rattle.sheet.specs.Bytes.{edit_at, edits_of, edit_bytes, bytes_of, in_edition, all_in_edition}
 use Rattle.sheet.specs.Refusal.{edit_fits, fits_at, faulty, sized, sheet_verdict}
 use Rattle.sheet.proofs.Laws.Read.{four_next, edits-length, edits-at, edits-back, read_in, four_bytes, bytes-length}
@@ -99,7 +99,7 @@ sheet_accepted d s es h =
     verdict_in s (sized_in s (omega arith) (omega (arith, h.few))) (none_any (length s / 4) (faulty s) f)
 
 -- a sheet of one edit that is not legal
-pub one_refused : (d : ℕ) (e : Edit) → in_edition d e ≡ true → legal e ≡ false → sheet_verdict (bytes_of (e ∷ [])) ≡ Refused 12 0
+pub one_refused : (d : ℕ) (e : Edit) → in_edition d e ≡ true → legal e ≡ false → sheet_verdict (bytes_of (e ∷ [])) ≡ Err (MalformedEdit 0)
 unfolding sheet_verdict faulty all_in_edition
 one_refused d e i l =
     let s = bytes_of (e ∷ []) in

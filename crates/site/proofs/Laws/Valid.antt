@@ -1,5 +1,5 @@
 -- The sites that are accepted are those of the right length that are valid.
-use Rattle.std.specs.Prelude.{◌≡◌, refl, ◌↔◌, ◌≢◌, false, ◌&&◌, ◌||◌, cond, List, length, get_or, Bool, true, not, ℕ, ◌<◌}
+use Rattle.std.specs.Prelude.{◌≡◌, refl, ◌↔◌, ◌≢◌, false, ◌&&◌, ◌||◌, cond, List, length, get_or, Bool, true, not, ℕ, ◌<◌, Err}
 use Rattle.std.proofs.Common.{sym, ◌∙◌, arith, ap}
 use Rattle.std.proofs.Math.Decide.{dec_lt}
 use Rattle.std.proofs.lemmas.Bool.{not-false}
@@ -10,7 +10,8 @@ use Rattle.limits.specs.Limits.{slots, labels, names, links}
 use Rattle.semantics.specs.Holds.{Model}
 use Rattle.semantics.specs.Edit.{functional, Valid}
 use Rattle.verdict.proofs.Laws.{refused}
-use Rattle.verdict.specs.declared.Verdict.TheVariants.{Accepted, Refused}
+use Rattle.verdict.specs.Verdict.{Accepted}
+use Rattle.verdict.specs.declared.Refusal.TheVariants.{SiteLength, Names, Labels, Links}
 use Rattle.site.specs.Layout.{site_bytes, target_at}
 use Rattle.site.specs.Site.{site_of}
 use Rattle.site.specs.Refusal.{item4, item5, item6, barred, touches, site_verdict}
@@ -31,7 +32,7 @@ accepted_out S e =
     (same_eq r.0, record { names_pass = r.1.0; labels_pass = r.1.1.0; links_pass = r.1.1.1 })
   where
     chain : (a b c d : Bool)
-        → cond (not a) (Refused 3 0) (cond b (Refused 4 0) (cond c (Refused 5 0) (cond d (Refused 6 0) Accepted))) ≡ Accepted
+        → cond (not a) (Err SiteLength) (cond b (Err Names) (cond c (Err Labels) (cond d (Err Links) Accepted))) ≡ Accepted
         → (a ≡ true) × ((b ≡ false) × ((c ≡ false) × (d ≡ false)))
     chain false b c d p = refused p
     chain true true c d p = refused p
@@ -39,7 +40,7 @@ accepted_out S e =
     chain true false false true p = refused p
     chain true false false false p = (refl, (refl, (refl, refl)))
 
-pub wrong_length : (S : List ℕ) → length S ≢ site_bytes → site_verdict S ≡ Refused 3 0
+pub wrong_length : (S : List ℕ) → length S ≢ site_bytes → site_verdict S ≡ Err SiteLength
 unfolding site_verdict
 wrong_length S h = rw (ne_same h)
 
@@ -48,7 +49,7 @@ unfolding site_verdict
 accepted_in S l h = rw (eq_same l, h.names_pass, h.labels_pass, h.links_pass)
 
 -- a label on slot 0 meets item 5
-pub nil_labelled : (S : List ℕ) → length S ≡ site_bytes → item4 (site_of S) ≡ false → (p : ℕ) → (site_of S).marked p 0 ≡ true → site_verdict S ≡ Refused 5 0
+pub nil_labelled : (S : List ℕ) → length S ≡ site_bytes → item4 (site_of S) ≡ false → (p : ℕ) → (site_of S).marked p 0 ≡ true → site_verdict S ≡ Err Labels
 unfolding site_verdict item5 barred slots
 nil_labelled S l h p m =
     let on : any slots (λ s. (site_of S).marked p s && barred (site_of S) s) ≡ true =

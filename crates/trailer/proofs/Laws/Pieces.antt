@@ -1,9 +1,10 @@
 -- The pieces of a file: where they start, and that with the trailer they are the whole file.
-use Rattle.std.specs.Prelude.{◌≡◌, refl, Bool, true, false, List, [], ◌++◌, ℕ, zero, suc, ◌+◌, ◌-◌, ◌≤◌, ◌<◌, length, take, drop}
+use Rattle.std.specs.Prelude.{◌≡◌, refl, Bool, true, false, List, [], ◌++◌, ℕ, zero, suc, ◌+◌, ◌-◌, ◌≤◌, ◌<◌, length, take, drop, Err}
 use Rattle.std.proofs.Common.{sym, ap, ◌∙◌, arith, length-drop, take-append-drop, drop-drop}
 use Rattle.std.proofs.Math.Nat.{sub-zero}
 use Rattle.finite.specs.Tests.{same}
-use Rattle.verdict.specs.declared.Verdict.TheVariants.{Accepted, Refused}
+use Rattle.verdict.specs.Verdict.{Accepted}
+use Rattle.verdict.specs.declared.Refusal.{Refusal}
 use Rattle.editions.specs.Edition.{known}
 use Rattle.editions.proofs.Laws.{known-true}
 use Rattle.trailer.specs.File.{trailer_bytes, trailer_at, number, start_of}
@@ -47,7 +48,7 @@ unfolding piece_in
 piece_is a e file p = rw p
 
 -- item 2 or 18 refuses the file
-pub piece_refused : (a e : ℕ) (file : List ℕ) {n w : ℕ} → trailer_verdict file ≡ Refused n w → piece_in a e file ≡ []
+pub piece_refused : (a e : ℕ) (file : List ℕ) {r : Refusal} → trailer_verdict file ≡ Err r → piece_in a e file ≡ []
 piece_refused a e file v = piece_none a e file (refused_unknown file v)
 
 -- ---- what the trailer is read as

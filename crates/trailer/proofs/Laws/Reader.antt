@@ -1,10 +1,11 @@
 -- A site, a condition and a sheet that are put together to a file, with an edition, are read back from it.
-use Rattle.std.specs.Prelude.{◌≡◌, ◌⊎◌, ℕ, ◌+◌, ◌*◌, ◌-◌, ◌/◌, ◌%◌, ◌≤◌, ◌<◌, replicate, refl, List, [], ◌∷◌, ◌++◌, length}
+use Rattle.std.specs.Prelude.{◌≡◌, ◌⊎◌, ℕ, ◌+◌, ◌*◌, ◌-◌, ◌/◌, ◌%◌, ◌≤◌, ◌<◌, replicate, refl, List, [], ◌∷◌, ◌++◌, length, Err}
 use Rattle.std.proofs.Common.{ap, ◌∙◌, add_assoc, arith, get_or-append-add, take_at, drop_at, sym, append_assoc, length-append}
 use Rattle.std.proofs.Math.Nat.{div-div-eq-div-mul}
 use Rattle.finite.specs.Tests.{same}
 use Rattle.finite.proofs.Laws.Bools.{either}
-use Rattle.verdict.specs.declared.Verdict.TheVariants.{Accepted, Refused}
+use Rattle.verdict.specs.Verdict.{Accepted}
+use Rattle.verdict.specs.declared.Refusal.TheVariants.{Edition}
 use Rattle.editions.specs.Edition.{second, known, edition_verdict}
 use Rattle.editions.proofs.Laws.{edition_refused, known-true, known_out, known_in}
 use Rattle.trailer.specs.File.{trailer_bytes, file_limit, trailer_at, quad_at, quad_limit, number, start_of}
@@ -158,6 +159,6 @@ unfolding file_of quad_bytes
 least_file d k = file_accepted d [] [] [] (omega arith) (known_in d k)
 
 -- sixteen zeros have no edition
-pub sixteen_zeros : trailer_verdict (replicate 16 0) ≡ Refused 18 0
+pub sixteen_zeros : trailer_verdict (replicate 16 0) ≡ Err Edition
 unfolding file_of quad_bytes known same
 sixteen_zeros = file_verdict_lem 0 [] [] [] (omega arith) (omega arith) ∙ edition_refused 0 refl

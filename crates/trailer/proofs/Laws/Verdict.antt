@@ -1,11 +1,13 @@
 -- What items 2 and 18 say of a file's length, distances and edition, and what a verdict on it is.
-use Rattle.std.specs.Prelude.{◌≡◌, true, false, not, ◌||◌, List, ℕ, ◌≤◌, ◌<◌, length}
+use Rattle.std.specs.Prelude.{◌≡◌, true, false, not, ◌||◌, List, ℕ, ◌≤◌, ◌<◌, length, Err}
 use Rattle.std.proofs.Common.{sym, ap, ◌∙◌}
 use Rattle.std.proofs.lemmas.Bool.{not-false}
 use Rattle.finite.specs.Tests.{same, below}
 use Rattle.finite.proofs.Laws.Bools.{either, look, or_none}
 use Rattle.finite.proofs.Laws.Below.{same_eq, eq_same, below_in, below-not, not-below}
-use Rattle.verdict.specs.declared.Verdict.TheVariants.{Accepted, Refused}
+use Rattle.verdict.specs.Verdict.{Accepted}
+use Rattle.verdict.specs.declared.Refusal.{Refusal}
+use Rattle.verdict.specs.declared.Refusal.TheVariants.{File, Edition}
 use Rattle.verdict.proofs.Laws.{refused}
 use Rattle.editions.specs.Edition.{known, edition_verdict}
 use Rattle.editions.proofs.Laws.{edition_known, edition_refused}
@@ -73,7 +75,7 @@ unfolding edition_in
 edition_fourth file p = rw p
 
 -- the verdict by the tests, and back
-pub trailer_refused : (file : List ℕ) → item2 file ≡ true → trailer_verdict file ≡ Refused 2 0
+pub trailer_refused : (file : List ℕ) → item2 file ≡ true → trailer_verdict file ≡ Err File
 unfolding trailer_verdict
 trailer_refused file p = rw p
 
@@ -81,7 +83,7 @@ pub trailer_edition : (file : List ℕ) → item2 file ≡ false → trailer_ver
 unfolding trailer_verdict
 trailer_edition file p = rw p
 
-pub trailer_unknown : (file : List ℕ) → item2 file ≡ false → known (edition_in file) ≡ false → trailer_verdict file ≡ Refused 18 0
+pub trailer_unknown : (file : List ℕ) → item2 file ≡ false → known (edition_in file) ≡ false → trailer_verdict file ≡ Err Edition
 trailer_unknown file p k = trailer_edition file p ∙ edition_refused _ k
 
 pub trailer_accepted : (file : List ℕ) → item2 file ≡ false → known (edition_in file) ≡ true → trailer_verdict file ≡ Accepted
@@ -100,7 +102,7 @@ pub laid_accepted : (file : List ℕ) → Laid file → known (edition_in file) 
 laid_accepted file l k = trailer_accepted file (unrefused file l) k
 
 -- a file that is refused, with either number, has no known edition
-pub refused_unknown : (file : List ℕ) {n w : ℕ} → trailer_verdict file ≡ Refused n w → known (edition_in file) ≡ false
+pub refused_unknown : (file : List ℕ) {r : Refusal} → trailer_verdict file ≡ Err r → known (edition_in file) ≡ false
 unfolding known same
 refused_unknown file v =
     either

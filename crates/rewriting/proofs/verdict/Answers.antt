@@ -1,7 +1,0 @@
--- `rewriting::verdict` gives the verdict of each case.
-use Rattle.std.proofs.Common.{sym, ap}
-use Rattle.rewriting.specs.Answer.{verdict_of}
-use Rattle.rewriting.proofs.verdict.Goals as goal
-
-pub returns-in-Refused : goal.returns-in-Refused
-returns-in-Refused c = sym (ap verdict_of c.in-Refused.is)
