@@ -7,7 +7,7 @@ ghost use Rattle.finite.specs.Tests as tests;
 ghost use Rattle.bitset.specs.Set.{set_slots, has, Is};
 ghost use Rattle.set_exports.specs.Length.{IfSet};
 
-use bitset::SET_BYTES;
+use bitset::{SET_BYTES, SlotSet};
 
 // The slots of either set, into `dst`.
 #[tactic(auto, using(crate::proofs::Laws::Length::is_set, crate::proofs::Laws::Length::not_set))]
@@ -21,7 +21,7 @@ pub extern "C" fn set_union(dst: &mut [u8], src: &[u8])
     if src.len() != SET_BYTES {
         return;
     }
-    set_algebra::union_with(dst, src)
+    (SlotSet::read(dst) | SlotSet::read(src)).write(dst)
 }
 
 // The slots of both sets; `into` gets them.
@@ -36,7 +36,7 @@ pub extern "C" fn set_meet(into: &mut [u8], other: &[u8])
     if other.len() != SET_BYTES {
         return;
     }
-    set_algebra::meet_with(into, other)
+    (SlotSet::read(into) & SlotSet::read(other)).write(into)
 }
 
 // The slots that were not in the set.
@@ -48,7 +48,7 @@ pub extern "C" fn set_complement(slots: &mut [u8])
     if slots.len() != SET_BYTES {
         return;
     }
-    set_algebra::complement(slots)
+    (!SlotSet::read(slots)).write(slots)
 }
 
 // Do the two sets have the same slots?
@@ -63,7 +63,7 @@ pub extern "C" fn set_equal(a: &[u8], b: &[u8]) -> bool
     if b.len() != SET_BYTES {
         return false;
     }
-    set_algebra::equal(a, b)
+    SlotSet::read(a) == SlotSet::read(b)
 }
 
 // How many slots the set holds.
@@ -75,5 +75,5 @@ pub extern "C" fn set_count(set: &[u8]) -> u32
     if set.len() != SET_BYTES {
         return 0;
     }
-    bitset::count(set)
+    SlotSet::read(set).len()
 }
