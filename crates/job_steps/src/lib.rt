@@ -58,7 +58,7 @@ fn list(site: &[u8], part: &[u8], limit: u32, today: &mut [u8], work: &mut [u8])
     ensures work_after { work.new ≡ replicate work_bytes 0 }
 {
     let mut free = even_rule::no_masks();
-    even_rule::check(part, &mut free);
+    let _ = even_rule::check(part, &mut free);
     listing::list(site, part, &free, limit, today, work)
 }
 

@@ -47,9 +47,9 @@ tried_refused d = record {
   left = tt;
 }
 
-pub judge_refused : (edition : ℕ) {site cond sheet free' : List ℕ} {r : Refusal}
+pub judge_refused : (edition : ℕ) (site cond sheet : List ℕ) {free' : List ℕ} {r : Refusal}
     → even_rule.Judged (site_verdict site then condition_verdict cond then sheet_verdict sheet) cond free' (Err r) → pieces_verdict edition site cond sheet ≡ Err r
-judge_refused edition {site} {cond} {sheet} j = rw (pieces_then edition site cond sheet, sym j.verdict)
+judge_refused edition site cond sheet j = rw (pieces_then edition site cond sheet, sym j.verdict)
 
 -- items 3 to 12 are not met
 module _ {edition : ℕ} {site cond sheet free' changed changed' table table' : List ℕ}
@@ -144,6 +144,11 @@ module _ {edition limit n : ℕ} {site cond sheet free' changed changed' table t
 
 -- ---- a refusal leaves zeros
 
+abbrev pub SameLengths : (b b' : Buffers) → Type 0
+SameLengths b b' =
+    (length b'.changed ≡ length b.changed) × (length b'.table ≡ length b.table) × (length b'.after ≡ length b.after)
+    × (length b'.today ≡ length b.today) × (length b'.classes ≡ length b.classes) × (length b'.work ≡ length b.work)
+
 pub zeros_left : {edition : ℕ} {site cond sheet : List ℕ} {b b' : Buffers} {r : Refusal} → Zeros b b'
     → JobAfter edition (Err r) site cond sheet b b' (found_of 0 0) (found_of 0 0) 0 0
 unfolding SiteAfter TableAfter SetAfter ClassesAfter
@@ -154,6 +159,17 @@ zeros_left z = record {
   list_today = (z.today_zero, (refl, refl));
   classes_after = (z.classes_zero, refl);
   work_zero = z.work_zero;
+}
+
+-- the buffers may have been written before, at the lengths that they have
+pub zeros_of : {b b' b'' : Buffers} → SameLengths b b' → Zeros b' b'' → Zeros b b''
+zeros_of l z = record {
+  changed_zero = z.changed_zero ∙ ap (λ (k : ℕ). replicate k 0) l.0;
+  table_zero = z.table_zero ∙ ap (λ (k : ℕ). replicate k 0) l.1;
+  after_zero = z.after_zero ∙ ap (λ (k : ℕ). replicate k 0) l.2;
+  today_zero = z.today_zero ∙ ap (λ (k : ℕ). replicate k 0) l.3;
+  classes_zero = z.classes_zero ∙ ap (λ (k : ℕ). replicate k 0) l.4;
+  work_zero = z.work_zero ∙ ap (λ (k : ℕ). replicate k 0) l.5;
 }
 
 -- ---- the job answers
