@@ -1,6 +1,6 @@
 -- What the inner function of applying promises: its verdict, and what it leaves. The buffer is named twice: as it was, and as it is at return (').
 use Rattle.std.specs.Prelude.{◌≡◌, List, ℕ, length}
-use Rattle.verdict.specs.declared.Verdict.{Verdict}
+use Rattle.verdict.specs.Verdict.{Verdict}
 use Rattle.apply_entry.specs.Refusal.{apply_verdict}
 use Rattle.apply_entry.specs.Applying.{SiteAfter}
 

@@ -1,8 +1,7 @@
 -- What applying leaves in its buffer after a verdict. The buffer is named twice: as it was, and as it is at return (').
-use Rattle.std.specs.Prelude.{◌≡◌, List, ℕ, length, replicate}
+use Rattle.std.specs.Prelude.{◌≡◌, List, ℕ, length, replicate, Ok, Err}
 use Rattle.finite.specs.Bytes.{Bytes}
-use Rattle.verdict.specs.declared.Verdict.{Verdict}
-use Rattle.verdict.specs.declared.Verdict.TheVariants.{Accepted, Refused}
+use Rattle.verdict.specs.Verdict.{Verdict}
 use Rattle.semantics.specs.Edit as edits
 use Rattle.site.specs.Layout.{site_bytes}
 use Rattle.site.specs.Site.{site_of}
@@ -16,5 +15,5 @@ pub record SiteWritten (edition : ℕ) (site sheet result' : List ℕ) : Type 0 
 
 -- the result after a verdict: the site that the whole sheet leaves; zeros where an input is refused
 unfoldable pub SiteAfter : (edition : ℕ) → Verdict → (site sheet result result' : List ℕ) → Type 0
-SiteAfter edition Accepted site sheet result result' = SiteWritten edition site sheet result'
-SiteAfter edition (Refused item w) site sheet result result' = result' ≡ replicate (length result) 0
+SiteAfter edition (Ok _) site sheet result result' = SiteWritten edition site sheet result'
+SiteAfter edition (Err r) site sheet result result' = result' ≡ replicate (length result) 0

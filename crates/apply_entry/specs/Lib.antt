@@ -4,5 +4,3 @@ pub mod Refusal
 pub mod Applying
 -- what its inner function promises
 pub mod Answered
--- what an inner function tests
-pub mod Inputs

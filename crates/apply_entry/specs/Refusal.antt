@@ -1,7 +1,6 @@
 -- Which inputs applying refuses: the items of docs/SPEC.md, "Reasons", in their order.
 use Rattle.std.specs.Prelude.{List, ℕ}
-use Rattle.verdict.specs.Verdict.{◌then◌}
-use Rattle.verdict.specs.declared.Verdict.{Verdict}
+use Rattle.verdict.specs.Verdict.{Verdict, ◌then◌}
 use Rattle.site.specs.Layout.{site_bytes}
 use Rattle.site.specs.Site.{site_of}
 use Rattle.site.specs.Refusal.{site_verdict}

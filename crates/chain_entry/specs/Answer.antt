@@ -1,24 +1,15 @@
--- The number, W, and the two numbers of the chain for each case of the answer.
-use Rattle.std.specs.Prelude.{ℕ}
-use Rattle.verdict.specs.declared.Verdict.{Verdict}
-use Rattle.verdict.specs.declared.Verdict.TheVariants as verdict
-use Rattle.chain_entry.specs.declared.Chaining.{Chaining}
-use Rattle.chain_entry.specs.declared.Chaining.TheVariants.{Given, Reached, Refused}
-
--- the verdict, of which `reason_of` gives the number (0 where no item is met) and `fault_of` gives W
-abbrev pub verdict_of : Chaining → Verdict
-verdict_of (Given n) = verdict.Accepted
-verdict_of Reached = verdict.Accepted
-verdict_of (Refused item w) = verdict.Refused item w
+-- The two numbers of the chain in its answer; both are 0 where none is given, and where the inputs are refused.
+use Rattle.std.specs.Prelude.{ℕ, Option, Some, None, Result, Ok, Err}
+use Rattle.verdict.specs.declared.Refusal.{Refusal}
 
 -- 1 where a chain is given
-abbrev pub found_of : Chaining → ℕ
-found_of (Given n) = 1
-found_of Reached = 0
-found_of (Refused item w) = 0
+abbrev pub found_of : Result (Option ℕ) Refusal → ℕ
+found_of (Ok (Some n)) = 1
+found_of (Ok None) = 0
+found_of (Err r) = 0
 
 -- how many steps it has
-abbrev pub steps_of : Chaining → ℕ
-steps_of (Given n) = n
-steps_of Reached = 0
-steps_of (Refused item w) = 0
+abbrev pub steps_of : Result (Option ℕ) Refusal → ℕ
+steps_of (Ok (Some n)) = n
+steps_of (Ok None) = 0
+steps_of (Err r) = 0

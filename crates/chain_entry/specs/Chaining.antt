@@ -1,8 +1,7 @@
 -- What the chain leaves in its buffers after a verdict, and its two numbers. A buffer is named twice: as it was, and as it is at return (').
-use Rattle.std.specs.Prelude.{◌≡◌, ◌⊎◌, List, ℕ, length, replicate}
+use Rattle.std.specs.Prelude.{◌≡◌, ◌⊎◌, List, ℕ, length, replicate, Ok, Err}
 use Rattle.bitset.specs.Set.{set_bytes}
-use Rattle.verdict.specs.declared.Verdict.{Verdict}
-use Rattle.verdict.specs.declared.Verdict.TheVariants.{Accepted, Refused}
+use Rattle.verdict.specs.Verdict.{Verdict}
 use Rattle.semantics.specs.Holds.{Env, Holds}
 use Rattle.semantics.specs.Table.{way_of, form_of}
 use Rattle.site.specs.Site.{site_of}
@@ -31,9 +30,9 @@ pub record GivesSet (site table : List ℕ) (way start : ℕ) (chain' set' : Lis
 
 -- after the verdict Accepted one of the two; zeros after a refusal
 unfoldable pub Gives : Verdict → (site table : List ℕ) (way start : ℕ) (chain chain' set set' : List ℕ) (found steps : ℕ) → Type 0
-Gives Accepted site table way start chain chain' set set' found steps =
+Gives (Ok _) site table way start chain chain' set set' found steps =
     GivesChain site table way start chain' set' found steps ⊎ GivesSet site table way start chain' set' found steps
-Gives (Refused item w) site table way start chain chain' set set' found steps =
+Gives (Err r) site table way start chain chain' set set' found steps =
     (chain' ≡ replicate (length chain) 0) × (set' ≡ replicate (length set) 0) × (found ≡ 0) × (steps ≡ 0)
 
 -- and a work buffer of zeros

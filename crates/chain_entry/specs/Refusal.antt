@@ -1,8 +1,7 @@
 -- Which inputs the chain refuses: the items of docs/SPEC.md, "Reasons", in their order, with 17 after 10.
 use Rattle.std.specs.Prelude.{List, ℕ}
 use Rattle.bitset.specs.Set.{set_bytes}
-use Rattle.verdict.specs.Verdict.{◌then◌}
-use Rattle.verdict.specs.declared.Verdict.{Verdict}
+use Rattle.verdict.specs.Verdict.{Verdict, ◌then◌}
 use Rattle.site.specs.Site.{site_of}
 use Rattle.listing.specs.Listed.{work_bytes}
 use Rattle.refusals.specs.Refusal.{buffer_verdict, start_verdict}

@@ -1,40 +1,31 @@
-// The chain behind a place, for every input: the inputs are judged, the goal is listed, and the chain or the set is given.
+// The chain behind a place, for every input: the items are tested in their order, the goal is listed, and the chain or the set is given.
 #![tactic(auto)]
 
-ghost use Rattle.std.specs.Prelude.{◌≡◌, ◌<◌, length, replicate};
+ghost use Rattle.std.specs.Prelude.{◌≡◌, ◌<◌, length, replicate, IsOk, IfOk};
 ghost use Rattle.bitset.specs.Set.{set_bytes, set_slots};
 ghost use Rattle.limits.specs.Limits.{every_way, table_nodes};
-ghost use Rattle.verdict.specs.Verdict.{◌then◌};
-ghost use Rattle.verdict.specs.declared.Verdict.TheVariants.{Accepted};
+ghost use Rattle.verdict.specs.Verdict.{Accepted, outcome};
 ghost use Rattle.site.specs.Layout.{site_bytes};
 ghost use Rattle.site.specs.Site.{site_of};
 ghost use Rattle.condition.specs.Refusal.{condition_verdict};
-ghost use Rattle.even_rule.specs.Free.{FreeRows, no_masks};
-ghost use Rattle.even_rule.specs.Judged.{Judged};
+ghost use Rattle.even_rule.specs.Free.{FreeRows};
 ghost use Rattle.listing.specs.Listed.{work_bytes};
 ghost use Rattle.refusals.specs.Refusal.{start_is_fit, start_verdict};
-ghost use Rattle.list_entry.specs.Refusal.{pair_verdict};
 ghost use Rattle.chains.specs.Given.{chain_bytes};
-ghost use Rattle.chain_entry.specs.Answer.{verdict_of, found_of, steps_of};
-ghost use Rattle.chain_entry.specs.Answered.{ChainJudged, Searched, ChainAnswered};
+ghost use Rattle.chain_entry.specs.Refusal.{chain_verdict};
+ghost use Rattle.chain_entry.specs.Answer.{found_of, steps_of};
+ghost use Rattle.chain_entry.specs.Answered.{Searched, ChainAnswered};
 
 use bitset::{SET_BYTES, SET_SLOTS};
 use chaining::CHAIN_BYTES;
 use listing::WORK_BYTES;
-use verdict::Verdict;
+use refusals::check_length;
+use verdict::Refusal;
 
 // The ways of a chain are those before the one that leads everywhere.
 const EVERY: u32 = limits::EVERY as u32;
 
 const SLOTS: u32 = SET_SLOTS as u32;
-
-// The answer: the steps of the chain that is given; that the set is given; or the item that is met and its W.
-#[derive(Clone, Copy)]
-pub enum Chaining {
-    Given(u32),
-    Reached,
-    Refused(u8, u16),
-}
 
 // Is the way one of 0 to 15, and the start a present slot?
 fn start_fits(site: &[u8], way: u32, start: u32) -> bool
@@ -51,55 +42,18 @@ fn start_fits(site: &[u8], way: u32, start: u32) -> bool
 }
 
 // Item 17.
-fn judge_start(site: &[u8], way: u32, start: u32) -> Verdict
+fn check_start(site: &[u8], way: u32, start: u32) -> Result<(), Refusal>
     requires { length site.now ≡ site_bytes }
     ensures { result ≡ start_verdict (site_of site.now) way start }
 {
     if start_fits(site, way, start) {
-        return Verdict::Accepted;
-    }
-    Verdict::Refused(17, 0)
-}
-
-// Items 3 to 10 of the site and the condition, then 17. The free variables of an accepted condition's nodes are written to `free`.
-fn judge_inputs(site: &[u8], cond: &[u8], way: u32, start: u32, free: &mut [u16]) -> Verdict
-    requires { free.old ≡ no_masks }
-    ensures { Judged (pair_verdict site.now cond.now then start_verdict (site_of site.now) way start) cond.now free.new result }
-{
-    let v = list_entry::judge_pair(site, cond, free);
-    match v {
-        Verdict::Accepted => judge_start(site, way, start),
-        Verdict::Refused(item, fault) => Verdict::Refused(item, fault),
+        Ok(())
+    } else {
+        Err(Refusal::Start)
     }
 }
 
-// The first item that is met, from the lengths of the three buffers and the other inputs.
-fn judge(
-    chain: usize,
-    set: usize,
-    work: usize,
-    site: &[u8],
-    cond: &[u8],
-    way: u32,
-    start: u32,
-    free: &mut [u16],
-) -> Verdict
-    requires { free.old ≡ no_masks }
-    ensures { ChainJudged chain set work site.now cond.now way start free.new result }
-{
-    if chain != CHAIN_BYTES {
-        return Verdict::Refused(1, 0);
-    }
-    if set != SET_BYTES {
-        return Verdict::Refused(1, 0);
-    }
-    if work != WORK_BYTES {
-        return Verdict::Refused(1, 0);
-    }
-    judge_inputs(site, cond, way, start, free)
-}
-
-// Lists the goal, however many rounds that makes, and gives the chain or the set. No item is met.
+// Lists the goal, however many rounds that makes, and gives the chain and how many steps it has, or the set.
 fn search(
     site: &[u8],
     cond: &[u8],
@@ -109,7 +63,7 @@ fn search(
     chain: &mut [u8],
     set: &mut [u8],
     work: &mut [u8],
-) -> Chaining
+) -> Option<u32>
     requires site_len { length site.now ≡ site_bytes }
     requires cond_value { condition_verdict cond.now ≡ Accepted }
     requires free_len { (length free.now ≡ table_nodes) × FreeRows cond.now free.now }
@@ -121,25 +75,37 @@ fn search(
     listing::list_all(site, cond, free, set, work);
     let n = chaining::search(site, way as u8, start as usize, chain, set, work);
     if n < SET_SLOTS {
-        return Chaining::Given(n as u32);
+        return Some(n as u32);
     }
-    Chaining::Reached
+    None
 }
 
-// The answer where an item is met: every result and work buffer becomes zeros.
-fn refused(chain: &mut [u8], set: &mut [u8], work: &mut [u8], item: u8, fault: u16) -> Chaining
-    ensures value { result ≡ Chaining.Refused item fault }
-    ensures chain_after { chain.new ≡ replicate (length chain.old) 0 }
-    ensures set_after { set.new ≡ replicate (length set.old) 0 }
-    ensures work_after { work.new ≡ replicate (length work.old) 0 }
+#[tactic(auto, unfolding(crate::specs::Refusal::chain_verdict))]
+fn try_chain(
+    site: &[u8],
+    cond: &[u8],
+    way: u32,
+    start: u32,
+    chain: &mut [u8],
+    set: &mut [u8],
+    work: &mut [u8],
+) -> Result<Option<u32>, Refusal>
+    ensures verdict { outcome result ≡ chain_verdict (length chain.old) (length set.old) (length work.old) site.now cond.now way start }
+    ensures searched { IfOk result (Searched site.now cond.now way start chain.new set.new) }
+    ensures work_after { IsOk result → work.new ≡ replicate (length work.old) 0 }
 {
-    buffer::zero(chain);
-    buffer::zero(set);
-    buffer::zero(work);
-    Chaining::Refused(item, fault)
+    check_length(chain, CHAIN_BYTES)?; // item 1
+    check_length(set, SET_BYTES)?;
+    check_length(work, WORK_BYTES)?;
+    site::check(site)?; // 3 to 6
+    let mut free = even_rule::no_masks();
+    even_rule::check(cond, &mut free)?; // 7 to 10
+    check_start(site, way, start)?; // 17
+    Ok(search(site, cond, &free, way, start, chain, set, work))
 }
 
-// The chain from the start along the way to a slot that the condition lists, or the set of the slots that can be reached.
+// The chain from the start along the way to a slot that the condition lists, with how many steps it has; where there is none, the set of the slots
+// that can be reached. Where an item is met the three buffers become zeros, whatever their lengths.
 pub fn chain(
     site: &[u8],
     cond: &[u8],
@@ -148,16 +114,14 @@ pub fn chain(
     chain: &mut [u8],
     set: &mut [u8],
     work: &mut [u8],
-) -> Chaining
-    ensures { ChainAnswered site.now cond.now way start chain.old chain.new set.old set.new work.old work.new (verdict_of result) (found_of result) (steps_of result) }
+) -> Result<Option<u32>, Refusal>
+    ensures { ChainAnswered site.now cond.now way start chain.old chain.new set.old set.new work.old work.new (outcome result) (found_of result) (steps_of result) }
 {
-    let mut free = even_rule::no_masks();
-    let c = chain.len();
-    let s = set.len();
-    let w = work.len();
-    let v = judge(c, s, w, site, cond, way, start, &mut free);
-    match v {
-        Verdict::Accepted => search(site, cond, &free, way, start, chain, set, work),
-        Verdict::Refused(item, fault) => refused(chain, set, work, item, fault),
+    let answer = try_chain(site, cond, way, start, chain, set, work);
+    if answer.is_err() {
+        chain.fill(0);
+        set.fill(0);
+        work.fill(0);
     }
+    answer
 }

@@ -1,16 +1,8 @@
--- The number, W and count for each case of the answer.
-use Rattle.std.specs.Prelude.{ℕ}
-use Rattle.verdict.specs.declared.Verdict.{Verdict}
-use Rattle.verdict.specs.declared.Verdict.TheVariants as verdict
-use Rattle.classes_entry.specs.declared.Classing.{Classing}
-use Rattle.classes_entry.specs.declared.Classing.TheVariants.{Numbered, Refused}
+-- The count in the answer.
+use Rattle.std.specs.Prelude.{ℕ, Result, Ok, Err}
+use Rattle.verdict.specs.declared.Refusal.{Refusal}
 
--- the verdict, of which `reason_of` gives the number (0 where no item is met) and `fault_of` gives W
-abbrev pub verdict_of : Classing → Verdict
-verdict_of (Numbered n) = verdict.Accepted
-verdict_of (Refused item w) = verdict.Refused item w
-
--- how many different class numbers
-abbrev pub count_of : Classing → ℕ
-count_of (Numbered n) = n
-count_of (Refused item w) = 0
+-- how many different class numbers, 0 where the inputs are refused
+abbrev pub count_of : Result ℕ Refusal → ℕ
+count_of (Ok n) = n
+count_of (Err r) = 0

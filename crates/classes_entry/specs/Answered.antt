@@ -1,7 +1,7 @@
 -- What the inner function of numbering the classes promises: its verdict, and what it leaves. The buffer is named twice: as it was, and as it
 -- is at return (').
 use Rattle.std.specs.Prelude.{◌≡◌, List, ℕ, length}
-use Rattle.verdict.specs.declared.Verdict.{Verdict}
+use Rattle.verdict.specs.Verdict.{Verdict}
 use Rattle.classes_entry.specs.Refusal.{classes_verdict}
 use Rattle.classes_entry.specs.Classing.{ClassesAfter}
 

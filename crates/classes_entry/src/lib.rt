@@ -1,34 +1,19 @@
-// Class numbers, for every input: the inputs are judged, then the slots are numbered or it refuses.
+// Class numbers, for every input: the items are tested in their order, and the slots are numbered.
 #![tactic(auto)]
 
-ghost use Rattle.std.specs.Prelude.{◌≡◌, length, replicate};
+ghost use Rattle.std.specs.Prelude.{◌≡◌, length, IfOk};
+ghost use Rattle.verdict.specs.Verdict.{outcome};
 ghost use Rattle.site.specs.Layout.{site_bytes};
 ghost use Rattle.site.specs.Site.{site_of};
 ghost use Rattle.classes.specs.Classes.{Classes, different};
 ghost use Rattle.classes_entry.specs.Refusal.{classes_bytes, classes_verdict};
-ghost use Rattle.classes_entry.specs.Answer.{verdict_of, count_of};
+ghost use Rattle.classes_entry.specs.Answer.{count_of};
 ghost use Rattle.classes_entry.specs.Answered.{ClassesAnswered};
 
-use verdict::Verdict;
+use refusals::check_length;
+use verdict::Refusal;
 
 const CLASSES_BYTES: usize = 256;
-
-// The answer: how many different class numbers there are, or the item that is met and its W.
-#[derive(Clone, Copy)]
-pub enum Classing {
-    Numbered(u32),
-    Refused(u8, u16),
-}
-
-// The first of items 1 and 3 to 6 that the inputs meet, from the length of the buffer for the numbers, and the site.
-fn judge(len: usize, site: &[u8]) -> Verdict
-    ensures { result ≡ classes_verdict len site.now }
-{
-    if len != CLASSES_BYTES {
-        return Verdict::Refused(1, 0);
-    }
-    site::check(site)
-}
 
 // Writes the class number of each slot of any bytes of a site's length, and answers how many different ones there are.
 pub fn number(site: &[u8], classes: &mut [u8]) -> u32
@@ -41,42 +26,24 @@ pub fn number(site: &[u8], classes: &mut [u8]) -> u32
     classes::count(&numbers)
 }
 
-// The answer to inputs that meet an item: the buffer becomes zeros.
-fn refused(classes: &mut [u8], item: u8, fault: u16) -> Classing
-    ensures value { result ≡ Classing.Refused item fault }
-    ensures classes_after { classes.new ≡ replicate (length classes.old) 0 }
+#[tactic(auto, unfolding(crate::specs::Refusal::classes_verdict))]
+fn try_classes(site: &[u8], classes: &mut [u8]) -> Result<u32, Refusal>
+    ensures verdict { outcome result ≡ classes_verdict (length classes.old) site.now }
+    ensures numbered { IfOk result (λ n. Classes (site_of site.now) classes.new × (n ≡ different classes.new)) }
 {
-    buffer::zero(classes);
-    Classing::Refused(item, fault)
+    check_length(classes, CLASSES_BYTES)?; // item 1
+    site::check(site)?; // 3 to 6
+    Ok(number(site, classes))
 }
 
-// Writes the class number of each of the site's slots, and answers how many different ones there are.
-pub fn classes(site: &[u8], classes: &mut [u8]) -> Classing
-    ensures { ClassesAnswered site.now classes.old classes.new (verdict_of result) (count_of result) }
+// Writes the class number of each of the site's slots, and answers how many different ones there are. Where an item is met the buffer becomes
+// zeros, whatever its length.
+pub fn classes(site: &[u8], classes: &mut [u8]) -> Result<u32, Refusal>
+    ensures { ClassesAnswered site.now classes.old classes.new (outcome result) (count_of result) }
 {
-    let v = judge(classes.len(), site);
-    match v {
-        Verdict::Accepted => Classing::Numbered(number(site, classes)),
-        Verdict::Refused(item, fault) => refused(classes, item, fault),
+    let answer = try_classes(site, classes);
+    if answer.is_err() {
+        classes.fill(0);
     }
-}
-
-// The outcome in the answer: accepted, or the item and its W.
-pub fn verdict(r: Classing) -> Verdict
-    ensures { result ≡ verdict_of r }
-{
-    match r {
-        Classing::Numbered(_) => Verdict::Accepted,
-        Classing::Refused(item, fault) => Verdict::Refused(item, fault),
-    }
-}
-
-// How many different class numbers there are, 0 for a refusal.
-pub fn count(r: Classing) -> u32
-    ensures { result ≡ count_of r }
-{
-    match r {
-        Classing::Numbered(n) => n,
-        Classing::Refused(_, _) => 0,
-    }
+    answer
 }

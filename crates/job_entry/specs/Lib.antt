@@ -2,5 +2,3 @@
 pub mod Refusal
 -- what its inner function promises
 pub mod Answered
--- item 1 by one test
-pub mod Steps

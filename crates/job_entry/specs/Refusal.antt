@@ -1,8 +1,7 @@
 -- Which jobs are refused: the items of docs/SPEC.md, "Reasons", in their order.
 use Rattle.std.specs.Prelude.{List, ℕ, length}
 use Rattle.bitset.specs.Set.{set_bytes}
-use Rattle.verdict.specs.Verdict.{◌then◌}
-use Rattle.verdict.specs.declared.Verdict.{Verdict}
+use Rattle.verdict.specs.Verdict.{Verdict, ◌then◌}
 use Rattle.site.specs.Layout.{site_bytes}
 use Rattle.limits.specs.Limits.{table_bytes}
 use Rattle.trailer.specs.Refusal.{edition_in, trailer_verdict}

@@ -2,55 +2,48 @@
 #![tactic(auto)]
 
 ghost use Rattle.std.specs.Prelude.{◌≡◌};
-ghost use Rattle.verdict.specs.Verdict.{◌then◌};
-ghost use Rattle.trailer.specs.Refusal.{file_verdict};
-ghost use Rattle.refusals.specs.Refusal.{limit_verdict};
+ghost use Rattle.verdict.specs.Verdict.{outcome};
 ghost use Rattle.job_run.specs.Buffers.{buffers_of};
-ghost use Rattle.job_run.specs.Answer.{verdict_of, after_of, today_of, nodes_of, classes_of};
-ghost use Rattle.job_entry.specs.Steps.{sizes_fit, sizes_verdict};
-ghost use Rattle.job_entry.specs.Answered.{JobAnswered};
+ghost use Rattle.job_run.specs.Answer.{after_of, today_of, nodes_of, classes_of};
+ghost use Rattle.job_entry.specs.Answered.{Checked, JobAnswered};
 
 use bitset::{SET_BYTES, SET_SLOTS};
-use job_run::Job;
-use limits::{HIGHEST_LIMIT, TABLE_BYTES};
+use job_run::Report;
+use limits::TABLE_BYTES;
 use listing::WORK_BYTES;
+use refusals::{check_length, check_limit};
 use site::SITE_BYTES;
 use trailer::Cuts;
-use verdict::Verdict;
+use verdict::Refusal;
 
-// Item 1 is not met by these buffers.
-fn sizes_fit(
+// Where the pieces of the file are, or the first item of all that is tested before them.
+#[tactic(auto, unfolding(crate::specs::Refusal::buffers_verdict))]
+fn check(
+    file: &[u8],
+    limit: u32,
     changed: &[u8],
     table: &[u8],
     after: &[u8],
     today: &[u8],
     classes: &[u8],
     work: &[u8],
-) -> bool
-    ensures { result ≡ sizes_fit (buffers_of changed.now table.now after.now today.now classes.now work.now) }
+) -> Result<Cuts, Refusal>
+    ensures { Checked limit file.now (buffers_of changed.now table.now after.now today.now classes.now work.now) result }
 {
-    (changed.len() == SITE_BYTES)
-        & (table.len() == TABLE_BYTES)
-        & (after.len() == SET_BYTES)
-        & (today.len() == SET_BYTES)
-        & (classes.len() == SET_SLOTS)
-        & (work.len() == WORK_BYTES)
-}
-
-// Item 1, then item 16, then items 2 and 18.
-fn judge(fits: bool, limit: u32, cuts: Cuts) -> Verdict
-    ensures { result ≡ sizes_verdict fits then limit_verdict limit then file_verdict cuts.met cuts.edition }
-{
-    if !fits {
-        return Verdict::Refused(1, 0);
-    }
-    if limit > HIGHEST_LIMIT {
-        return Verdict::Refused(16, 0);
-    }
-    trailer::check(cuts)
+    check_length(changed, SITE_BYTES)?; // item 1
+    check_length(table, TABLE_BYTES)?;
+    check_length(after, SET_BYTES)?;
+    check_length(today, SET_BYTES)?;
+    check_length(classes, SET_SLOTS)?;
+    check_length(work, WORK_BYTES)?;
+    check_limit(limit)?; // 16
+    let cuts = trailer::read(file);
+    trailer::check(cuts)?; // 2 and 18
+    Ok(cuts)
 }
 
 // Does the job of a file, each list under the whole limit: writes the site after, the rewritten table, both lists and the class numbers after.
+// Where an item is met every buffer becomes zeros, whatever its length.
 pub fn run(
     file: &[u8],
     limit: u32,
@@ -60,27 +53,26 @@ pub fn run(
     today: &mut [u8],
     classes: &mut [u8],
     work: &mut [u8],
-) -> Job
-    ensures { JobAnswered limit file.now (buffers_of changed.old table.old after.old today.old classes.old work.old) (buffers_of changed.new table.new after.new today.new classes.new work.new) (verdict_of result) (after_of result) (today_of result) (nodes_of result) (classes_of result) }
+) -> Result<Report, Refusal>
+    ensures { JobAnswered limit file.now (buffers_of changed.old table.old after.old today.old classes.old work.old) (buffers_of changed.new table.new after.new today.new classes.new work.new) (outcome result) (after_of result) (today_of result) (nodes_of result) (classes_of result) }
 {
-    let fits = sizes_fit(changed, table, after, today, classes, work);
-    let cuts = trailer::read(file);
-    let v = judge(fits, limit, cuts);
-    let site = trailer::site(file, cuts);
-    let cond = trailer::condition(file, cuts);
-    let sheet = trailer::sheet(file, cuts);
-    job_run::run(
-        v,
-        limit,
-        site,
-        cond,
-        sheet,
-        cuts.edition,
-        changed,
-        table,
-        after,
-        today,
-        classes,
-        work,
-    )
+    match check(file, limit, changed, table, after, today, classes, work) {
+        Ok(cuts) => job_run::run(
+            limit,
+            trailer::site(file, cuts),
+            trailer::condition(file, cuts),
+            trailer::sheet(file, cuts),
+            cuts.edition,
+            changed,
+            table,
+            after,
+            today,
+            classes,
+            work,
+        ),
+        Err(refusal) => {
+            job_run::zero(changed, table, after, today, classes, work);
+            Err(refusal)
+        }
+    }
 }

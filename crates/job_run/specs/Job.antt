@@ -1,7 +1,7 @@
 -- What a job on three pieces leaves in its buffers, and the rounds that its lists make. The buffers are named twice: as they were, and as they
 -- are at return (').
 use Rattle.std.specs.Prelude.{◌≡◌, List, ℕ, ◌*◌, length, take, replicate}
-use Rattle.verdict.specs.declared.Verdict.{Verdict}
+use Rattle.verdict.specs.Verdict.{Verdict}
 use Rattle.semantics.specs.Holds.{Env}
 use Rattle.semantics.specs.Table.{form_of}
 use Rattle.semantics.specs.Edit as edits

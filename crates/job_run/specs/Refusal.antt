@@ -1,7 +1,6 @@
 -- Which pieces of a job are refused: the items of docs/SPEC.md, "Reasons", in their order.
 use Rattle.std.specs.Prelude.{List, ℕ}
-use Rattle.verdict.specs.Verdict.{◌then◌}
-use Rattle.verdict.specs.declared.Verdict.{Verdict}
+use Rattle.verdict.specs.Verdict.{Verdict, ◌then◌}
 use Rattle.semantics.specs.Block.{rewrite_table}
 use Rattle.site.specs.Site.{site_of}
 use Rattle.site.specs.Refusal.{site_verdict}

@@ -1,17 +1,13 @@
 -- What the steps of a job answer and leave in their buffers. A buffer is named twice: as it was, and as it is at return (').
-use Rattle.std.specs.Prelude.{◌≡◌, List, ℕ}
-use Rattle.verdict.specs.Verdict.{◌then◌}
-use Rattle.verdict.specs.declared.Verdict.{Verdict}
-use Rattle.verdict.specs.declared.Verdict.TheVariants.{Accepted}
+use Rattle.std.specs.Prelude.{◌≡◌, List, ℕ, Result, IfOk}
+use Rattle.verdict.specs.Verdict.{Verdict, Accepted, outcome, ◌then◌}
+use Rattle.verdict.specs.declared.Refusal.{Refusal}
 use Rattle.semantics.specs.Block.{rewrite_table}
 use Rattle.site.specs.Site.{site_of}
 use Rattle.condition.specs.Bytes.{table_of}
 use Rattle.sheet.specs.Bytes.{edits_of}
 use Rattle.applying.specs.Refusal.{goes_verdict}
-use Rattle.rewriting.specs.declared.Rewriting.{Rewriting}
-use Rattle.rewriting.specs.declared.Rewriting.TheVariants.{Rewritten}
 use Rattle.rewriting.specs.Refusal.{length_verdict}
-use Rattle.rewriting.specs.Answer.{verdict_of}
 use Rattle.rewriting.specs.Rewriting.{TableAfter, rewritten}
 use Rattle.apply_entry.specs.Applying.{SiteAfter}
 
@@ -20,7 +16,7 @@ unfoldable pub change_verdict : (edition : ℕ) (site cond sheet : List ℕ) →
 change_verdict edition site cond sheet = goes_verdict (edits_of edition sheet) (site_of site) then length_verdict rewrite_table (edits_of edition sheet) (table_of cond)
 
 -- applying and rewriting answer r
-pub record Changed (edition : ℕ) (site cond sheet changed changed' table table' : List ℕ) (r : Rewriting) : Type 0 where
-  pub verdict : verdict_of r ≡ change_verdict edition site cond sheet
-  pub site_after : (n : ℕ) → r ≡ Rewritten n → SiteAfter edition Accepted site sheet changed changed'
-  pub table_after : (n : ℕ) → r ≡ Rewritten n → TableAfter Accepted (rewritten edition cond sheet) table table' n
+pub record Changed (edition : ℕ) (site cond sheet changed changed' table table' : List ℕ) (r : Result ℕ Refusal) : Type 0 where
+  pub verdict : outcome r ≡ change_verdict edition site cond sheet
+  pub site_after : IfOk r (λ _. SiteAfter edition Accepted site sheet changed changed')
+  pub table_after : IfOk r (TableAfter Accepted (rewritten edition cond sheet) table table')

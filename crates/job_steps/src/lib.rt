@@ -4,8 +4,7 @@
 
 ghost use Rattle.std.specs.Prelude.{◌≡◌, ◌*◌, ◌≤◌, length, take, replicate};
 ghost use Rattle.bitset.specs.Set.{set_bytes};
-ghost use Rattle.verdict.specs.Verdict.{◌then◌};
-ghost use Rattle.verdict.specs.declared.Verdict.TheVariants.{Accepted};
+ghost use Rattle.verdict.specs.Verdict.{Accepted, ◌then◌};
 ghost use Rattle.semantics.specs.Table.{form_of};
 ghost use Rattle.site.specs.Layout.{site_bytes};
 ghost use Rattle.site.specs.Site.{site_of};
@@ -21,34 +20,19 @@ ghost use Rattle.listing.specs.Limited.{Limited};
 ghost use Rattle.job_steps.specs.Steps.{Changed};
 
 use listing::Found;
-use rewriting::Rewriting;
-use verdict::Verdict;
-
-// Items 7 to 10 of the condition, then 11 and 12 of the sheet.
-fn judge_condition(cond: &[u8], sheet: &[u8], free: &mut [u16]) -> Verdict
-    requires { free.old ≡ no_masks }
-    ensures { Judged (condition_verdict cond.now then sheet_verdict sheet.now) cond.now free.new result }
-{
-    let v = even_rule::check(cond, free);
-    match v {
-        Verdict::Accepted => sheet::check(sheet),
-        Verdict::Refused(item, fault) => Verdict::Refused(item, fault),
-    }
-}
+use verdict::Refusal;
 
 // Items 3 to 12 of the three pieces. The free variables of an accepted condition's nodes are written to `free`.
-pub fn judge(site: &[u8], cond: &[u8], sheet: &[u8], free: &mut [u16]) -> Verdict
+pub fn judge(site: &[u8], cond: &[u8], sheet: &[u8], free: &mut [u16]) -> Result<(), Refusal>
     requires { free.old ≡ no_masks }
     ensures { Judged (site_verdict site.now then condition_verdict cond.now then sheet_verdict sheet.now) cond.now free.new result }
 {
-    let v = site::check(site);
-    match v {
-        Verdict::Accepted => judge_condition(cond, sheet, free),
-        Verdict::Refused(item, fault) => Verdict::Refused(item, fault),
-    }
+    site::check(site)?; // items 3 to 6
+    even_rule::check(cond, free)?; // 7 to 10
+    sheet::check(sheet) // 11 and 12
 }
 
-// The site after and the rewritten table, or item 13 or 14.
+// The site after and the rewritten table, or item 13 or 14. Gives how many nodes the table has.
 pub fn change(
     site: &[u8],
     cond: &[u8],
@@ -56,16 +40,13 @@ pub fn change(
     edition: u32,
     changed: &mut [u8],
     table: &mut [u8],
-) -> Rewriting
+) -> Result<u32, Refusal>
     requires site_value { (site_verdict site.now ≡ Accepted) × ((condition_verdict cond.now ≡ Accepted) × (sheet_verdict sheet.now ≡ Accepted)) }
     requires changed_len { (length changed.old ≡ site_bytes) × (length table.old ≡ table_bytes) }
     ensures { Changed edition site.now cond.now sheet.now changed.old changed.new table.old table.new result }
 {
-    let v = applying::apply(site, sheet, edition, changed);
-    match v {
-        Verdict::Accepted => rewriting::rewrite_sheet(cond, sheet, edition, table),
-        Verdict::Refused(item, fault) => Rewriting::Refused(item, fault),
-    }
+    applying::apply(site, sheet, edition, changed)?; // item 13
+    rewriting::rewrite_sheet(cond, sheet, edition, table) // 14
 }
 
 // What an accepted part of the rewritten table lists on a site, where it makes no more rounds than the limit.
@@ -77,7 +58,7 @@ fn list(site: &[u8], part: &[u8], limit: u32, today: &mut [u8], work: &mut [u8])
     ensures work_after { work.new ≡ replicate work_bytes 0 }
 {
     let mut free = even_rule::no_masks();
-    even_rule::check(part, &mut free);
+    let _ = even_rule::check(part, &mut free);
     listing::list(site, part, &free, limit, today, work)
 }
 

@@ -1,17 +1,10 @@
--- The number, W, count and rounds for each case of the answer of listing.
-use Rattle.verdict.specs.declared.Verdict.{Verdict}
-use Rattle.verdict.specs.declared.Verdict.TheVariants as verdict
+-- The count and the rounds in the answer of listing.
+use Rattle.std.specs.Prelude.{Result, Ok, Err}
+use Rattle.verdict.specs.declared.Refusal.{Refusal}
 use Rattle.listing.specs.declared.Found.{Found}
 use Rattle.listing.specs.Listed.{found_of}
-use Rattle.list_entry.specs.declared.Listing.{Listing}
-use Rattle.list_entry.specs.declared.Listing.TheVariants.{Listed, Refused}
 
--- the verdict, of which `reason_of` gives the number (0 where no item is met) and `fault_of` gives W
-abbrev pub verdict_of : Listing → Verdict
-verdict_of (Listed f) = verdict.Accepted
-verdict_of (Refused item w) = verdict.Refused item w
-
--- how many slots are listed, and how many rounds were made
-abbrev pub found_in : Listing → Found
-found_in (Listed f) = f
-found_in (Refused item w) = found_of 0 0
+-- how many slots are listed, and how many rounds were made; 0 and 0 where the inputs are refused
+abbrev pub found_in : Result Found Refusal → Found
+found_in (Ok f) = f
+found_in (Err r) = found_of 0 0

@@ -1,10 +1,8 @@
 -- Which inputs are refused: the items in their order.
 pub mod Refusal
--- the numbers and values of its answer
+-- the numbers in its answer
 pub mod Answer
 -- what listing leaves in its buffers
 pub mod Listing
--- what its inner function promises
+-- what it promises
 pub mod Answered
--- how its inputs are judged
-pub mod Inputs

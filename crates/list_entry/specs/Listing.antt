@@ -1,8 +1,7 @@
 -- What listing leaves in its buffers after a verdict, its count, and the rounds that it makes. A buffer is named twice: as it was, and as
 -- it is at return (').
-use Rattle.std.specs.Prelude.{◌≡◌, List, ℕ, length, replicate}
-use Rattle.verdict.specs.declared.Verdict.{Verdict}
-use Rattle.verdict.specs.declared.Verdict.TheVariants.{Accepted, Refused}
+use Rattle.std.specs.Prelude.{◌≡◌, List, ℕ, length, replicate, Ok, Err}
+use Rattle.verdict.specs.Verdict.{Verdict}
 use Rattle.semantics.specs.Table.{form_of}
 use Rattle.site.specs.Site.{site_of}
 use Rattle.condition.specs.Bytes.{table_of}
@@ -17,8 +16,8 @@ SiteMakes site table n = (ρ : Env) → Makes (site_of site) ρ (form_of (table_
 
 -- the set, the count and the rounds after a verdict: the slots that the condition lists on the site; zeros where listing is refused
 unfoldable pub SetAfter : Verdict → (site table set set' : List ℕ) (f : Found) → Type 0
-SetAfter Accepted site table set set' f = Listed (site_of site) (form_of (table_of table)) set' f.count × SiteMakes site table f.rounds
-SetAfter (Refused item w) site table set set' f = (set' ≡ replicate (length set) 0) × ((f.count ≡ 0) × (f.rounds ≡ 0))
+SetAfter (Ok _) site table set set' f = Listed (site_of site) (form_of (table_of table)) set' f.count × SiteMakes site table f.rounds
+SetAfter (Err r) site table set set' f = (set' ≡ replicate (length set) 0) × ((f.count ≡ 0) × (f.rounds ≡ 0))
 
 -- what listing leaves after a verdict: the set, the count and the rounds, and a work buffer of zeros
 pub record ListAfter (v : Verdict) (site table set set' work work' : List ℕ) (f : Found) : Type 0 where

@@ -1,8 +1,7 @@
 -- Which inputs listing refuses: the items of docs/SPEC.md, "Reasons", in their order.
 use Rattle.std.specs.Prelude.{List, ℕ}
 use Rattle.bitset.specs.Set.{set_bytes}
-use Rattle.verdict.specs.Verdict.{◌then◌}
-use Rattle.verdict.specs.declared.Verdict.{Verdict}
+use Rattle.verdict.specs.Verdict.{Verdict, ◌then◌}
 use Rattle.site.specs.Refusal.{site_verdict}
 use Rattle.condition.specs.Refusal.{condition_verdict}
 use Rattle.listing.specs.Listed.{work_bytes}

@@ -1,7 +1,7 @@
 -- What the inner functions of rewriting and of the condition for going through promise: the verdict, and what is left. The buffer is named twice: as
 -- it was, and as it is at return (').
 use Rattle.std.specs.Prelude.{◌≡◌, List, ℕ, length}
-use Rattle.verdict.specs.declared.Verdict.{Verdict}
+use Rattle.verdict.specs.Verdict.{Verdict}
 use Rattle.semantics.specs.Table.{Node}
 use Rattle.through.specs.Through.{through}
 use Rattle.sheet.specs.Bytes.{edits_of}

@@ -2,5 +2,3 @@
 pub mod Refusal
 -- what its inner function promises
 pub mod Answered
--- what an inner function tests
-pub mod Inputs

@@ -1,7 +1,6 @@
 -- Which inputs rewriting and the condition for going through refuse: the items of docs/SPEC.md, "Reasons", in their order.
 use Rattle.std.specs.Prelude.{List, ℕ}
-use Rattle.verdict.specs.Verdict.{◌then◌}
-use Rattle.verdict.specs.declared.Verdict.{Verdict}
+use Rattle.verdict.specs.Verdict.{Verdict, ◌then◌}
 use Rattle.through.specs.Through.{through_edit, one_true}
 use Rattle.condition.specs.Bytes.{table_of}
 use Rattle.condition.specs.Refusal.{condition_verdict}

@@ -1,92 +1,67 @@
-// Rewriting and the condition for going through, for every input: the inputs are judged, then the table is made or the inputs are refused.
+// Rewriting and the condition for going through, for every input: the items are tested in their order, and the table is made.
 #![tactic(auto)]
 
-ghost use Rattle.std.specs.Prelude.{◌≡◌, length, replicate};
-ghost use Rattle.verdict.specs.Verdict.{◌then◌};
-ghost use Rattle.limits.specs.Limits.{table_bytes};
-ghost use Rattle.condition.specs.Refusal.{condition_verdict};
-ghost use Rattle.editions.specs.Edition.{edition_verdict};
-ghost use Rattle.sheet.specs.Refusal.{sheet_verdict};
-ghost use Rattle.rewriting.specs.Answer.{verdict_of, nodes_of};
-ghost use Rattle.refusals.specs.Refusal.{buffer_verdict};
-ghost use Rattle.rewrite_entry.specs.Inputs.{input_verdict, sheet_input_verdict};
+ghost use Rattle.std.specs.Prelude.{◌≡◌, length, IfOk};
+ghost use Rattle.verdict.specs.Verdict.{Accepted, outcome};
+ghost use Rattle.through.specs.Through.{through};
+ghost use Rattle.sheet.specs.Bytes.{edits_of};
+ghost use Rattle.rewriting.specs.Answer.{nodes_of};
+ghost use Rattle.rewriting.specs.Rewriting.{rewritten, TableAfter};
+ghost use Rattle.rewrite_entry.specs.Refusal.{rewrite_verdict, through_verdict};
 ghost use Rattle.rewrite_entry.specs.Answered.{RewriteAnswered, ThroughAnswered};
 
 use limits::TABLE_BYTES;
-use rewriting::Rewriting;
-use verdict::Verdict;
+use refusals::check_length;
+use verdict::Refusal;
 
-// The first of items 1 and 18 that the inputs meet, from the length of the result and the edition.
-fn judge_edition(res: usize, edition: u32) -> Verdict
-    ensures { result ≡ buffer_verdict res table_bytes then edition_verdict edition }
+#[tactic(auto, unfolding(crate::specs::Refusal::rewrite_verdict))]
+fn try_rewrite(
+    table: &[u8],
+    sheet: &[u8],
+    edition: u32,
+    res: &mut [u8],
+) -> Result<u32, Refusal>
+    ensures verdict { outcome result ≡ rewrite_verdict edition (length res.old) table.now sheet.now }
+    ensures made { IfOk result (TableAfter Accepted (rewritten edition table.now sheet.now) res.old res.new) }
 {
-    if res != TABLE_BYTES {
-        return Verdict::Refused(1, 0);
-    }
-    editions::check(edition)
+    check_length(res, TABLE_BYTES)?; // item 1
+    editions::check(edition)?; // 18
+    even_rule::check(table, &mut even_rule::no_masks())?; // 7 to 10
+    sheet::check(sheet)?; // 11 and 12
+    rewriting::rewrite_sheet(table, sheet, edition, res) // 14
 }
 
-// The first of items 7 to 10, 11 and 12 that the inputs meet, from the condition and the sheet.
-fn judge_pieces(table: &[u8], sheet: &[u8]) -> Verdict
-    ensures { result ≡ condition_verdict table.now then sheet_verdict sheet.now }
+// Rewrites the condition through the sheet: writes the table, and answers how many nodes it has. Where an item is met the result becomes zeros,
+// whatever its length.
+pub fn rewrite(table: &[u8], sheet: &[u8], edition: u32, res: &mut [u8]) -> Result<u32, Refusal>
+    ensures { RewriteAnswered edition table.now sheet.now res.old res.new (outcome result) (nodes_of result) }
 {
-    let mut free = even_rule::no_masks();
-    let v = even_rule::check(table, &mut free);
-    match v {
-        Verdict::Accepted => sheet::check(sheet),
-        Verdict::Refused(item, fault) => Verdict::Refused(item, fault),
+    let answer = try_rewrite(table, sheet, edition, res);
+    if answer.is_err() {
+        res.fill(0);
     }
+    answer
 }
 
-// The first of items 1, 18, 7 to 10, 11 and 12 that the inputs meet.
-fn judge(res: usize, table: &[u8], sheet: &[u8], edition: u32) -> Verdict
-    ensures { result ≡ input_verdict edition res table.now sheet.now }
+#[tactic(auto, unfolding(crate::specs::Refusal::through_verdict))]
+fn try_through(sheet: &[u8], edition: u32, res: &mut [u8]) -> Result<u32, Refusal>
+    ensures verdict { outcome result ≡ through_verdict edition (length res.old) sheet.now }
+    ensures made { IfOk result (TableAfter Accepted (through (edits_of edition sheet.now)) res.old res.new) }
 {
-    let v = judge_edition(res, edition);
-    match v {
-        Verdict::Accepted => judge_pieces(table, sheet),
-        Verdict::Refused(item, fault) => Verdict::Refused(item, fault),
-    }
+    check_length(res, TABLE_BYTES)?; // item 1
+    editions::check(edition)?; // 18
+    sheet::check(sheet)?; // 11 and 12
+    rewriting::through_sheet(sheet, edition, res) // 14
 }
 
-// The answer to inputs that meet an item: the result becomes zeros.
-fn refused(res: &mut [u8], item: u8, fault: u16) -> Rewriting
-    ensures value { result ≡ Rewriting.Refused item fault }
-    ensures res_after { res.new ≡ replicate (length res.old) 0 }
+// The condition for going through the sheet: writes the table, and answers how many nodes it has. Where an item is met the result becomes zeros,
+// whatever its length.
+pub fn through(sheet: &[u8], edition: u32, res: &mut [u8]) -> Result<u32, Refusal>
+    ensures { ThroughAnswered edition sheet.now res.old res.new (outcome result) (nodes_of result) }
 {
-    buffer::zero(res);
-    Rewriting::Refused(item, fault)
-}
-
-// Rewrites the condition through the sheet: writes the table, and answers how many nodes it has.
-pub fn rewrite(table: &[u8], sheet: &[u8], edition: u32, res: &mut [u8]) -> Rewriting
-    ensures { RewriteAnswered edition table.now sheet.now res.old res.new (verdict_of result) (nodes_of result) }
-{
-    let v = judge(res.len(), table, sheet, edition);
-    match v {
-        Verdict::Accepted => rewriting::rewrite_sheet(table, sheet, edition, res),
-        Verdict::Refused(item, fault) => refused(res, item, fault),
+    let answer = try_through(sheet, edition, res);
+    if answer.is_err() {
+        res.fill(0);
     }
-}
-
-// The first of items 1, 18, 11 and 12 that the inputs meet.
-fn judge_sheet(res: usize, sheet: &[u8], edition: u32) -> Verdict
-    ensures { result ≡ sheet_input_verdict edition res sheet.now }
-{
-    let first = judge_edition(res, edition);
-    match first {
-        Verdict::Accepted => sheet::check(sheet),
-        Verdict::Refused(item, fault) => Verdict::Refused(item, fault),
-    }
-}
-
-// The condition for going through the sheet: writes the table, and answers how many nodes it has.
-pub fn through(sheet: &[u8], edition: u32, res: &mut [u8]) -> Rewriting
-    ensures { ThroughAnswered edition sheet.now res.old res.new (verdict_of result) (nodes_of result) }
-{
-    let v = judge_sheet(res.len(), sheet, edition);
-    match v {
-        Verdict::Accepted => rewriting::through_sheet(sheet, edition, res),
-        Verdict::Refused(item, fault) => refused(res, item, fault),
-    }
+    answer
 }

@@ -120,7 +120,13 @@ fn no_rows() -> [u8; TABLE_NODES]
 }
 
 // The passes of a sheet over a table, and the answer.
-fn rewrite_from(table: &[u8], sheet: &[u8], edition: u32, own: bool, res: &mut [u8]) -> Result<u32, Refusal>
+fn rewrite_from(
+    table: &[u8],
+    sheet: &[u8],
+    edition: u32,
+    own: bool,
+    res: &mut [u8],
+) -> Result<u32, Refusal>
     requires in_bounds { (6 ≤ length table.now) × (length table.now ≤ table_bytes) × (length res.old ≡ table_bytes) }
     requires table_value { (nodes_fit 0 (table_of table.now) ≡ true) × (sheet_legal (edits_of edition sheet.now) ≡ true) }
     ensures { Rewrote (pass_of own) (edits_of edition sheet.now) (table_of table.now) res.old res.new (outcome result) (nodes_of result) }
@@ -145,7 +151,12 @@ fn rewrite_from(table: &[u8], sheet: &[u8], edition: u32, own: bool, res: &mut [
 }
 
 // A table rewritten for a sheet: its bytes and then zeros in result, and zeros alone where item 14 is met. Gives how many nodes it has.
-pub fn rewrite_sheet(table: &[u8], sheet: &[u8], edition: u32, res: &mut [u8]) -> Result<u32, Refusal>
+pub fn rewrite_sheet(
+    table: &[u8],
+    sheet: &[u8],
+    edition: u32,
+    res: &mut [u8],
+) -> Result<u32, Refusal>
     requires in_bounds { (6 ≤ length table.now) × (length table.now ≤ table_bytes) × (length res.old ≡ table_bytes) }
     requires table_value { (nodes_fit 0 (table_of table.now) ≡ true) × (sheet_legal (edits_of edition sheet.now) ≡ true) }
     ensures { Rewrote rewrite_table (edits_of edition sheet.now) (table_of table.now) res.old res.new (outcome result) (nodes_of result) }

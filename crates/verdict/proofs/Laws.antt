@@ -1,7 +1,8 @@
 -- Laws of outcomes: a refusal is no acceptance; the first refusal of three checks; and what the numbers say.
 use Rattle.std.specs.Prelude.{◌≡◌, ◌⊎◌, ◌↔◌, refl, Bool, true, false, cond, ℕ, ◌<◌, ◌≤◌, Result, Ok, Err}
-use Rattle.std.specs.Result.{is_err}
-use Rattle.std.proofs.Common.{arith, sym, ap, inl, inr}
+use Rattle.std.specs.Result.{is_err, IsErrAnd}
+use Rattle.std.proofs.lemmas.Result.{err_from_is_err_and}
+use Rattle.std.proofs.Common.{arith, sym, ap, ◌∙◌, inl, inr}
 use Rattle.verdict.specs.Verdict.{Verdict, Accepted, number_of, fault_of, reason_of, where_of, ◌then◌}
 use Rattle.verdict.specs.declared.Refusal.{Refusal}
 use Rattle.verdict.specs.declared.Refusal.TheVariants.{BufferLength, File, SiteLength, Names, Labels, Links, ConditionLength, MalformedNode, EvenRule, FreeVariable, SheetLength, MalformedEdit, NotThrough, TableFull, Rounds, Limit, Start, Edition}
@@ -80,3 +81,7 @@ is_answered (Err r) e = absurd (clash (sym e))
 pub is_accepted : (v : Verdict) → false ≡ is_err v → v ≡ Accepted
 is_accepted (Ok _) e = refl
 is_accepted (Err r) e = absurd (clash (sym e))
+
+-- the exit of a `?` passes the refusal on
+pub passed_on : {A : Type 0} {v : Result A Refusal} {r : Refusal} → IsErrAnd v (λ q. q ≡ r) → v ≡ Err r
+passed_on {v = v} h = let p = err_from_is_err_and v h in p.1 ∙ ap Err p.2

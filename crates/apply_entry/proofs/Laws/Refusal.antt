@@ -1,6 +1,6 @@
 -- Inputs that applying does not refuse.
 use Rattle.std.specs.Prelude.{◌≡◌, true, List, ℕ}
-use Rattle.verdict.specs.declared.Verdict.TheVariants.{Accepted}
+use Rattle.verdict.specs.Verdict.{Accepted}
 use Rattle.site.specs.Layout.{site_bytes}
 use Rattle.site.specs.Site.{site_of}
 use Rattle.site.specs.Refusal.{site_verdict}

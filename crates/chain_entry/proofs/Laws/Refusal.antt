@@ -1,13 +1,13 @@
 -- What the chain knows of inputs that meet no item.
 use Rattle.std.specs.Prelude.{◌≡◌, List, ℕ}
 use Rattle.bitset.specs.Set.{set_bytes}
-use Rattle.verdict.specs.declared.Verdict.TheVariants.{Accepted}
+use Rattle.verdict.specs.Verdict.{Accepted}
 use Rattle.site.specs.Site.{site_of}
 use Rattle.site.specs.Refusal.{site_verdict}
 use Rattle.condition.specs.Refusal.{condition_verdict}
 use Rattle.listing.specs.Listed.{work_bytes}
 use Rattle.refusals.specs.Refusal.{buffer_verdict, start_verdict}
-use Rattle.refusals.proofs.Laws.Items.{buffer_out, StartFits, start_out, then_out, Numbered, numbered_then, numbered_buffer, numbered_site, numbered_condition, numbered_start}
+use Rattle.refusals.proofs.Laws.Items.{buffer_out, StartFits, start_out, then_out}
 use Rattle.list_entry.specs.Refusal.{pair_verdict}
 use Rattle.chains.specs.Given.{chain_bytes}
 use Rattle.chain_entry.specs.Refusal.{chain_verdict}
@@ -37,12 +37,3 @@ chain_accepts chain_len set_len work_len site table way start e =
       table_accepted = u.1;
       fits = start_out (site_of site) way start t.1;
     }
-
-pub numbered_chain : (chain_len set_len work_len : ℕ) (site table : List ℕ) (way start : ℕ) → Numbered (chain_verdict chain_len set_len work_len site table way start)
-unfolding chain_verdict
-numbered_chain chain_len set_len work_len site table way start =
-    numbered_then (buffer_verdict chain_len chain_bytes) _ (numbered_buffer chain_len chain_bytes)
-    (numbered_then (buffer_verdict set_len set_bytes) _ (numbered_buffer set_len set_bytes)
-    (numbered_then (buffer_verdict work_len work_bytes) _ (numbered_buffer work_len work_bytes)
-    (numbered_then (pair_verdict site table) _ (numbered_then (site_verdict site) _ (numbered_site site) (numbered_condition table))
-    (numbered_start (site_of site) way start))))

@@ -1,6 +1,6 @@
 -- What is known of inputs that are not refused.
 use Rattle.std.specs.Prelude.{◌≡◌, List, ℕ}
-use Rattle.verdict.specs.declared.Verdict.TheVariants.{Accepted}
+use Rattle.verdict.specs.Verdict.{Accepted}
 use Rattle.site.specs.Refusal.{site_verdict}
 use Rattle.refusals.specs.Refusal.{buffer_verdict}
 use Rattle.refusals.proofs.Laws.Items.{buffer_out, then_out}

@@ -1,12 +1,11 @@
--- What a job knows of inputs that meet no item but 15, and the numbers of these items.
-use Rattle.std.specs.Prelude.{◌≡◌, refl, Bool, true, false, not, ◌&&◌, cond, List, ℕ, ◌≤◌, length}
+-- What a job knows of inputs that meet no item but 15.
+use Rattle.std.specs.Prelude.{◌≡◌, refl, Bool, true, false, not, ◌&&◌, cond, List, ℕ, ◌≤◌, length, Err}
 use Rattle.std.proofs.Common.{arith}
 use Rattle.finite.specs.Tests.{same}
 use Rattle.bitset.specs.Set.{set_bytes}
-use Rattle.verdict.specs.Verdict.{◌then◌}
+use Rattle.verdict.specs.Verdict.{Verdict, Accepted, ◌then◌}
+use Rattle.verdict.specs.declared.Refusal.TheVariants.{BufferLength}
 use Rattle.verdict.proofs.Laws.{then_assoc}
-use Rattle.verdict.specs.declared.Verdict.{Verdict}
-use Rattle.verdict.specs.declared.Verdict.TheVariants.{Accepted, Refused}
 use Rattle.site.specs.Layout.{site_bytes}
 use Rattle.limits.specs.Limits.{table_bytes, highest_limit}
 use Rattle.trailer.specs.Refusal.{item2, edition_in, trailer_verdict}
@@ -14,34 +13,13 @@ use Rattle.trailer.specs.Pieces.{site_in, condition_in, sheet_in}
 use Rattle.listing.specs.Listed.{work_bytes}
 use Rattle.refusals.specs.Refusal.{buffer_verdict, limit_verdict}
 use Rattle.classes_entry.specs.Refusal.{classes_bytes}
-use Rattle.refusals.proofs.Laws.Items.{buffer_in, buffer_out, limit_out, then_out, Numbered, numbered_item, numbered_then, numbered_buffer, numbered_limit, numbered_edition}
+use Rattle.refusals.proofs.Laws.Items.{buffer_in, buffer_out, limit_out, then_out}
 use Rattle.job_run.specs.Buffers.{Buffers, Sized}
 use Rattle.job_run.specs.Refusal.{pieces_verdict}
-use Rattle.job_run.proofs.Laws.Refusal.{PiecesAccepted, pieces_out, pieces_numbered}
+use Rattle.job_run.proofs.Laws.Refusal.{PiecesAccepted, pieces_out}
 use Rattle.job_entry.specs.Refusal.{buffers_verdict, job_inputs}
-use Rattle.job_entry.specs.Steps.{sizes_fit, sizes_verdict}
 
 -- ---- item 1
-
--- item 1 of the six buffers by one test of their lengths
-pub sizes_verdict_lem : (b : Buffers) → buffers_verdict b ≡ sizes_verdict (sizes_fit b)
-unfolding buffers_verdict buffer_verdict sizes_fit
-sizes_verdict_lem b =
-    go (same (length b.changed) site_bytes) (same (length b.table) table_bytes) (same (length b.after) set_bytes)
-    (same (length b.today) set_bytes) (same (length b.classes) classes_bytes) (same (length b.work) work_bytes)
-  where
-    item : Bool → Verdict
-    item x = cond (not x) (Refused 1 0) Accepted
-
-    go : (u v w x y z : Bool)
-        → item u then item v then item w then item x then item y then item z ≡ sizes_verdict (((((u && v) && w) && x) && y) && z)
-    go false v w x y z = refl
-    go true false w x y z = refl
-    go true true false x y z = refl
-    go true true true false y z = refl
-    go true true true true false z = refl
-    go true true true true true false = refl
-    go true true true true true true = refl
 
 pub sized_out : (b : Buffers) → buffers_verdict b ≡ Accepted → Sized b
 unfolding buffers_verdict
@@ -99,26 +77,3 @@ module _ (b : Buffers) (limit : ℕ) (file : List ℕ) where
       let l = then_out (limit_verdict limit) _ p.1 in
       let q = then_out (trailer_verdict file) (pieces_verdict (edition_in file) (site_in file) (condition_in file) (sheet_in file)) l.1 in
       record { sized = sized_out b p.0; limit_fits = limit_out limit l.0; trailer_accepted = q.0; pieces = pieces_out _ _ _ _ q.1 }
-
-  -- ---- the numbers of its items
-
-  buffers_numbered : Numbered (buffers_verdict b)
-  unfolding buffers_verdict
-  buffers_numbered =
-      numbered_then (buffer_verdict (length b.changed) site_bytes) _ (numbered_buffer (length b.changed) site_bytes)
-      (numbered_then (buffer_verdict (length b.table) table_bytes) _ (numbered_buffer (length b.table) table_bytes)
-      (numbered_then (buffer_verdict (length b.after) set_bytes) _ (numbered_buffer (length b.after) set_bytes)
-      (numbered_then (buffer_verdict (length b.today) set_bytes) _ (numbered_buffer (length b.today) set_bytes)
-      (numbered_then (buffer_verdict (length b.classes) classes_bytes) _ (numbered_buffer (length b.classes) classes_bytes)
-      (numbered_buffer (length b.work) work_bytes)))))
-
-  trailer_numbered : Numbered (trailer_verdict file)
-  unfolding trailer_verdict
-  trailer_numbered = numbered_item (item2 file) 2 0 _ (omega arith) (omega arith) (numbered_edition (edition_in file))
-
-  pub inputs_numbered : Numbered (job_inputs b limit file)
-  unfolding job_inputs
-  inputs_numbered =
-      numbered_then (buffers_verdict b) _ buffers_numbered
-      (numbered_then (limit_verdict limit) _ (numbered_limit limit)
-      (numbered_then (trailer_verdict file) _ trailer_numbered (pieces_numbered (edition_in file) (site_in file) (condition_in file) (sheet_in file))))

@@ -1,18 +1,15 @@
--- `job_entry::run` meets its contract: items 1, 16, 2 and 18 are judged, the pieces are taken, and the job runs on them.
-use Rattle.job_entry.proofs.Laws.Job.{passed, answered_ran}
+-- The pieces are run, or zeros are left.
+use Rattle.job_entry.proofs.Laws.Job.{passed, answered_ran, answered_refused}
 use Rattle.job_entry.proofs.run.Goals as goal
 
-pub site-site-requires : goal.site-site-requires
-site-site-requires c = c.read-cuts.ensures
+pub run-requires-clause-limit : goal.run-requires-clause-limit
+run-requires-clause-limit c = (passed c.in-Ok.ensures).0
 
-pub condition-cond-requires : goal.condition-cond-requires
-condition-cond-requires c = c.read-cuts.ensures
+pub run-requires-clause-sized : goal.run-requires-clause-sized
+run-requires-clause-sized c = (passed c.in-Ok.ensures).1
 
-pub sheet-sheet-requires : goal.sheet-sheet-requires
-sheet-sheet-requires c = c.read-cuts.ensures
+pub returns-in-Ok : goal.returns-in-Ok
+returns-in-Ok c = answered_ran c.in-Ok.ensures c.site.ensures c.condition.ensures c.sheet.ensures c.run.ensures
 
-pub run-requires : goal.run-requires
-run-requires c = passed c.sizes_fit-fits.ensures c.read-cuts.ensures c.judge-v.ensures
-
-pub returns : goal.returns
-returns c = answered_ran c.sizes_fit-fits.ensures c.read-cuts.ensures c.judge-v.ensures c.site-site.ensures c.condition-cond.ensures c.sheet-sheet.ensures c.run.ensures
+pub returns-in-Err : goal.returns-in-Err
+returns-in-Err c = answered_refused c.in-Err.ensures c.zero.ensures

@@ -1,9 +1,7 @@
--- What is known of pieces that are not refused, and the numbers of their items.
+-- What is known of pieces that are not refused.
 use Rattle.std.specs.Prelude.{◌≡◌, true, false, List, ℕ}
-use Rattle.verdict.specs.Verdict.{◌then◌}
+use Rattle.verdict.specs.Verdict.{Verdict, Accepted, ◌then◌}
 use Rattle.verdict.proofs.Laws.{then_assoc}
-use Rattle.verdict.specs.declared.Verdict.{Verdict}
-use Rattle.verdict.specs.declared.Verdict.TheVariants.{Accepted}
 use Rattle.semantics.specs.Edit.{sheet_goes}
 use Rattle.semantics.specs.Block.{rewrite_table}
 use Rattle.site.specs.Site.{site_of}
@@ -15,20 +13,20 @@ use Rattle.sheet.specs.Refusal.{sheet_verdict}
 use Rattle.applying.specs.Refusal.{goes_verdict}
 use Rattle.applying.proofs.Laws.Goes.{goes_out}
 use Rattle.rewriting.specs.Refusal.{is_too_long, length_verdict}
-use Rattle.refusals.proofs.Laws.Items.{then_out, length_out, Numbered, numbered_then, numbered_site, numbered_condition, numbered_sheet, numbered_goes, numbered_length}
+use Rattle.refusals.proofs.Laws.Items.{then_out, length_out}
 use Rattle.job_steps.specs.Steps.{change_verdict}
 use Rattle.job_run.specs.Refusal.{pieces_verdict}
 
--- the chain after the verdict `first`: items 3 to 12, then 13 and 14
-pub pieces_then : (edition : ℕ) (first : Verdict) (site cond sheet : List ℕ) → first then pieces_verdict edition site cond sheet
-    ≡ (first then site_verdict site then condition_verdict cond then sheet_verdict sheet) then change_verdict edition site cond sheet
+-- items 3 to 12, then 13 and 14
+pub pieces_then : (edition : ℕ) (site cond sheet : List ℕ) → pieces_verdict edition site cond sheet
+    ≡ (site_verdict site then condition_verdict cond then sheet_verdict sheet) then change_verdict edition site cond sheet
 unfolding pieces_verdict change_verdict
-pieces_then edition first site cond sheet =
+pieces_then edition site cond sheet =
     let s = site_verdict site in
     let c = condition_verdict cond in
     let e = sheet_verdict sheet in
     let z = change_verdict edition site cond sheet in
-    rw (then_assoc first (s then c then e) z, then_assoc s (c then e) z, then_assoc c e z)
+    rw (then_assoc s (c then e) z, then_assoc c e z)
 
 module _ (edition : ℕ) (site cond sheet : List ℕ) where
   -- what is accepted
@@ -57,13 +55,3 @@ module _ (edition : ℕ) (site cond sheet : List ℕ) where
   pub pieces_in : PiecesAccepted → pieces_verdict edition site cond sheet ≡ Accepted
   unfolding pieces_verdict goes_verdict length_verdict
   pieces_in a = rw (a.site_accepted, a.cond_accepted, a.sheet_accepted, a.goes, a.short)
-
-  -- the numbers of the items
-  pub pieces_numbered : Numbered (pieces_verdict edition site cond sheet)
-  unfolding pieces_verdict
-  pieces_numbered =
-      numbered_then (site_verdict site) _ (numbered_site site)
-      (numbered_then (condition_verdict cond) _ (numbered_condition cond)
-      (numbered_then (sheet_verdict sheet) _ (numbered_sheet sheet)
-      (numbered_then (goes_verdict (edits_of edition sheet) (site_of site)) _ (numbered_goes (edits_of edition sheet) (site_of site))
-      (numbered_length rewrite_table (edits_of edition sheet) (table_of cond)))))

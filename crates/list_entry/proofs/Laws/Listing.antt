@@ -1,56 +1,28 @@
 -- The answers of listing, case by case.
-use Rattle.std.specs.Prelude.{◌≡◌, refl, List, ◌≢◌, ℕ, ◌≤◌, ◌<◌, length, replicate}
+use Rattle.std.specs.Prelude.{◌≡◌, refl, List, ℕ, ◌≤◌, ◌<◌, length, replicate, Result, Ok, Err}
 use Rattle.std.proofs.Common.{◌∙◌, subst, arith, sym, ap}
-use Rattle.std.proofs.Math.ListN.{length-replicate}
-use Rattle.bitset.specs.Set.{set_bytes}
+use Rattle.finite.specs.Tests.{below}
+use Rattle.finite.proofs.Laws.Bools.{either, look}
+use Rattle.finite.proofs.Laws.Below.{below_out, not-below}
 use Rattle.verdict.proofs.Laws.{refused}
-use Rattle.verdict.specs.declared.Verdict.{Verdict}
-use Rattle.verdict.specs.declared.Verdict.TheVariants.{Accepted, Refused}
+use Rattle.verdict.specs.Verdict.{Accepted, outcome}
+use Rattle.verdict.specs.declared.Refusal.{Refusal}
 use Rattle.semantics.specs.Form.{Form}
 use Rattle.semantics.specs.Holds.{Env, Model}
 use Rattle.semantics.specs.Table.{form_of}
 use Rattle.rounds.specs.Makes.{Makes}
 use Rattle.site.specs.Site.{site_of}
 use Rattle.condition.specs.Bytes.{table_of}
-use Rattle.even_rule.specs.Judged.{Judged}
-use Rattle.even_rule.proofs.Laws.Judged.{judged_refused, judged_next}
-use Rattle.limits.specs.Limits.{highest_limit}
 use Rattle.listing.specs.declared.Found.{Found}
 use Rattle.listing.specs.Listed.{work_bytes}
 use Rattle.listing.specs.Limited.{Limited}
-use Rattle.list_entry.specs.declared.Listing.{Listing}
-use Rattle.list_entry.specs.declared.Listing.TheVariants as answer
-use Rattle.refusals.proofs.Laws.Items.{buffer_in, buffer_not, limit_in, limit_not, rounds_in, rounds-not}
-use Rattle.list_entry.specs.Refusal.{pair_verdict, list_inputs, list_verdict}
-use Rattle.list_entry.specs.Answer.{verdict_of, found_in}
+use Rattle.refusals.specs.Refusal.{rounds_verdict}
+use Rattle.refusals.proofs.Laws.Items.{rounds_in, rounds-not, rounds_out}
+use Rattle.list_entry.specs.Refusal.{list_inputs, list_verdict}
+use Rattle.list_entry.specs.Answer.{found_in}
 use Rattle.list_entry.specs.Listing.{SetAfter}
 use Rattle.list_entry.specs.Answered.{ListTried, ListAnswered}
-use Rattle.list_entry.specs.Inputs.{InputsJudged}
-use Rattle.list_entry.proofs.Laws.Refusal.{Accepts, list_accepts}
-
--- ---- the inputs are judged
-
-module _ {set work limit : ℕ} {site table masks : List ℕ} where
-  pub judged_set : set ≢ set_bytes → InputsJudged set work limit site table masks (Refused 1 0)
-  unfolding list_inputs
-  judged_set h = record { judged = judged_refused _ (buffer_not h) }
-
-  pub judged_work : set ≡ set_bytes → work ≢ work_bytes → InputsJudged set work limit site table masks (Refused 1 0)
-  unfolding list_inputs
-  judged_work e h = record { judged = judged_next (buffer_in e) (judged_refused _ (buffer_not h)) }
-
-  pub judged_limit : set ≡ set_bytes → work ≡ work_bytes → highest_limit < limit → InputsJudged set work limit site table masks (Refused 16 0)
-  unfolding list_inputs
-  judged_limit e f h = record { judged = judged_next (buffer_in e) (judged_next (buffer_in f) (judged_refused _ (limit_not h))) }
-
-  pub judged_pair : set ≡ set_bytes → work ≡ work_bytes → limit ≤ highest_limit → {v : Verdict} → Judged (pair_verdict site table) table masks v
-      → InputsJudged set work limit site table masks v
-  unfolding list_inputs
-  judged_pair e f h j = record { judged = judged_next (buffer_in e) (judged_next (buffer_in f) (judged_next (limit_in h) j)) }
-
-  -- what is known of accepted ones
-  pub accepts : {v : Verdict} → InputsJudged set work limit site table masks v → v ≡ Accepted → Accepts set work limit site table
-  accepts j e = list_accepts set work limit site table (sym j.judged.verdict ∙ e)
+use Rattle.list_entry.proofs.Laws.Refusal.{list_accepts}
 
 -- ---- the number of rounds under a limit
 
@@ -65,55 +37,54 @@ module _ {limit : ℕ} {M : Model} {φ : Form} {set : List ℕ} {f : Found} (w :
   pub makes_found : f.rounds ≤ limit → (ρ : Env) → Makes M ρ φ f.rounds
   makes_found h ρ = let e : w.made ≡ f.rounds = omega (arith, w.number) in subst (Makes M ρ φ) e (w.makes ρ)
 
+  -- it is judged as that one
+  pub rounds_as_made : rounds_verdict limit f.rounds ≡ rounds_verdict limit w.made
+  rounds_as_made =
+      either
+      (look (below limit f.rounds))
+      (λ b. let h = below_out limit f.rounds b in rounds-not h ∙ sym (rounds-not (made_over h)))
+      (λ b. let h = not-below limit f.rounds b in rounds_in h ∙ sym (rounds_in (made_within h)))
+
 -- ---- listing is tried
 
-module _ {limit : ℕ} {site table set set' work work' : List ℕ} {f : Found} (w : Limited limit (site_of site) (form_of (table_of table)) set' f)
-    (zeros : work' ≡ replicate work_bytes 0) (work_size : length work ≡ work_bytes) where
-  pub tried_within : f.rounds ≤ limit → ListTried limit site table set set' work work' Accepted f
-  unfolding SetAfter
-  tried_within h =
+-- an item before 15 is met
+pub tried_refused : {limit : ℕ} {site table : List ℕ} {set_len work_len : ℕ} {set' work' : List ℕ} {r : Refusal}
+    → list_inputs set_len work_len limit site table ≡ Err r → ListTried limit site table set_len work_len set' work' (Err r)
+unfolding list_verdict
+tried_refused e = record { made = 0; makes = λ a. refused (sym e ∙ a); verdict = rw e; listed = tt }
+
+-- none is, and the condition is listed
+module _ {limit : ℕ} {site table : List ℕ} {set_len work_len : ℕ} {set' work' : List ℕ} {f : Found}
+    (a : list_inputs set_len work_len limit site table ≡ Accepted) (w : Limited limit (site_of site) (form_of (table_of table)) set' f)
+    (zeros : work' ≡ replicate work_bytes 0) where
+  pub tried_over : {r : Refusal} → Err r ≡ rounds_verdict limit f.rounds → ListTried limit site table set_len work_len set' work' (Err r)
+  unfolding list_verdict
+  tried_over e = record { made = w.made; makes = λ _. w.makes; verdict = rw a (e ∙ rounds_as_made w); listed = tt }
+
+  pub tried_within : Accepted ≡ rounds_verdict limit f.rounds → ListTried limit site table set_len work_len set' work' (Ok f)
+  unfolding list_verdict
+  tried_within e =
+      let within = rounds_out limit f.rounds (sym e) in
+      let room = (list_accepts set_len work_len limit site table a).work_size in
       record {
         made = w.made;
-        makes = w.makes;
-        verdict = rw (rounds_in (made_within w h));
-        left = record { set_after = (w.listed h, makes_found w h); work_zero = zeros ∙ ap (λ (k : ℕ). replicate k 0) (sym work_size) };
+        makes = λ _. w.makes;
+        verdict = rw a (e ∙ rounds_as_made w);
+        listed = (w.listed within, makes_found w within, zeros ∙ ap (λ (k : ℕ). replicate k 0) (sym room));
       }
-
-  -- the set had been written
-  pub tried_over : limit < f.rounds → {r : Listing} → r ≡ answer.Refused 15 0 → length set ≡ set_bytes → {set'' work'' : List ℕ}
-      → set'' ≡ replicate (length set') 0 → work'' ≡ replicate (length work') 0 → ListTried limit site table set set'' work work'' (verdict_of r) (found_in r)
-  unfolding SetAfter
-  tried_over h e set_size y z =
-      rw e
-      (record {
-        made = w.made;
-        makes = w.makes;
-        verdict = rw (rounds-not (made_over w h));
-        left =
-            record {
-              set_after = (y ∙ ap (λ (k : ℕ). replicate k 0) (w.size ∙ sym set_size), (refl, refl));
-              work_zero = z ∙ ap (λ (k : ℕ). replicate k 0) (ap length zeros ∙ length-replicate {A = ℕ} work_bytes 0 ∙ sym work_size);
-            };
-      })
 
 -- ---- listing answers
 
-module _ {limit : ℕ} {site table set set' work work' masks : List ℕ} {v : Verdict}
-    (j : InputsJudged (length set) (length work) limit site table masks v) where
-  pub answered_tried : v ≡ Accepted → {u : Verdict} {f : Found} → ListTried limit site table set set' work work' u f
-      → ListAnswered limit site table set set' work work' u f
-  unfolding list_verdict
-  answered_tried e t = record { made = t.made; makes = λ _. t.makes; verdict = rw (sym j.judged.verdict ∙ e) t.verdict; left = t.left }
+module _ {limit : ℕ} {site table set set' work work' : List ℕ} {r : Result Found Refusal}
+    (t : ListTried limit site table (length set) (length work) set' work' r) where
+  pub answered_listed : {f : Found} → r ≡ Ok f → ListAnswered limit site table set set' work work' (outcome r) (found_in r)
+  unfolding SetAfter
+  answered_listed {f} e =
+      let h = rw e at t.listed in
+      record { made = t.made; makes = t.makes; verdict = t.verdict; left = rw e (record { set_after = (h.0, h.1); work_zero = h.2 }) }
 
-  pub answered_refused : {item w : ℕ} → v ≡ Refused item w → {r : Listing} → r ≡ answer.Refused item w → set' ≡ replicate (length set) 0
-      → work' ≡ replicate (length work) 0 → ListAnswered limit site table set set' work work' (verdict_of r) (found_in r)
-  unfolding list_verdict SetAfter
-  answered_refused e f y z =
-      let d = sym j.judged.verdict ∙ e in
-      rw f
-      (record {
-        made = 0;
-        makes = λ a. refused (sym d ∙ a);
-        verdict = rw d;
-        left = record { set_after = (y, (refl, refl)); work_zero = z };
-      })
+  pub answered_refused : {q : Refusal} → r ≡ Err q → {set'' work'' : List ℕ} → set'' ≡ replicate (length set) 0 → work'' ≡ replicate (length work) 0
+      → ListAnswered limit site table set set'' work work'' (outcome r) (found_in r)
+  unfolding SetAfter
+  answered_refused e y z =
+      record { made = t.made; makes = t.makes; verdict = t.verdict; left = rw e (record { set_after = (y, (refl, refl)); work_zero = z }) }

@@ -1,11 +1,12 @@
 -- The passes of a sheet's edits over a table, the last one first.
-use Rattle.std.specs.Prelude.{◌≡◌, Bool, true, false, ℕ, zero, suc, ◌+◌, ◌*◌, ◌-◌, ◌/◌, ◌≤◌, ◌<◌, get_or, take, drop, refl, List, [], ◌∷◌, ◌++◌, length, replicate, Err}
+use Rattle.std.specs.Prelude.{◌≡◌, Bool, true, false, ℕ, zero, suc, ◌+◌, ◌*◌, ◌-◌, ◌/◌, ◌≤◌, ◌<◌, get_or, take, drop, refl, List, [], ◌∷◌, ◌++◌, length, replicate, IfOk, Result, Ok, Err}
 use Rattle.std.proofs.Common.{sym, ◌∙◌, ap, subst, arith, not-suc-le-zero, length-append, drop_of_length-le, length-take-le, take_at, get_or-take, get_or-append-add, ext_get_or, ap₂}
 use Rattle.std.proofs.Math.ListN.{get_or-append}
 use Rattle.finite.specs.Tests.{below}
 use Rattle.finite.proofs.Laws.Bools.{either, look, clash, and_l, and_r, or_none}
 use Rattle.finite.proofs.Laws.Below.{below_in, below_out, below-not, not-below}
-use Rattle.verdict.specs.Verdict.{Verdict, Accepted}
+use Rattle.verdict.specs.Verdict.{Verdict, Accepted, outcome}
+use Rattle.verdict.specs.declared.Refusal.{Refusal}
 use Rattle.verdict.specs.declared.Refusal.TheVariants.{TableFull}
 use Rattle.semantics.specs.Edit.{Edit, DS, legal, sheet_legal}
 use Rattle.semantics.specs.Table.{Node, kind_no, nodes_fit}
@@ -22,6 +23,7 @@ use Rattle.blocks.specs.Write.{puts, TableWritten}
 use Rattle.blocks.proofs.Laws.Write.{length-puts}
 use Rattle.emitting.proofs.Laws.Puts.{puts_low, puts_in, bytes_append}
 use Rattle.own_conditions.specs.Behind.{PutBehind}
+use Rattle.rewriting.specs.Answer.{nodes_of}
 use Rattle.rewriting.specs.Refusal.{is_too_long, length_verdict}
 use Rattle.rewriting.specs.Rewriting.{TableAfter}
 use Rattle.rewriting.specs.State.{pass_of, TableMade, Passed, Finished, Rewrote}
@@ -244,6 +246,12 @@ module _ {pass : Pass} {es : List Edit} {xs : List Node} {o result result' : Lis
 pub rewrote_as : {pass : Pass} {es : List Edit} {xs ys : List Node} {result result' : List ℕ} {v : Verdict} {n : ℕ} → xs ≡ ys
     → Rewrote pass es xs result result' v n → Rewrote pass es ys result result' v n
 rewrote_as {pass} {es} {result = result} {result'} {v} {n} e R = subst (λ (zs : List Node). Rewrote pass es zs result result' v n) e R
+
+-- the table that an answer gives
+pub made_as : {pass : Pass} {es : List Edit} {xs : List Node} {result result' : List ℕ} (r : Result ℕ Refusal)
+    → Rewrote pass es xs result result' (outcome r) (nodes_of r) → IfOk r (TableAfter Accepted (passed pass es xs) result result')
+made_as (Ok n) w = w.table_after
+made_as (Err q) w = tt
 
 -- six zeros are the one node true
 pub true_table : {s : List ℕ} → s ≡ replicate node_size 0 → table_of s ≡ one_true

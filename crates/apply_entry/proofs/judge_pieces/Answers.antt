@@ -1,9 +1,0 @@
--- The site, then the sheet.
-use Rattle.refusals.proofs.Laws.Items.{then_refused, then_next}
-use Rattle.apply_entry.proofs.judge_pieces.Goals as goal
-
-pub returns-in-Accepted : goal.returns-in-Accepted
-returns-in-Accepted c = then_next c.check-v.ensures c.in-Accepted.is c.check.ensures
-
-pub returns-in-Refused : goal.returns-in-Refused
-returns-in-Refused c = then_refused _ c.check-v.ensures c.in-Refused.is

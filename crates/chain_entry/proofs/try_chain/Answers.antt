@@ -1,0 +1,28 @@
+-- What the items that are not met say of the inputs.
+use Rattle.std.proofs.Common.{arith, sym, ap, ◌∙◌, ℕ, replicate}
+use Rattle.site.proofs.Laws.Valid.{accepted_out}
+use Rattle.even_rule.proofs.Laws.Judged.{checked_rows}
+use Rattle.refusals.proofs.Laws.Items.{buffer_out, start_out}
+use Rattle.chain_entry.proofs.Laws.Chaining.{start_slot}
+use Rattle.chain_entry.proofs.try_chain.Goals as goal
+
+pub check_start-requires : goal.check_start-requires
+check_start-requires c = (accepted_out _ (sym c.in_ok-check.ensures)).0
+
+pub search-requires-clause-site_len : goal.search-requires-clause-site_len
+search-requires-clause-site_len c = (accepted_out _ (sym c.in_ok-check.ensures)).0
+
+pub search-requires-clause-free_len : goal.search-requires-clause-free_len
+search-requires-clause-free_len c = (omega arith, checked_rows c.check-2.ensures c.in_ok-check-2.was)
+
+pub search-requires-clause-way_lt_every_way : goal.search-requires-clause-way_lt_every_way
+search-requires-clause-way_lt_every_way c = let k = start_out _ _ _ (sym c.in_ok-check_start.ensures) in
+    (k.way_fits, start_slot k)
+
+pub search-requires-clause-chain_len : goal.search-requires-clause-chain_len
+search-requires-clause-chain_len c =
+    (buffer_out _ _ (sym c.in_ok-check_length.ensures), (buffer_out _ _ (sym c.in_ok-check_length-2.ensures), buffer_out _ _ (sym c.in_ok-check_length-3.ensures)))
+
+pub returns-clause-work_after : goal.returns-clause-work_after
+returns-clause-work_after c = λ _.
+    c.search.ensures.work_after ∙ ap (λ (k : ℕ). replicate k 0) (sym (buffer_out _ _ (sym c.in_ok-check_length-3.ensures)))

@@ -1,7 +1,0 @@
--- `classes_entry::verdict` gives the verdict of each case.
-use Rattle.std.proofs.Common.{sym, ap}
-use Rattle.classes_entry.specs.Answer.{verdict_of}
-use Rattle.classes_entry.proofs.verdict.Goals as goal
-
-pub returns-in-Refused : goal.returns-in-Refused
-returns-in-Refused c = sym (ap verdict_of c.in-Refused.is)

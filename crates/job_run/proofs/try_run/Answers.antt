@@ -1,0 +1,40 @@
+-- The pieces are judged and changed, then both lists are made, and the classes numbered.
+use Rattle.std.proofs.Common.{arith, length, ◌≡◌}
+use Rattle.verdict.proofs.Laws.{passed_on}
+use Rattle.limits.specs.Limits.{table_nodes}
+use Rattle.job_run.proofs.Laws.Job.{tried_refused, judge_refused, change_refused, made, over_after, over_today, done}
+use Rattle.job_run.proofs.try_run.Goals as goal
+
+pub returns-in_err-judge : goal.returns-in_err-judge
+returns-in_err-judge c = rw (passed_on c.from_residual.ensures.1) (tried_refused (judge_refused _ _ _ _ c.in_err-judge.ensures))
+
+pub returns-in_err-nodes : goal.returns-in_err-nodes
+returns-in_err-nodes c =
+    rw (passed_on c.from_residual-in_err-nodes.ensures.1) (tried_refused (change_refused c.in_ok-judge.ensures c.in_err-nodes.ensures))
+
+pub returns-in_err-check_rounds : goal.returns-in_err-check_rounds
+returns-in_err-check_rounds c =
+    let size : length c.judge.new.free ≡ table_nodes = omega arith in
+    let m = made c.in_ok-judge.ensures size c.in_ok-nodes.ensures in
+    rw (passed_on c.from_residual-in_err-check_rounds.ensures.1) (over_after m c.list-listed_after.ensures.limited c.in_err-check_rounds.ensures)
+
+pub list_first-listed_today-requires-clause-site_len : goal.list_first-listed_today-requires-clause-site_len
+list_first-listed_today-requires-clause-site_len c =
+    let size : length c.judge.new.free ≡ table_nodes = omega arith in
+    let m = made c.in_ok-judge.ensures size c.in_ok-nodes.ensures in
+    (m.site_size, (m.room, m.part_accepted))
+
+pub returns-in_err-check_rounds-2 : goal.returns-in_err-check_rounds-2
+returns-in_err-check_rounds-2 c =
+    let size : length c.judge.new.free ≡ table_nodes = omega arith in
+    let m = made c.in_ok-judge.ensures size c.in_ok-nodes.ensures in
+    rw (passed_on c.from_residual-in_err-check_rounds-2.ensures.1)
+    (over_today m c.list-listed_after.ensures.limited c.in_ok-check_rounds.ensures c.list_first-listed_today.ensures.limited
+    c.in_err-check_rounds-2.ensures)
+
+pub returns : goal.returns
+returns c =
+    let size : length c.judge.new.free ≡ table_nodes = omega arith in
+    let m = made c.in_ok-judge.ensures size c.in_ok-nodes.ensures in
+    done m c.list-listed_after.ensures.limited c.in_ok-check_rounds.ensures c.list_first-listed_today.ensures.limited
+    c.in_ok-check_rounds-2.ensures c.list_first-listed_today.ensures.work_after c.requires.sized.work_size c.number.ensures.classes c.number.ensures.value
