@@ -3,7 +3,7 @@ use Rattle.std.specs.Prelude.{◌≡◌, ◌≢◌, Bool, true, false, ◌||◌,
 use Rattle.std.proofs.Common.{◌∙◌, sym, ap, ap₂}
 use Rattle.finite.specs.Tests.{same}
 use Rattle.finite.proofs.Laws.Bools.{and_r, not_out}
-use Rattle.finite.proofs.Laws.Below.{eq_same, below_in}
+use Rattle.finite.proofs.Laws.Below.{eq_same, ne_same, below_in}
 use Rattle.limits.specs.Limits.{links, general_links}
 use Rattle.semantics.specs.Holds.{Model}
 use Rattle.semantics.specs.Edit.{AT, AS, DS, RT, functional, target, goes}
@@ -45,3 +45,17 @@ module _ (M : Model) (m x y : ℕ) {b : Bool} (h : b ≡ ends_on_site x y) where
   pub joins-functional : b ≡ true → general_links ≤ m → m < links → {u : ℕ} → u ≡ target M m x → (same u 0 || same u y) ≡ joins M m x y
   unfolding joins
   joins-functional e g k t = rw (t, sym h ∙ e, functional_in m g k)
+
+  -- a functional link that leads nowhere
+  pub joins_free : b ≡ true → general_links ≤ m → m < links → 0 ≡ target M m x → true ≡ joins M m x y
+  unfolding same
+  joins_free e g k t = joins-functional e g k t
+
+  -- and one that leads to slot u
+  pub joins_there : b ≡ true → general_links ≤ m → m < links → {u : ℕ} → u ≡ target M m x → u ≢ 0 → same u y ≡ joins M m x y
+  joins_there e g k {u} t n =
+      let here : (same u 0 || same u y) ≡ joins M m x y = joins-functional e g k t in
+      rw (ne_same n) at here
+
+-- what `goes_through` tests
+pub ruleset tests = (goes-AT, goes-RT, goes-AS, goes-DS)
