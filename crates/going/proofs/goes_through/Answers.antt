@@ -8,7 +8,7 @@ use Rattle.going.proofs.goes_through.Goals as goal
 
 pub returns-in-Ds : goal.returns-in-Ds
 unfolding same
-returns-in-Ds c = rw c.in-Ds.is (goes-DS (site_of c.args.site.now) c.in-Ds.n (c.place.ensures ∙ ap (site_of c.args.site.now).place c.at-in-Ds.ensures))
+returns-in-Ds c = rw (c.in-Ds.is, goes-DS (site_of c.args.site.now) c.in-Ds.n, c.place.ensures, c.at-in-Ds.ensures)
 
 pub returns-in-Cn1 : goal.returns-in-Cn1
 unfolding goes
