@@ -8,20 +8,20 @@ ghost use Rattle.site.specs.Refusal.{site_verdict};
 ghost use Rattle.sheet.specs.Refusal.{sheet_verdict};
 ghost use Rattle.applying.specs.Applies.{Ran, Applies};
 
+use site::{SITE_BYTES, Site};
 use verdict::Refusal;
 
 // Applies the edits in order, up to the first that does not go through.
-fn run(site: &mut [u8], sheet: &[u8], edition: u32) -> Result<(), Refusal>
-    requires { (length site.old ≡ site_bytes) × (sheet_verdict sheet.now ≡ Accepted) }
+fn run(site: &mut [u8; SITE_BYTES], sheet: &[u8], edition: u32) -> Result<(), Refusal>
+    requires { sheet_verdict sheet.now ≡ Accepted }
     ensures { Ran edition site.old sheet.now site.new result }
 {
-    let n = sheet.len() / 4;
-    for k in 0..n {
-        let e = sheet::edit_at(sheet, edition, k);
-        if !going::goes_through(site, e) {
+    for k in 0..sheet.len() / 4 {
+        let edit = sheet::edit_at(sheet, edition, k);
+        if !going::goes_through(&Site::from(&*site), edit) {
             return Err(Refusal::NotThrough(k as u16));
         }
-        edits::apply_edit(site, e);
+        edits::apply_edit(site, edit);
     }
     Ok(())
 }
@@ -31,10 +31,13 @@ pub fn apply(site: &[u8], sheet: &[u8], edition: u32, res: &mut [u8]) -> Result<
     requires { (site_verdict site.now ≡ Accepted) × ((sheet_verdict sheet.now ≡ Accepted) × (length res.old ≡ site_bytes)) }
     ensures { Applies edition site.now sheet.now res.new result }
 {
-    buffer::copy(res, site, site.len());
-    let answer = run(res, sheet, edition);
+    let Some(after) = res.as_mut_array::<SITE_BYTES>() else {
+        unreachable!()
+    };
+    after.copy_from_slice(site);
+    let answer = run(after, sheet, edition);
     if answer.is_err() {
-        buffer::zero(res);
+        after.fill(0);
     }
     answer
 }

@@ -1,5 +1,5 @@
 -- Item 13 accepts a sheet exactly where it goes through.
-use Rattle.std.specs.Prelude.{◌≡◌, true, false, List, ℕ, Err}
+use Rattle.std.specs.Prelude.{◌≡◌, true, false, List, Err}
 use Rattle.std.proofs.Common.{sym}
 use Rattle.finite.proofs.Laws.Bools.{either, look}
 use Rattle.semantics.specs.Holds.{Model}

@@ -1,6 +1,6 @@
 -- The loop over the edits: at the start, after one more, at the one that does not go through, and at the end; and the answer.
 use Rattle.std.specs.Prelude.{◌≡◌, refl, List, [], ◌∷◌, true, false, not, ℕ, suc, ◌+◌, ◌/◌, ◌≤◌, ◌<◌, length, drop, replicate, Err}
-use Rattle.std.proofs.Common.{◌∙◌, ap₂, add-one, arith, sym, ap, drop_of_length-le}
+use Rattle.std.proofs.Common.{◌∙◌, add-one, arith, sym, ap, drop_of_length-le}
 use Rattle.std.proofs.Math.ListN.{length-replicate}
 use Rattle.finite.specs.Tests.{below}
 use Rattle.finite.proofs.Laws.Bools.{either, look, clash, both}
@@ -50,11 +50,10 @@ stuck_goes (e ∷ es) M =
 pub record Progress (edition : ℕ) (S s R : List ℕ) (k : ℕ) : Type 0 where
   pub far : stuck_at (edits_of edition s) (site_of S) ≡ k + stuck_at (drop k (edits_of edition s)) (site_of R)
   pub whole : sheet (edits_of edition s) (site_of S) ≡ sheet (drop k (edits_of edition s)) (site_of R)
-  pub long : length R ≡ site_bytes
   pub upto : k ≤ length s / 4
 
-pub run_start : (edition : ℕ) (S s : List ℕ) → length S ≡ site_bytes → Progress edition S s S 0
-run_start edition S s l = record { far = omega arith; whole = refl; long = l; upto = omega arith }
+pub run_start : (edition : ℕ) (S s : List ℕ) → Progress edition S s S 0
+run_start edition S s = record { far = omega arith; whole = refl; upto = omega arith }
 
 module _ {edition : ℕ} {S s R : List ℕ} {k : ℕ} (p : Progress edition S s R k) where
   module _ {e : Edit} (q : e ≡ edit_at edition s k) (h : k < length s / 4) where
@@ -62,9 +61,9 @@ module _ {edition : ℕ} {S s R : List ℕ} {k : ℕ} (p : Progress edition S s 
     ahead : drop k (edits_of edition s) ≡ e ∷ drop (suc k) (edits_of edition s)
     ahead = edits-drop edition s k h ∙ ap (λ (x : Edit). x ∷ drop (suc k) (edits_of edition s)) (sym q)
 
-    pub run_more : goes e (site_of R) ≡ true → {R' : List ℕ} → site_of R' ≡ edit e (site_of R) → length R' ≡ site_bytes → Progress edition S s R' (k + 1)
+    pub run_more : goes e (site_of R) ≡ true → {R' : List ℕ} → site_of R' ≡ edit e (site_of R) → Progress edition S s R' (k + 1)
     unfolding sheet
-    run_more g {R'} d l =
+    run_more g {R'} d =
         let ds : List Edit = drop (suc k) (edits_of edition s) in
         let f : stuck_at (drop k (edits_of edition s)) (site_of R) ≡ suc (stuck_at ds (site_of R')) =
         ap (λ (es : List Edit). stuck_at es (site_of R)) ahead
@@ -75,7 +74,6 @@ module _ {edition : ℕ} {S s R : List ℕ} {k : ℕ} (p : Progress edition S s 
         record {
           far = rw (add-one k) (p.far ∙ u);
           whole = rw (add-one k) (p.whole ∙ ap (λ (es : List Edit). sheet es (site_of R)) ahead ∙ ap (λ (N : Model). sheet ds N) (sym d));
-          long = l;
           upto = omega arith;
         }
 

@@ -1,8 +1,10 @@
 -- A slot of a label's set.
+use Rattle.std.proofs.Common.{◌∙◌, ap}
+use Rattle.bitset.specs.Set.{removed}
 use Rattle.limits.specs.Limits.{slots}
 use Rattle.site_changes.proofs.Laws.Bytes.{label_taken}
 use Rattle.edits.proofs.take_label.Goals as goal
 
 pub returns : goal.returns
 unfolding slots
-returns c = label_taken c.args.site.now c.requires.0 c.args.p c.args.s c.requires.1.0 c.requires.1.1 c.remove.ensures
+returns c = label_taken c.args.site.now c.told-site c.args.p.number c.args.s c.args.p.within c.ranges.s.fits (c.remove.ensures ∙ ap (removed c.args.site.now) c.label_bit.ensures)

@@ -1,9 +1,9 @@
 -- When an edit goes through, test by test.
 use Rattle.std.specs.Prelude.{◌≡◌, ◌≢◌, Bool, true, false, ◌||◌, ℕ, ◌≤◌, ◌<◌, not}
-use Rattle.std.proofs.Common.{◌∙◌, sym, ap, ap₂}
+use Rattle.std.proofs.Common.{refl, ◌∙◌, sym}
 use Rattle.finite.specs.Tests.{same}
 use Rattle.finite.proofs.Laws.Bools.{and_r, not_out}
-use Rattle.finite.proofs.Laws.Below.{eq_same, below_in}
+use Rattle.finite.proofs.Laws.Below.{eq_same, ne_same, below_in}
 use Rattle.limits.specs.Limits.{links, general_links}
 use Rattle.semantics.specs.Holds.{Model}
 use Rattle.semantics.specs.Edit.{AT, AS, DS, RT, functional, target, goes}
@@ -11,22 +11,25 @@ use Rattle.site.proofs.Laws.Read.{functional_in}
 use Rattle.going.specs.Joins.{ends_on_site, joins}
 
 -- at the places of its names
-module _ (M : Model) {b : Bool} where
-  pub goes-AT : (m n1 n2 : ℕ) {x y : ℕ} → x ≡ M.place n1 → y ≡ M.place n2 → b ≡ joins M m x y → b ≡ goes (AT m n1 n2) M
+module _ (M : Model) where
+  pub goes-AT : (m n1 n2 : ℕ) → goes (AT m n1 n2) M ≡ joins M m (M.place n1) (M.place n2)
   unfolding goes joins
-  goes-AT m n1 n2 e f h = h ∙ ap₂ (joins M m) e f
+  goes-AT m n1 n2 = refl
 
-  pub goes-RT : (f n1 n2 : ℕ) {x y : ℕ} → x ≡ M.place n1 → y ≡ M.place n2 → b ≡ ends_on_site x y → b ≡ goes (RT f n1 n2) M
+  pub goes-RT : (f n1 n2 : ℕ) → goes (RT f n1 n2) M ≡ ends_on_site (M.place n1) (M.place n2)
   unfolding goes
-  goes-RT f n1 n2 e g h = h ∙ ap₂ ends_on_site e g
+  goes-RT f n1 n2 = refl
 
-  pub goes-AS : (n k : ℕ) → b ≡ M.present k → not b ≡ goes (AS n k) M
+  pub goes-AS : (n k : ℕ) → goes (AS n k) M ≡ not (M.present k)
   unfolding goes
-  goes-AS n k h = ap not h
+  goes-AS n k = refl
 
-pub goes-DS : (M : Model) (n : ℕ) {x : ℕ} → x ≡ M.place n → not (same x 0) ≡ goes (DS n) M
-unfolding goes
-goes-DS M n e = ap (λ (z : ℕ). not (same z 0)) e
+  pub goes-DS : (n : ℕ) → goes (DS n) M ≡ not (same (M.place n) 0)
+  unfolding goes
+  goes-DS n = refl
+
+-- what these four test
+pub ruleset tests = (goes-AT, goes-RT, goes-AS, goes-DS)
 
 -- the end that a link leads to is not nil
 pub end_there : (x y : ℕ) → ends_on_site x y ≡ true → y ≢ 0
@@ -45,3 +48,14 @@ module _ (M : Model) (m x y : ℕ) {b : Bool} (h : b ≡ ends_on_site x y) where
   pub joins-functional : b ≡ true → general_links ≤ m → m < links → {u : ℕ} → u ≡ target M m x → (same u 0 || same u y) ≡ joins M m x y
   unfolding joins
   joins-functional e g k t = rw (t, sym h ∙ e, functional_in m g k)
+
+  -- a functional link that leads nowhere
+  pub joins_free : b ≡ true → general_links ≤ m → m < links → 0 ≡ target M m x → true ≡ joins M m x y
+  unfolding same
+  joins_free e g k t = joins-functional e g k t
+
+  -- and one that leads to slot u
+  pub joins_there : b ≡ true → general_links ≤ m → m < links → {u : ℕ} → u ≡ target M m x → u ≢ 0 → same u y ≡ joins M m x y
+  joins_there e g k {u} t n =
+      let here : (same u 0 || same u y) ≡ joins M m x y = joins-functional e g k t in
+      rw (ne_same n) at here

@@ -58,3 +58,6 @@ legal-DS n e = below_out n names e
 pub legal-RT : (f n1 n2 : ℕ) → legal (RT f n1 n2) ≡ true → ((general_links ≤ f) × (f < links)) × ((n1 < names) × (n2 < names))
 unfolding legal
 legal-RT f n1 n2 e = (functional_out f (and_l _ _ e), name_range n1 n2 (and_r (functional f) _ e))
+
+-- all of them
+pub ruleset ranges = (legal-CN1, legal-CN2, legal-AP, legal-DP, legal-AT, legal-DT1, legal-DT2, legal-AS, legal-DS, legal-RT)

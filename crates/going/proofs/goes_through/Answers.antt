@@ -1,27 +1,15 @@
--- Four of the edits have a test, and the others always go through.
+-- DS has a test of its own; six edits always go through.
+use Rattle.std.proofs.Common.{◌∙◌, ap, arith}
+use Rattle.finite.specs.Tests.{same}
 use Rattle.semantics.specs.Edit.{goes}
+use Rattle.site.specs.Site.{site_of}
+use Rattle.going.proofs.Laws.Goes.{goes-DS}
 use Rattle.going.proofs.goes_through.Goals as goal
+
+pub returns-in-Ds : goal.returns-in-Ds
+unfolding same
+returns-in-Ds c = rw (c.in-Ds.is, goes-DS (site_of c.args.site.now) c.in-Ds.n, c.place.ensures, c.at-in-Ds.ensures)
 
 pub returns-in-Cn1 : goal.returns-in-Cn1
 unfolding goes
-returns-in-Cn1 c = rw c.in-Cn1.is
-
-pub returns-in-Cn2 : goal.returns-in-Cn2
-unfolding goes
-returns-in-Cn2 c = rw c.in-Cn2.is
-
-pub returns-in-Ap : goal.returns-in-Ap
-unfolding goes
-returns-in-Ap c = rw c.in-Ap.is
-
-pub returns-in-Dp : goal.returns-in-Dp
-unfolding goes
-returns-in-Dp c = rw c.in-Dp.is
-
-pub returns-in-Dt1 : goal.returns-in-Dt1
-unfolding goes
-returns-in-Dt1 c = rw c.in-Dt1.is
-
-pub returns-in-Dt2 : goal.returns-in-Dt2
-unfolding goes
-returns-in-Dt2 c = rw c.in-Dt2.is
+returns-in-Cn1 c = grind (arith, c.in-Cn1.is)

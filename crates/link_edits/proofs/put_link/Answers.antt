@@ -1,12 +1,22 @@
 -- A slot of a row, or the byte of a target.
-use Rattle.limits.specs.Limits.{slots}
+use Rattle.std.proofs.Common.{◌∙◌, ◌+◌, ap, arith, set}
+use Rattle.bitset.specs.Set.{inserted}
+use Rattle.limits.specs.Limits.{slots, general_links}
 use Rattle.site_changes.proofs.Laws.Bytes.{row_put, link_put}
 use Rattle.link_edits.proofs.put_link.Goals as goal
 
-pub returns-then-m-lt-GENERAL_LINKS : goal.returns-then-m-lt-GENERAL_LINKS
+pub returns-in-General : goal.returns-in-General
 unfolding slots
-returns-then-m-lt-GENERAL_LINKS c = row_put c.args.site.now c.requires.0 c.args.m c.args.s c.args.t c.if-m-lt-GENERAL_LINKS.true c.requires.1.1.0 c.requires.1.1.1.0 c.insert.ensures
+returns-in-General c =
+    let S = c.args.site.now in
+    rw c.in-General.is
+    (row_put S c.told-site c.in-General.m.number c.args.s c.args.t c.in-General.m.within c.ranges.s.fits c.ranges.t.fits
+    (c.insert.ensures ∙ ap (inserted S) (omega (arith, c.row_at.ensures, c.from.ensures))))
 
-pub returns-else-m-lt-GENERAL_LINKS : goal.returns-else-m-lt-GENERAL_LINKS
+pub returns-in-Functional : goal.returns-in-Functional
 unfolding slots
-returns-else-m-lt-GENERAL_LINKS c = link_put c.args.site.now c.args.m c.args.s c.requires.0 c.if-m-lt-GENERAL_LINKS.false c.requires.1.0 c.requires.1.1.0 c.args.t c.requires.1.1.1.0 (c.slice_known-1.given _).fits c.requires.1.1.1.1 c.put_target.ensures
+returns-in-Functional c =
+    let S = c.args.site.now in
+    rw c.in-Functional.is
+    (link_put S (general_links + c.in-Functional.f.number) c.args.s c.told-site (omega arith) (omega (arith, c.in-Functional.f.within)) c.ranges.s.fits
+    c.args.t c.ranges.t.fits (c.fits-site _) (rw c.in-Functional.is at c.requires) (ap (λ k. set S k c.args.t) c.target_at.ensures))

@@ -1,10 +1,10 @@
 -- The link does not lead from the slots below the loop's to the slot.
 use Rattle.std.proofs.Common.{◌≡◌, ◌≤◌, length}
 use Rattle.bitset.specs.Set.{set_slots}
-use Rattle.site.specs.Layout.{site_bytes}
 use Rattle.site.specs.Site.{site_of}
+use Rattle.site.specs.Ways.{link_number}
 use Rattle.site_changes.specs.Change.{column_to}
 use Rattle.link_edits.proofs.take_column.Given as goal
 
 abbrev pub invariant-loop-t : goal.invariant-loop-t
-invariant-loop-t l = (site_of l.site ≡ column_to (site_of l.initial.site) l.m l.s l.t) × ((length l.site ≡ site_bytes) × (l.t ≤ set_slots))
+invariant-loop-t l = site_of l.site ≡ column_to (site_of l.initial.site) (link_number l.link) l.s l.t

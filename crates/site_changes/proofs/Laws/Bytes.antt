@@ -1,10 +1,12 @@
 -- The changes, byte by byte: what a site's bytes say after one was set, or one slot put in or taken out.
-use Rattle.std.specs.Prelude.{◌≡◌, refl, ◌⊎◌, ◌≢◌, ◌&&◌, List, length, get_or, set, Bool, true, false, not, ◌||◌, cond, ℕ, ◌+◌, ◌*◌, ◌/◌, ◌%◌, ◌≤◌, ◌<◌}
+use Rattle.std.specs.Prelude.{◌≡◌, refl, ◌⊎◌, ◌≢◌, ◌&&◌, List, length, replicate, get_or, set, Bool, true, false, not, ◌||◌, cond, ℕ, ◌+◌, ◌*◌, ◌/◌, ◌%◌, ◌≤◌, ◌<◌}
 use Rattle.std.proofs.Common.{◌∙◌, inl, inr, get_or-set_same, get_or-set_other, sym, ap, ap₂, arith}
+use Rattle.std.proofs.lemmas.List.{length-replicate, get_or-replicate}
 use Rattle.std.proofs.Math.Bool.{and-true, and-false}
 use Rattle.std.proofs.Math.Decide.{dec_lt}
 use Rattle.finite.specs.Tests.{same, bit}
 use Rattle.finite.proofs.Laws.Bools.{either, look, clash, both, no_true, and_in, and_l, and_r, or_out, not_in, not_out, cond_comes, cond_was}
+use Rattle.finite.proofs.Laws.Weights.{bit-zero}
 use Rattle.finite.proofs.Laws.Below.{equal?, same_eq, same_refl, eq_same, ne_same}
 use Rattle.bitset.specs.Set.{set_bytes, has, Is, inserted, removed}
 use Rattle.bitset.proofs.Laws.Part.{back, back_below, back_above, back-has}
@@ -407,3 +409,12 @@ row_cleared S ys m x k len hm hx hk ly none =
 
     outside : (a : ℕ) → (row_at m x ≤ a / 8 → a / 8 < row_at m x + k → ⊥) → has S' a ≡ has S a
     outside a h = back_other S ys (row_at m x) k (omega arith) ly a h
+
+-- the k bytes from b on, the targets of slot x by link m, become zeros
+pub row_zeroed : (S ys : List ℕ) (m x b k : ℕ) → length S ≡ site_bytes → m < general_links → x < slots → b ≡ row_at m x → k ≡ set_bytes → ys ≡ replicate k 0
+    → site_of (back S ys b k) ≡ without_target (site_of S) m x
+unfolding has
+row_zeroed S ys m x b k len hm hx hb hk zeros =
+    rw hb
+    (row_cleared S ys m x k len hm hx hk (ap length zeros ∙ length-replicate {A = ℕ} k 0) (λ t h.
+    rw zeros (ap (λ (v : ℕ). bit v (t % 8)) (get_or-replicate k (t / 8) 0 0 (omega (arith, hk))) ∙ bit-zero (t % 8))))
