@@ -7,7 +7,7 @@ mod view;
 mod ways;
 
 use bitset::{SET_BYTES, SET_SLOTS};
-pub use valid::check;
+pub use valid::{check, read};
 pub use view::Site;
 pub use ways::{Link, Way};
 

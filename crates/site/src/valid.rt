@@ -1,8 +1,9 @@
-ghost use Rattle.std.specs.Prelude.{◌≡◌, not, ◌+◌, ◌*◌, ◌≤◌, ◌<◌, get_or};
+ghost use Rattle.std.specs.Prelude.{◌≡◌, IfOk, not, ◌+◌, ◌*◌, ◌≤◌, ◌<◌, get_or};
 ghost use Rattle.finite.specs.Bytes.{Bytes};
 ghost use Rattle.finite.specs.Tests.{all};
 ghost use Rattle.bitset.specs.Set.{set_bytes, set_slots};
 ghost use Rattle.limits.specs.Limits.{names, general_links};
+ghost use Rattle.verdict.specs.Verdict.{outcome};
 ghost use Rattle.site.specs.Layout.{site_bytes, target_at, row_at};
 ghost use Rattle.site.specs.Site.{site_of};
 ghost use Rattle.site.specs.Refusal.{item4, item5, item6, touches, site_verdict};
@@ -158,9 +159,10 @@ fn links_fit(site: &Site, onsite: &SlotSet) -> bool
     true
 }
 
-// The first of items 3 to 6 that the bytes meet.
-pub fn check(bytes: &[u8]) -> Result<(), Refusal>
-    ensures { result ≡ site_verdict bytes.now }
+// The site in these bytes, or the first of items 3 to 6 that they meet.
+pub fn read(bytes: &[u8]) -> Result<Site<'_>, Refusal>
+    ensures site { IfOk result (λ s. s ≡ bytes.now) }
+    ensures verdict { outcome result ≡ site_verdict bytes.now }
 {
     let Some(site) = Site::new(bytes) else {
         return Err(Refusal::SiteLength);
@@ -175,5 +177,13 @@ pub fn check(bytes: &[u8]) -> Result<(), Refusal>
     if !links_fit(&site, &onsite) {
         return Err(Refusal::Links);
     }
+    Ok(site)
+}
+
+// The first of items 3 to 6 that the bytes meet.
+pub fn check(bytes: &[u8]) -> Result<(), Refusal>
+    ensures { result ≡ site_verdict bytes.now }
+{
+    read(bytes)?;
     Ok(())
 }
