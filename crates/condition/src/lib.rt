@@ -8,8 +8,7 @@ ghost use Rattle.condition.specs.Bytes.{word_at, node_at, table_of};
 ghost use Rattle.condition.specs.Limits.{param_limit, child_limit};
 ghost use Rattle.condition.specs.Refusal.{size_fits, nodes_verdict};
 
-use buffer::wide;
-use limits::{DIA, KINDS, NOT, OR, SLOT, TABLE_BYTES};
+use limits::{DIA, KINDS, NODE_BYTES, NOT, OR, SLOT, TABLE_BYTES};
 use verdict::Refusal;
 
 // The bounds of parameters, as they are compared.
@@ -26,23 +25,14 @@ const WAY_LIMIT: usize = limits::EVERY as usize + 1;
 pub fn size_fits(n: usize) -> bool
     ensures { result ≡ size_fits n }
 {
-    if n % 6 != 0 {
-        return false;
-    }
-    if n < 6 {
-        return false;
-    }
-    if TABLE_BYTES < n {
-        return false;
-    }
-    true
+    (n % NODE_BYTES == 0) & (n >= NODE_BYTES) & (n <= TABLE_BYTES)
 }
 
 fn word(table: &[u8], at: usize) -> usize
     requires { at + 2 ≤ length table.now }
     ensures { (result ≡ word_at table.now at) × (result < 65536) }
 {
-    wide(table[at]) + 256 * wide(table[at + 1])
+    usize::from(u16::from_le_bytes([table[at], table[at + 1]]))
 }
 
 // The fields of node i, of any bytes.
@@ -80,7 +70,7 @@ pub fn number(table: &[u8], i: usize) -> usize
     requires i_in_bounds { 6 * i + 6 ≤ length table.now }
     ensures { (result ≡ (node_at table.now i).param) × (result < param_limit (kind_of (node_at table.now i).kind)) }
 {
-    wide(param(table, i))
+    usize::from(param(table, i))
 }
 
 pub fn left_child(table: &[u8], i: usize) -> usize
@@ -141,7 +131,7 @@ fn node_fits(table: &[u8], i: usize) -> bool
     ensures { result ≡ node_fits i (node_at table.now i) }
 {
     let k = kind(table, i);
-    let p = wide(param(table, i)) < param_limit(k);
+    let p = usize::from(param(table, i)) < param_limit(k);
     let l = left(table, i) < child_limit(k, NOT, SLOT, i);
     let r = right(table, i) < child_limit(k, OR, DIA, i);
     (k < KINDS) & p & l & r

@@ -140,9 +140,7 @@ fn visit_all(table: &[u8], words: &mut [u64; TABLE_NODES], n: usize)
     requires table_len { length table.now ≡ 6 * n }
     ensures { Rows table.now words.new }
 {
-    let mut i = n;
-    while 0 < i {
-        i -= 1;
+    for i in (0..n).rev() {
         visit(table, words, n, i);
     }
 }
@@ -187,17 +185,9 @@ fn unite(words: &[u64; TABLE_NODES], free: &mut [u16], n: usize)
     requires { (n ≤ table_nodes) × (length free.old ≡ table_nodes) }
     ensures { United words.now free.old free.new n }
 {
-    let mut i = 0;
-    while i < n {
+    for i in 0..n {
         free[i] = free_in(words[i]);
-        i += 1;
     }
-}
-
-fn no_words() -> [u64; TABLE_NODES]
-    ensures { result ≡ no_masks }
-{
-    [0u64; TABLE_NODES]
 }
 
 // Room for the masks of a table's free variables.
@@ -214,7 +204,7 @@ fn check_rules(table: &[u8], free: &mut [u16]) -> Result<(), Refusal>
     ensures { Checked table.now free.new result }
 {
     let n = table.len() / 6;
-    let mut words = no_words();
+    let mut words = [0u64; TABLE_NODES];
     visit_all(table, &mut words, n);
     check_even(table, &words)?;
     let last = n - 1;

@@ -10,7 +10,7 @@ use Rattle.even_rule.proofs.check_rules.Goals as goal
 
 pub visit_all-requires-clause-visitable : goal.visit_all-requires-clause-visitable
 visit_all-requires-clause-visitable c = let size = (nodes_accepted _ c.requires.nodes).0 in
-    rw c.no_words-words.ensures (none_done (fit c.args.table.now c.requires.nodes) (omega (arith, size)))
+    (none_done (fit c.args.table.now c.requires.nodes) (omega (arith, size)))
 
 pub visit_all-requires-clause-table_len : goal.visit_all-requires-clause-table_len
 visit_all-requires-clause-table_len c = let size = (nodes_accepted _ c.requires.nodes).0 in omega (arith, size)
