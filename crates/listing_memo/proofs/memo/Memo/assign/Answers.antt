@@ -12,6 +12,5 @@ returns c =
     let l : length m.variables ≡ variables = omega arith in
     let f : length m.free_in ≡ variables = omega arith in
     let few : c.index-at.result < length m.free_in = omega (arith, c.index-at.ensures, c.args.x.within) in
-    let read = get_or_default m.free_in c.index-at.result c.index-self-at-2.result [] few in
     rw (← c.index-at.ensures) (assigned m c.args.set (omega (arith, few)) l
-    (λ k h. c.sub-self.ensures k h ∙ ap (λ B. has m.known k && not (has B k)) read))
+    (λ k h. c.sub-self.ensures k h ∙ ap (λ B. has m.known k && not (has B k)) (get_or_default m.free_in c.index-at.result _ [] few)))
