@@ -14,6 +14,7 @@ type NodeSet = BitSet<32>;
 
 pub type Variable = Below<16>;
 
+#[derive(Drop)]
 pub struct Memo {
     variables: [SlotSet; VARIABLES],
     known: NodeSet,
