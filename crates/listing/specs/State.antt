@@ -1,18 +1,18 @@
--- What the evaluator keeps between calls, what a call of it asks, and what it answers and leaves. Its memo is three buffers: the sets of
--- listing_memo, the rounds made for each known node, and the work buffer, which has each known node's set.
-use Rattle.std.specs.Prelude.{◌≡◌, List, true, ℕ, suc, ◌+◌, ◌-◌, ◌*◌, ◌≤◌, ◌<◌, min, length, get_or}
+-- What the evaluator keeps between calls, what a call of it asks, and what it answers and leaves. It keeps the memo, and the work buffer, which has
+-- each known node's set.
+use Rattle.std.specs.Prelude.{◌≡◌, List, true, ℕ, suc, ◌+◌, ◌-◌, ◌*◌, ◌≤◌, ◌<◌, min, length}
 use Rattle.semantics.specs.Form.{free}
 use Rattle.semantics.specs.Holds.{Set, Env}
 use Rattle.semantics.specs.Table.{tree_at, nodes_fit, even_table}
 use Rattle.semantics.specs.Eval.{eval}
 use Rattle.semantics.specs.Agree.{◌≐◌}
 use Rattle.rounds.specs.Count.{rounds}
-use Rattle.site.specs.Layout.{site_bytes}
 use Rattle.site.specs.Site.{site_of}
 use Rattle.condition.specs.Bytes.{table_of}
-use Rattle.limits.specs.Limits.{variables, table_nodes, table_bytes, highest_limit}
-use Rattle.listing_sets.specs.Offsets.{set_at, valuation}
-use Rattle.listing_memo.specs.Memo.{memo_bytes, known, free_in}
+use Rattle.limits.specs.Limits.{variables, table_bytes, highest_limit}
+use Rattle.listing_memo.specs.declared.memo.Memo.{Memo}
+use Rattle.listing_memo.specs.Memo.{valuation, known, made, free_in}
+use Rattle.listing_sets.specs.Offsets.{set_at}
 use Rattle.listing.specs.Listed.{work_bytes}
 
 -- the set of node j of the table S under the valuation ρ, and its rounds
@@ -21,12 +21,6 @@ node_set site S ρ j = eval (site_of site) ρ (tree_at (table_of S) j)
 
 abbrev pub node_rounds : List ℕ → List ℕ → Env → ℕ → ℕ
 node_rounds site S ρ j = rounds (site_of site) ρ (tree_at (table_of S) j)
-
--- the three buffers of the memo have their lengths
-pub record Sized (sets made work : List ℕ) : Type 0 where
-  pub sets_size : length sets ≡ memo_bytes
-  pub made_size : length made ≡ table_nodes
-  pub work_size : length work ≡ work_bytes
 
 -- a call may count as far as the cap, which is the limit or one above it. Where it is the limit, nothing is ever over the limit
 pub record Budgeted (limit cap : ℕ) : Type 0 where
@@ -40,29 +34,28 @@ pub record Right (site S : List ℕ) (ρ : Env) (cap : ℕ) (work : List ℕ) (j
   pub number : min n cap ≡ min (node_rounds site S ρ j) cap
 
 -- the memo is right: it has the variables that are free in each node, and what it keeps of the known nodes is right
-pub record Memo (site S : List ℕ) (cap : ℕ) (sets made work : List ℕ) : Type 0 where
-  pub free_right : (x j : ℕ) → x < variables → 6 * j + 6 ≤ length S → free_in sets x j ≡ free x (tree_at (table_of S) j)
-  pub known_right : (j : ℕ) → 6 * j + 6 ≤ length S → known sets j ≡ true → Right site S (valuation sets) cap work j (get_or made j 0)
+pub record RightMemo (site S : List ℕ) (cap : ℕ) (memo : Memo) (work : List ℕ) : Type 0 where
+  pub free_right : (x j : ℕ) → x < variables → 6 * j + 6 ≤ length S → free_in memo x j ≡ free x (tree_at (table_of S) j)
+  pub known_right : (j : ℕ) → 6 * j + 6 ≤ length S → known memo j ≡ true → Right site S (valuation memo) cap work j (made memo j)
 
 -- what a call asks: a table that is accepted, a budget, and a memo that is right
-pub record Evaluable (site S : List ℕ) (limit cap : ℕ) (sets made work : List ℕ) : Type 0 where
-  pub site_size : length site ≡ site_bytes
+pub record Evaluable (site S : List ℕ) (limit cap : ℕ) (memo : Memo) (work : List ℕ) : Type 0 where
   pub short : length S ≤ table_bytes
   pub fits : nodes_fit 0 (table_of S) ≡ true
   pub even_rule : even_table (table_of S) ≡ true
   pub budget : Budgeted limit cap
-  pub sized : Sized sets made work
-  pub memo : Memo site S cap sets made work
+  pub work_size : length work ≡ work_bytes
+  pub right : RightMemo site S cap memo work
 
 -- what a call for node i leaves where its rounds are within the limit: a memo that is right as far as what is left of the cap, the variables'
 -- sets as they were, and node i's set in the work buffer
-pub record Done (site S : List ℕ) (cap : ℕ) (sets sets' made' work' : List ℕ) (i : ℕ) : Type 0 where
-  pub memo : Memo site S cap sets' made' work'
-  pub values : (v : ℕ) → valuation sets' v ≐ valuation sets v
-  pub here : set_at work' i ≐ node_set site S (valuation sets) i
+pub record Done (site S : List ℕ) (cap : ℕ) (memo memo' : Memo) (work' : List ℕ) (i : ℕ) : Type 0 where
+  pub right : RightMemo site S cap memo' work'
+  pub values : (v : ℕ) → valuation memo' v ≐ valuation memo v
+  pub here : set_at work' i ≐ node_set site S (valuation memo) i
 
--- what it answers: the node's rounds, as far as the cap. Over the limit nothing is said of what is left but the lengths
-pub record Evaluated (site S : List ℕ) (limit cap : ℕ) (sets sets' made' work' : List ℕ) (i r : ℕ) : Type 0 where
-  pub sized : Sized sets' made' work'
-  pub number : r ≡ min (node_rounds site S (valuation sets) i) cap
-  pub done : r ≤ limit → Done site S (cap - r) sets sets' made' work' i
+-- what it answers: the node's rounds, as far as the cap. Over the limit nothing is said of what is left but the length
+pub record Evaluated (site S : List ℕ) (limit cap : ℕ) (memo memo' : Memo) (work' : List ℕ) (i r : ℕ) : Type 0 where
+  pub work_size : length work' ≡ work_bytes
+  pub number : r ≡ min (node_rounds site S (valuation memo) i) cap
+  pub done : r ≤ limit → Done site S (cap - r) memo memo' work' i

@@ -1,7 +1,7 @@
 -- The answer: the last node's set is that of the slots where the condition holds, and its rounds are those that listing makes, whatever sets
 -- the variables have.
-use Rattle.std.specs.Prelude.{◌≡◌, refl, ◌↔◌, List, Bool, true, false, not, ℕ, ◌+◌, ◌*◌, ◌-◌, ◌/◌, ◌<◌, length}
-use Rattle.std.proofs.Common.{◌∙◌, subst, arith, sym, ap}
+use Rattle.std.specs.Prelude.{◌≡◌, refl, ◌↔◌, List, Bool, true, false, not, ℕ, ◌+◌, ◌*◌, ◌-◌, ◌/◌, ◌<◌, length, take}
+use Rattle.std.proofs.Common.{◌∙◌, subst, arith, sym, ap, get_or-take}
 use Rattle.std.proofs.Math.Logic.Iff
 use Rattle.finite.specs.Tests.{same}
 use Rattle.finite.proofs.Laws.Bools.{either, clash, no_true, and_l, and_r, or_out, not_out}
@@ -28,8 +28,9 @@ use Rattle.verdict.specs.Verdict.{Accepted}
 use Rattle.condition.specs.Refusal.{condition_verdict}
 use Rattle.condition.proofs.Laws.Verdict.{Sound, accepted_sound}
 use Rattle.even_rule.specs.Free.{FreeRows}
-use Rattle.listing_sets.specs.Offsets.{set_at, valuation, SetWritten}
-use Rattle.listing_memo.specs.Memo.{Started}
+use Rattle.listing_sets.specs.Offsets.{set_at}
+use Rattle.listing_memo.specs.declared.memo.Memo.{Memo}
+use Rattle.listing_memo.specs.Memo.{valuation, Started}
 use Rattle.listing.specs.Listed.{work_bytes}
 use Rattle.listing.specs.State.{Budgeted, Evaluable, Done}
 
@@ -62,29 +63,23 @@ unfolding FewVariables closed free
 none_free φ k c v = no_true (λ o. not_out _ (all_out variables _ c v (either (or_out (occ true v φ) _ o) (k true v) (k false v))) o)
 
 -- at the start no node is known
-pub none-known : {site S masks sets made work : List ℕ} {limit cap n : ℕ} → length site ≡ site_bytes → Sound S → FreeRows S masks → Started masks sets n
-    → n ≡ length S / 6 → length made ≡ table_nodes → length work ≡ work_bytes → Budgeted limit cap → Evaluable site S limit cap sets made work
-unfolding set_at
-none-known {S = S} {n = n} hs sound f start hn hm hw g =
+pub none-known : {site S masks work : List ℕ} {memo : Memo} {limit cap n : ℕ} → Sound S → FreeRows S masks → Started (take n masks) memo n
+    → n ≡ length S / 6 → length work ≡ work_bytes → Budgeted limit cap → Evaluable site S limit cap memo work
+none-known {S = S} {masks} {n = n} sound f start hn hw g =
     let len = length_table S in
     record {
-      site_size = hs;
       short = sound.few;
       fits = sound.fits;
       even_rule = sound.even_rule;
       budget = g;
-      sized = record { sets_size = start.size; made_size = hm; work_size = hw };
-      memo = record {
+      work_size = hw;
+      right = record {
         free_right = λ x j hx h.
-            start.noted x j hx (omega (arith, sound.few)) ∙ rw (below_in j n (omega arith)) (f.node j x (omega arith) hx);
-        known_right = λ j h k. clash k (start.low _ (omega (arith, sound.few)));
+            start.noted x j hx (omega (arith, sound.few))
+            ∙ rw (below_in j n (omega arith), get_or-take n masks j 0 (omega arith)) (f.node j x (omega arith) hx);
+        known_right = λ j h k. clash k (start.none_known j (omega (arith, sound.few)));
       };
     }
-
--- the set that a buffer of one set holds
-pub whole : (b b' found : List ℕ) → SetWritten b b' 0 (has found) → has b' ≐ has found
-unfolding set_at
-whole b b' found w s h = ap (has b') (let q : s ≡ set_slots * 0 + s = omega arith in q) ∙ w.here s h
 
 -- at the end the last node's set is that of the condition, and its rounds are those that listing makes, whatever sets the variables have
 module _ {S : List ℕ} {i : ℕ} (sound : Sound S) (e : i ≡ length S / 6 - 1) (M : Model) where
@@ -116,11 +111,11 @@ module _ {S : List ℕ} {i : ℕ} (sound : Sound S) (e : i ≡ length S / 6 - 1)
       (ap (λ (j : ℕ). rounds M σ (tree_at xs j)) is_last ∙ rounds-closed M (tree_at xs last) unbound σ ρ)
 
 -- the set that was read from the work buffer after the last node's call
-pub answer : {cap i : ℕ} {site S sets sets' made' work' : List ℕ} (set' : List ℕ) → Sound S → i ≡ length S / 6 - 1 → Done site S cap sets sets' made' work' i
+pub answer : {cap i : ℕ} {site S work' : List ℕ} {memo memo' : Memo} (set' : List ℕ) → Sound S → i ≡ length S / 6 - 1 → Done site S cap memo memo' work' i
     → has set' ≐ set_at work' i → (ρ : Env) (s : ℕ) → s < slots → (has set' s ≡ true) ↔ Holds (site_of site) ρ (form_of (table_of S)) s
-answer {site = site} {sets = sets} set' sound e d found ρ s h =
+answer {site = site} {memo = memo} set' sound e d found ρ s h =
     let value = found s h ∙ d.here s h in
-    Iff.trans (λ p. sym value ∙ p, λ p. value ∙ p) (answer_slot sound e (site_of site) (valuation sets) ρ s h)
+    Iff.trans (λ p. sym value ∙ p, λ p. value ∙ p) (answer_slot sound e (site_of site) (valuation memo) ρ s h)
 
 -- listing an accepted condition makes one number of rounds under all valuations
 pub accepted_makes : (M : Model) (S : List ℕ) → condition_verdict S ≡ Accepted → (n : ℕ) × ((ρ : Env) → Makes M ρ (form_of (table_of S)) n)

@@ -1,34 +1,20 @@
 -- The set of a node, from its kind and its children's sets.
-use Rattle.std.specs.Prelude.{◌≡◌, ◌⊎◌, ◌≢◌, List, true, ℕ, ◌+◌, ◌*◌, ◌≤◌, ◌<◌, length, not, ◌&&◌, ◌||◌, cond}
+use Rattle.std.specs.Prelude.{◌≡◌, ◌⊎◌, ◌≢◌, List, true, ℕ, ◌+◌, ◌*◌, ◌≤◌, length, not, ◌&&◌, ◌||◌, cond}
 use Rattle.std.proofs.Common.{◌∙◌, inl, inr, sym, ap, ap₂, arith}
 use Rattle.finite.specs.Tests.{same, any, all}
 use Rattle.finite.proofs.Laws.Bools.{either}
 use Rattle.finite.proofs.Laws.Below.{equal?, eq_same, ne_same, any_cong, all_cong}
-use Rattle.bitset.specs.Set.{set_slots, has}
-use Rattle.limits.specs.Limits.{slots, labels, true_no, here_no, label_no, name_no, var_no, not_no, or_no, and_no, dia_no, box_no, mu_no, nu_no, slot_no}
+use Rattle.limits.specs.Limits.{slots, true_no, here_no, label_no, name_no, var_no, not_no, or_no, and_no, dia_no, box_no, mu_no, nu_no, slot_no}
 use Rattle.semantics.specs.Form.{Form, var}
 use Rattle.semantics.specs.Holds.{Set, Env, put, Model, step}
 use Rattle.semantics.specs.Table.{k_true, k_here, k_label, k_name, k_var, k_slot, k_not, k_dia, k_box, k_mu, k_nu, k_or, k_and, Kind, leaf, unary, binary, kind_of, way_of, Node, atom, one, two, build, tree_at, nodes_fit}
 use Rattle.semantics.specs.FixedPoint.{iter, none, full}
 use Rattle.semantics.specs.Eval.{eval}
 use Rattle.semantics.specs.Agree.{◌≐◌}
-use Rattle.site.specs.Site.{site_of}
-use Rattle.site.proofs.Laws.Read.{present_is, marked_is}
 use Rattle.condition.specs.Bytes.{node_at, table_of}
 use Rattle.condition.proofs.Laws.Fits.{node-tree}
 use Rattle.condition.proofs.Laws.Limits.{kind_past}
-use Rattle.listing_sets.specs.Offsets.{set_at}
 use Rattle.listing_sets.specs.Nodes.{node_makes, start_of}
-
--- the present slots are set 0 of the site's bytes, and the slots of label p are set 1 + p
-pub here_set : (site : List ℕ) → set_at site 0 ≐ (site_of site).present
-unfolding set_at
-here_set site s h = ap (has site) (let q : set_slots * 0 + s ≡ s = omega arith in q) ∙ sym (present_is site s h)
-
-pub label_set : (site : List ℕ) (p : ℕ) → p < labels → set_at site (1 + p) ≐ (site_of site).marked p
-unfolding set_at
-label_set site p l s h =
-    ap (has site) (let q : set_slots * (1 + p) + s ≡ (32 + 32 * p) * 8 + s = omega arith in q) ∙ sym (marked_is site p s l h)
 
 module _ (S : List ℕ) (f : nodes_fit 0 (table_of S) ≡ true) (i : ℕ) (h : 6 * i + 6 ≤ length S) (M : Model) (ρ : Env) where
   -- the set of node i, of kind k

@@ -1,15 +1,15 @@
 -- A set in a buffer: the part that is lent, and the buffer once the part has come back.
-use Rattle.std.specs.Prelude.{◌≡◌, refl, ◌≢◌, List, ℕ, ◌+◌, ◌-◌, ◌*◌, ◌/◌, ◌%◌, ◌≤◌, ◌<◌, length, get_or, take, drop}
+use Rattle.std.specs.Prelude.{◌≡◌, ◌≢◌, List, ℕ, ◌+◌, ◌-◌, ◌*◌, ◌/◌, ◌%◌, ◌≤◌, ◌<◌, length, get_or, take, drop}
 use Rattle.std.proofs.Common.{◌∙◌, length-drop, length-take-le, ap, arith}
 use Rattle.finite.specs.Tests.{bit, below}
 use Rattle.finite.proofs.Laws.Bools.{either, look}
-use Rattle.finite.proofs.Laws.Below.{below_in, below_out, not-below}
+use Rattle.finite.proofs.Laws.Below.{below_out, not-below}
 use Rattle.bitset.specs.Set.{set_bytes, set_slots, has}
 use Rattle.bitset.proofs.Laws.Part.{has_part, back, back_below, back_above, back-has}
-use Rattle.limits.specs.Limits.{slots, variables}
+use Rattle.limits.specs.Limits.{slots}
 use Rattle.semantics.specs.Holds.{Set}
 use Rattle.semantics.specs.Agree.{◌≐◌}
-use Rattle.listing_sets.specs.Offsets.{set_at, valuation, SetWritten}
+use Rattle.listing_sets.specs.Offsets.{set_at, SetWritten}
 
 pub slot_in : {s : ℕ} → s < slots → s < set_slots
 unfolding slots
@@ -49,12 +49,6 @@ module _ (b : List ℕ) (j : ℕ) where
               ap (λ (x : ℕ). bit x ((set_slots * i + s) % 8)) (other i ne ((set_slots * i + s) / 8) (omega arith) (omega arith));
         }
 
--- the valuation has the set of each of the variables, and no slot for others
-pub valuation_is : (b : List ℕ) (v : ℕ) → v < variables → (s : ℕ) → valuation b v s ≡ set_at b v s
-unfolding valuation
-valuation_is b v h s = rw (below_in v variables h) refl
-
-pub valuation-same : (b b' : List ℕ) (v : ℕ) → (v < variables → set_at b' v ≐ set_at b v) → valuation b' v ≐ valuation b v
-unfolding valuation
-valuation-same b b' v e s h =
-    either (look (below v variables)) (λ q. rw q (e (below_out v variables q) s h)) (λ q. rw q refl)
+-- a set that has the same slots
+pub written_like : {b b' : List ℕ} {j : ℕ} {S T : Set} → SetWritten b b' j S → S ≐ T → SetWritten b b' j T
+written_like w e = record { here = λ s h. w.here s h ∙ e s h; others = w.others }
