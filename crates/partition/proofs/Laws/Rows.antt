@@ -40,6 +40,11 @@ module _ (q : List ℕ) (R : List (List ℕ)) where
   unfolding by_row_of
   by_apart s t n = rw (ne_same n)
 
+  -- in one class the rows decide
+  pub by_same : (s t : ℕ) → get_or q s 0 ≡ get_or q t 0 → same_row R s t ≡ by_row_of q R s t
+  unfolding by_row_of
+  by_same s t e = rw (eq_same e)
+
   by_sym : (s t : ℕ) → by_row_of q R s t ≡ true → by_row_of q R t s ≡ true
   by_sym s t e = let a = by_out s t e in by_in t s (sym a.0) (row_in R t s (λ c h. sym (row_out R s t a.1 c h)))
 
