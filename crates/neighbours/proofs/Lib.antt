@@ -1,2 +1,2 @@
--- what is proved of the definitions of specs/
+-- what is proved of the rows
 pub mod Laws

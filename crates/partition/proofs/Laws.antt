@@ -1,7 +1,5 @@
 -- Laws of partitions and of rows, by topic.
 pub mod Gains
-pub mod Others
-pub mod Puts
 pub mod Partitions
 pub mod Rows
 pub mod Rounds

@@ -1,4 +1,4 @@
 -- Partitions of the slots, and rows of bits.
-pub mod Gains
 pub mod Rows
+pub mod Gains
 pub mod Partition

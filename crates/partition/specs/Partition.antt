@@ -29,12 +29,12 @@ pub record Follows (E : Rel) (p q : List ℕ) : Type 0 where
   pub by : (t s : ℕ) → t < set_slots → s < set_slots → across q p t s ≡ E t s
 
 -- s and t are in one class of q, and their rows of R are the same (`by_row_of`) or are in the same classes of p (`by_seen`)
-unfoldable pub by_row_of : List ℕ → List ℕ → Rel
+unfoldable pub by_row_of : List ℕ → List (List ℕ) → Rel
 by_row_of q R s t = together q s t && same_row R s t
 
-unfoldable pub by_seen : List ℕ → List ℕ → List ℕ → Rel
+unfoldable pub by_seen : List ℕ → List (List ℕ) → List ℕ → Rel
 by_seen q R p s t = together q s t && see_same R p R p s t
 
 -- q refines p by one round: where W are the neighbours and p is the partition after some round, q is the partition after the next
-unfoldable pub Refines : List ℕ → List ℕ → List ℕ → Type 0
+unfoldable pub Refines : List (List (List ℕ)) → List ℕ → List ℕ → Type 0
 Refines W p q = (M : Model) → Neighbours M W → (k : ℕ) → Partitions (bisimilar_in k M M) p → Partitions (bisimilar_in (k + 1) M M) q

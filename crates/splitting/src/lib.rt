@@ -1,64 +1,63 @@
 // Classes of slots, split by the rows of their slots and by the classes that these rows are in.
 #![tactic(auto)]
 
-ghost use Rattle.std.specs.Prelude.{◌≡◌, true, ℕ, ◌<◌, length, get_or};
-ghost use Rattle.finite.specs.Tests.{first};
+ghost use Rattle.std.specs.Prelude.{◌≡◌, ◌<◌};
+ghost use Rattle.finite.specs.Tests.{any, first};
 ghost use Rattle.bitset.specs.Set.{set_slots};
-ghost use Rattle.site.specs.Layout.{rows_bytes};
+ghost use Rattle.partition.specs.Rows.{in_row, same_set};
 ghost use Rattle.partition.specs.Partition.{Partition, Partitions, by_row_of, by_seen};
 
-use bitset::{SET_BYTES, SET_SLOTS};
-use buffer::wide;
-use site::ROWS_BYTES;
+use bitset::{SET_SLOTS, SlotSet};
+use partition::Rows;
+use signatures::Members;
 
-// Are all rows empty?
-fn empty(rows: &[u8]) -> bool
-    requires { length rows.now ≡ rows_bytes }
-    ensures { result ≡ true → (k : ℕ) → k < rows_bytes → get_or rows.now k 0 ≡ 0 }
+// Has some row a slot?
+pub fn any_slot(rows: &Rows) -> bool
+    ensures { result ≡ any set_slots (λ s. any set_slots (in_row rows.now s)) }
 {
-    let mut found = 0u8;
-    for k in 0..ROWS_BYTES {
-        found = found | rows[k];
+    let mut all = SlotSet::empty();
+    for s in 0..SET_SLOTS {
+        all = all | rows[s];
     }
-    found == 0
+    !all.is_empty()
+}
+
+// Have the sets the same slots?
+fn same(a: &SlotSet, b: &SlotSet) -> bool
+    ensures { result ≡ same_set a.now b.now }
+{
+    a.is_subset(b) & b.is_subset(a)
 }
 
 // Are s and t in one class, with the same row?
-fn alike(q: &[u8], rows: &[u8], s: usize, t: usize) -> bool
-    requires { (length q.now ≡ set_slots) × ((length rows.now ≡ rows_bytes) × ((s < set_slots) × (t < set_slots))) }
+fn alike(q: &[u8; SET_SLOTS], rows: &Rows, s: usize, t: usize) -> bool
+    requires s { s < set_slots }
+    requires t { t < set_slots }
     ensures { result ≡ by_row_of q.now rows.now s t }
 {
-    if q[s] != q[t] {
-        return false;
-    }
-    let a = SET_BYTES * s;
-    let b = SET_BYTES * t;
-    let a_end = a + SET_BYTES;
-    let b_end = b + SET_BYTES;
-    set_algebra::equal(&rows[a..a_end], &rows[b..b_end])
+    q[s] == q[t] && same(&rows[s], &rows[t])
 }
 
 // The lowest slot that is in the class of s and has its row. The search starts at the lowest slot of the class.
-fn first_alike(q: &[u8], rows: &[u8], s: usize) -> u8
-    requires { (length q.now ≡ set_slots) × ((length rows.now ≡ rows_bytes) × ((s < set_slots) × Partition q.now)) }
+fn first_alike(q: &[u8; SET_SLOTS], rows: &Rows, s: usize) -> u8
+    requires s { s < set_slots }
+    requires partition { Partition q.now }
     ensures { result ≡ first set_slots (by_row_of q.now rows.now s) }
 {
-    let mut t = wide(q[s]);
-    while t < s {
+    for t in usize::from(q[s])..s {
         if alike(q, rows, s, t) {
             return t as u8;
         }
-        t += 1;
     }
     s as u8
 }
 
 // The classes of q, each split by the rows of its slots.
-pub fn by_rows(q: &[u8], rows: &[u8]) -> [u8; SET_SLOTS]
-    requires { (length q.now ≡ set_slots) × ((length rows.now ≡ rows_bytes) × Partition q.now) }
+pub fn by_rows(q: &[u8; SET_SLOTS], rows: &Rows) -> [u8; SET_SLOTS]
+    requires { Partition q.now }
     ensures { Partitions (by_row_of q.now rows.now) result }
 {
-    let mut r = [0u8; SET_SLOTS];
+    let mut r = [0; SET_SLOTS];
     for s in 0..SET_SLOTS {
         r[s] = first_alike(q, rows, s);
     }
@@ -66,13 +65,9 @@ pub fn by_rows(q: &[u8], rows: &[u8]) -> [u8; SET_SLOTS]
 }
 
 // The classes of q, each split by the classes of p that the rows of its slots are in.
-pub fn by_seen(q: [u8; SET_SLOTS], rows: &[u8], p: &[u8]) -> [u8; SET_SLOTS]
-    requires { (length rows.now ≡ rows_bytes) × ((length p.now ≡ set_slots) × Partition q) }
-    ensures { Partitions (by_seen q rows.now p.now) result }
+pub fn by_seen(q: &[u8; SET_SLOTS], rows: &Rows, p: &Members) -> [u8; SET_SLOTS]
+    requires { Partition q.now }
+    ensures { Partitions (by_seen q.now rows.now p.now.numbers) result }
 {
-    if empty(rows) {
-        return q;
-    }
-    let sig = signatures::of_rows(rows, p);
-    by_rows(&q, &sig)
+    by_rows(q, &signatures::of_rows(rows, p))
 }

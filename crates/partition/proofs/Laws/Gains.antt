@@ -1,70 +1,93 @@
--- Bits set by the passes of a loop.
-use Rattle.std.specs.Prelude.{◌≡◌, refl, Bool, true, false, ◌&&◌, ◌||◌, List, ℕ, ◌+◌, ◌/◌, ◌%◌, ◌≤◌, ◌<◌, length, get_or, set, replicate}
-use Rattle.std.proofs.Common.{sym, ◌∙◌, ap, add-one, arith, length-set, get_or-set_same, get_or-set_other}
-use Rattle.std.proofs.Math.Bool.{or-false, or_comm, or_assoc}
-use Rattle.std.specs.Int.Bits.{bit_or}
-use Rattle.finite.specs.Tests.{bit, same, any}
-use Rattle.finite.proofs.Laws.Bools.{either}
-use Rattle.finite.proofs.Laws.Below.{equal?, same_refl, ne_same}
-use Rattle.finite.proofs.Laws.Bits.{bit-bit_or}
-use Rattle.finite.proofs.Laws.Weights.{bit-zero}
-use Rattle.finite.proofs.Laws.Zeros.{zeros_at}
-use Rattle.bitset.specs.Set.{has, inserted}
-use Rattle.bitset.proofs.Laws.Slot.{has-inserted, length_inserted}
+-- Slots put into rows by the passes of a loop.
+use Rattle.std.specs.Prelude.{◌≡◌, refl, Bool, true, false, not, ◌&&◌, ◌||◌, Some, List, [], ◌∷◌, ℕ, zero, suc, ◌+◌, ◌≤◌, ◌<◌, length, get_or, set, replicate}
+use Rattle.std.proofs.Common.{sym, ◌∙◌, ap, add-one, arith, get_or-set_same, get_or-set_other}
+use Rattle.std.proofs.lemmas.List.{get_or-replicate}
+use Rattle.std.proofs.Math.Bool.{or-false, and-true, or_comm, or_assoc}
+use Rattle.finite.specs.Tests.{same, any, first}
+use Rattle.finite.proofs.Laws.Bools.{either, look}
+use Rattle.finite.proofs.Laws.Below.{equal?, same_eq, same_refl, ne_same, any_none}
+use Rattle.finite.proofs.Laws.First.{first_in, first-none}
+use Rattle.bitset.specs.Set.{set_slots, has, Next}
+use Rattle.partition.specs.Rows.{row, in_row, RowsOf}
 use Rattle.partition.specs.Gains.{Gains}
 
--- two tests that agree set the same bits
-pub gains_map : {f g : ℕ → Bool} {b a : List ℕ} → ((y : ℕ) → f y ≡ g y) → Gains f b a → Gains g b a
-gains_map {b = b} e h = record { long = h.long; holds = λ y. h.holds y ∙ ap (λ (z : Bool). has b y || z) (e y) }
+-- two tests that agree put the same slots in
+pub gains_map : {f g : ℕ → ℕ → Bool} {B A : List (List ℕ)} → ((s t : ℕ) → s < set_slots → t < set_slots → f s t ≡ g s t) → Gains f B A → Gains g B A
+gains_map {B = B} e h = record { holds = λ s t i j. h.holds s t i j ∙ ap (λ (z : Bool). in_row B s t || z) (e s t i j) }
 
--- no bit is set; one is; and one is where a test passes
-pub gains_none : {f : ℕ → Bool} {b : List ℕ} → ((y : ℕ) → f y ≡ false) → Gains f b b
-gains_none {b = b} h = record { long = refl; holds = λ y. rw (h y) (sym (or-false (has b y))) }
+-- no slot is put in
+pub gains_none : {f : ℕ → ℕ → Bool} {B : List (List ℕ)} → ((s t : ℕ) → s < set_slots → t < set_slots → f s t ≡ false) → Gains f B B
+gains_none {B = B} h = record { holds = λ s t i j. rw (h s t i j) (sym (or-false (in_row B s t))) }
 
-pub gains_put : {b a : List ℕ} (x : ℕ) → a ≡ inserted b x → x / 8 < length b → Gains (λ y. same y x) b a
-gains_put {b} x e h = rw e (record { long = length_inserted b x; holds = λ y. has-inserted b x y h })
-
-pub gains_skip_if : {t : Bool} {b : List ℕ} (x : ℕ) → t ≡ false → Gains (λ y. t && same y x) b b
-gains_skip_if x e = gains_none (λ y. rw e)
-
-pub gains_put_if : {t : Bool} {b a : List ℕ} (x : ℕ) → t ≡ true → a ≡ inserted b x → x / 8 < length b → Gains (λ y. t && same y x) b a
-gains_put_if x q e h = gains_map (λ y. rw q) (gains_put x e h)
-
-pub gains_join : {f g : ℕ → Bool} {b a d : List ℕ} → Gains f b a → Gains g a d → Gains (λ y. f y || g y) b d
-gains_join {f} {g} {b} h k = record {
-  long = k.long ∙ h.long;
-  holds = λ y. k.holds y ∙ ap (λ (z : Bool). z || g y) (h.holds y) ∙ or_assoc (has b y) (f y) (g y);
+-- one after the other
+pub gains_join : {f g : ℕ → ℕ → Bool} {B A D : List (List ℕ)} → Gains f B A → Gains g A D → Gains (λ s t. f s t || g s t) B D
+gains_join {f} {g} {B} h k = record {
+  holds = λ s t i j. k.holds s t i j ∙ ap (λ (z : Bool). z || g s t) (h.holds s t i j) ∙ or_assoc (in_row B s t) (f s t) (g s t);
 }
 
--- a byte is united with v
-pub gains_byte : {b : List ℕ} (k v : ℕ) → k < length b → Gains (λ y. same (y / 8) k && bit v (y % 8)) b (set b k (bit_or (get_or b k 0) v))
-unfolding has
-gains_byte {b} k v l = record {
-  long = length-set b k _;
-  holds = λ y. either
-      (equal? (y / 8) k)
-      (λ e. rw (e, get_or-set_same b k (bit_or (get_or b k 0) v) 0 l, bit-bit_or (get_or b k 0) v (y % 8), same_refl k))
-      (λ n. rw (get_or-set_other b k (y / 8) (bit_or (get_or b k 0) v) 0 n, ne_same n) (sym (or-false (bit (get_or b (y / 8) 0) (y % 8)))));
+-- a row that there is does not depend on what stands for one that there is not
+pub row_at : (R : List (List ℕ)) (i : ℕ) (d : List ℕ) → i < length R → get_or R i d ≡ row R i
+row_at [] i d h = absurd (omega arith)
+row_at (x ∷ xs) zero d h = refl
+row_at (x ∷ xs) (suc i) d h = row_at xs i d (omega arith)
+
+-- row i becomes v, which has what row i had, and c
+pub gains_put : (B : List (List ℕ)) (i c : ℕ) (d v : List ℕ) → i < length B
+    → ((t : ℕ) → t < set_slots → has v t ≡ (has (get_or B i d) t || same t c)) → Gains (λ s t. same s i && same t c) B (set B i v)
+gains_put B i c d v l e = record {
+  holds = λ s t _ k. either
+      (equal? s i)
+      (λ q. rw (q, get_or-set_same B i v [] l, same_refl i) (e t k ∙ ap (λ (x : List ℕ). has x t || same t c) (row_at B i d l)))
+      (λ n. rw (get_or-set_other B i s v [] n, ne_same n) (sym (or-false (in_row B s t))));
 }
 
--- the first i passes set the bits that pass f of each: at the start, after one more, at the end
-pub gains_start : (f : ℕ → ℕ → Bool) {b : List ℕ} → Gains (λ y. any 0 (λ k. f k y)) b b
+-- the first i passes put in what f says of each: at the start, after one more, at the end
+pub gains_start : (f : ℕ → ℕ → ℕ → Bool) {B : List (List ℕ)} → Gains (λ s t. any 0 (λ k. f k s t)) B B
 unfolding any
-gains_start f = gains_none (λ y. refl)
+gains_start f = gains_none (λ s t _ _. refl)
 
-pub gains_more : (f : ℕ → ℕ → Bool) {b a d : List ℕ} (i : ℕ) → Gains (λ y. any i (λ k. f k y)) b a → Gains (f i) a d
-    → Gains (λ y. any (i + 1) (λ k. f k y)) b d
+pub gains_more : (f : ℕ → ℕ → ℕ → Bool) {B A D : List (List ℕ)} (i : ℕ) → Gains (λ s t. any i (λ k. f k s t)) B A → Gains (f i) A D
+    → Gains (λ s t. any (i + 1) (λ k. f k s t)) B D
 unfolding any
-gains_more f i h k = gains_map (λ y. rw (add-one i) (or_comm (any i (λ n. f n y)) (f i y))) (gains_join h k)
+gains_more f i h k = gains_map (λ s t _ _. rw (add-one i) (or_comm (any i (λ n. f n s t)) (f i s t))) (gains_join h k)
 
-pub gains_done : (f : ℕ → ℕ → Bool) {b a : List ℕ} (n i : ℕ) → Gains (λ y. any i (λ k. f k y)) b a → i ≤ n → n ≤ i
-    → Gains (λ y. any n (λ k. f k y)) b a
+pub gains_done : (f : ℕ → ℕ → ℕ → Bool) {B A : List (List ℕ)} (n i : ℕ) → Gains (λ s t. any i (λ k. f k s t)) B A → i ≤ n → n ≤ i
+    → Gains (λ s t. any n (λ k. f k s t)) B A
 gains_done f n i h l m = rw (let e : n ≡ i = omega arith in e) h
 
--- bytes that start as zeros have the bits that they gain
-zeros_none : (n y : ℕ) → has (replicate n 0) y ≡ false
-unfolding has
-zeros_none n y = rw (zeros_at n (y / 8)) (bit-zero (y % 8))
+-- rows that start empty have the slots that they gain
+pub gains_empty : {f : ℕ → ℕ → Bool} {S : List ℕ} {A : List (List ℕ)} → ((t : ℕ) → t < set_slots → has S t ≡ false) → Gains f (replicate set_slots S) A → RowsOf f A
+gains_empty {f} {S} e h s t i j = h.holds s t i j ∙ rw (get_or-replicate set_slots s S [] i, e t j)
 
-pub gains_zeros : {f : ℕ → Bool} (n : ℕ) {a : List ℕ} → Gains f (replicate n 0) a → (y : ℕ) → has a y ≡ f y
-gains_zeros n h y = h.holds y ∙ rw (zeros_none n y)
+-- A is B with the slots put in that f says, but for those that g says, which are still to come
+pub record Lacks (f g : ℕ → ℕ → Bool) (B A : List (List ℕ)) : Type 0 where
+  pub holds : (s t : ℕ) → s < set_slots → t < set_slots → (in_row A s t || g s t) ≡ (in_row B s t || f s t)
+
+-- slot c is put into the rows of the slots of a set, from the lowest on; those of L are to come
+module _ (c : ℕ) where
+  pub lacks_start : (S L : List ℕ) (B : List (List ℕ)) → L ≡ S → Lacks (λ s t. has S s && same t c) (λ s t. has L s && same t c) B B
+  lacks_start S L B e = record { holds = λ s t _ _. rw e }
+
+  pub lacks_more : {f : ℕ → ℕ → Bool} {B : List (List ℕ)} (A : List (List ℕ)) (L L' : List ℕ) (x : ℕ) (d v : List ℕ) → Next set_slots L (Some x) L' → x < length A
+      → ((t : ℕ) → t < set_slots → has v t ≡ (has (get_or A x d) t || same t c)) → Lacks f (λ s t. has L s && same t c) B A
+      → Lacks f (λ s t. has L' s && same t c) B (set A x v)
+  lacks_more {f} {B} A L L' x d v n l e h = record {
+    holds = λ s t i j.
+        rw ((gains_put A x c d v l e).holds s t i j, n.2 s i) (moved (in_row A s t) (has L s) (same s x) (same t c) (λ q. rw (same_eq q) (lowest_in x L n.0 n.1)))
+        ∙ h.holds s t i j;
+  }
+    where
+      lowest_in : (y : ℕ) (S : List ℕ) → y < set_slots → y ≡ first set_slots (has S) → has S y ≡ true
+      lowest_in y S k q =
+          let some : any set_slots (has S) ≡ true = either (look (any set_slots (has S))) (λ z. z) (λ z. absurd (omega (arith, q, first-none set_slots (has S) z))) in
+          rw q (first_in set_slots (has S) some).1
+
+      moved : (a y z w : Bool) → (z ≡ true → y ≡ true) → ((a || (z && w)) || ((y && not z) && w)) ≡ (a || (y && w))
+      moved true y z w h = refl
+      moved false y true w h = rw (h refl) (or-false w)
+      moved false y false w h = ap (λ (k : Bool). k && w) (and-true y)
+
+  pub lacks_done : {f : ℕ → ℕ → Bool} {B A : List (List ℕ)} (L : List ℕ) → any set_slots (has L) ≡ false → Lacks f (λ s t. has L s && same t c) B A → Gains f B A
+  lacks_done {f} {B} {A} L e h = record {
+    holds = λ s t i j. sym (or-false (in_row A s t)) ∙ ap (λ (z : Bool). in_row A s t || z) (rw (any_none set_slots (has L) e s i)) ∙ h.holds s t i j;
+  }

@@ -10,13 +10,13 @@ use Rattle.semantics.specs.Refine.{Rel}
 use Rattle.partition.specs.Partition.{together, Partition, Partitions, by_row_of}
 
 -- a loop that fills a list from the front
-pub put_more : (P : ℕ → ℕ → Type 0) (r : List ℕ) (s v : ℕ) → s < length r → ((k : ℕ) → k < s → P k (get_or r k 0)) → P s v
-    → (k : ℕ) → k < s + 1 → P k (get_or (set r s v) k 0)
-put_more P r s v h f x k l =
+pub put_more : {X : Type 0} (d : X) (P : ℕ → X → Type 0) (r : List X) (s : ℕ) (v : X) → s < length r → ((k : ℕ) → k < s → P k (get_or r k d)) → P s v
+    → (k : ℕ) → k < s + 1 → P k (get_or (set r s v) k d)
+put_more d P r s v h f x k l =
     either
     (equal? k s)
-    (λ e. rw (e, get_or-set_same r s v 0 h) x)
-    (λ n. rw (get_or-set_other r s k v 0 n) (f k (omega arith)))
+    (λ e. rw (e, get_or-set_same r s v d h) x)
+    (λ n. rw (get_or-set_other r s k v d n) (f k (omega arith)))
 
 -- a list that gives each slot the lowest slot that an equivalence relates to it is its partition
 module _ (E : Rel) (E_refl : (s : ℕ) → E s s ≡ true) (E_sym : (s t : ℕ) → E s t ≡ true → E t s ≡ true)
@@ -51,7 +51,7 @@ module _ (q : List ℕ) (n : Partition q) (s : ℕ) (h : s < set_slots) where
   number_le = rw (n s h) (first_low set_slots (together q s) s h (same_refl (get_or q s 0)))
 
   -- no slot below the class number is in the class
-  pub number_low : (R : List ℕ) → any (get_or q s 0) (by_row_of q R s) ≡ false
+  pub number_low : (R : List (List ℕ)) → any (get_or q s 0) (by_row_of q R s) ≡ false
   unfolding Partition by_row_of
   number_low R = none_any (get_or q s 0) (by_row_of q R s) (λ t l. rw (any_none (get_or q s 0) (together q s) none t l))
     where

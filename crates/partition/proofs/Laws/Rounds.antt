@@ -1,12 +1,11 @@
 -- A round of refinement: the partition after one round more, way by way; and a round that changes nothing.
-use Rattle.std.specs.Prelude.{◌≡◌, refl, Bool, true, ◌&&◌, List, ℕ, suc, ◌+◌, ◌*◌, ◌<◌, get_or, take, drop}
-use Rattle.std.proofs.Common.{◌∙◌, ap, ap₂, add-one, arith, sym}
+use Rattle.std.specs.Prelude.{◌≡◌, refl, Bool, true, ◌&&◌, List, ℕ, suc, ◌+◌, ◌<◌, get_or}
+use Rattle.std.proofs.Common.{◌∙◌, ap, ap₂, add-one, sym}
 use Rattle.std.proofs.Math.Bool.{and-true, and_assoc, and_comm}
 use Rattle.finite.specs.Tests.{same, all}
 use Rattle.finite.proofs.Laws.Bools.{and_in, and_l, and_r, both, beq-true, eq_beq}
 use Rattle.finite.proofs.Laws.Below.{same_eq, same_refl, eq_same, any_in, any_out, all_in, all_out}
-use Rattle.bitset.specs.Set.{set_slots, has}
-use Rattle.bitset.proofs.Laws.Part.{has_part}
+use Rattle.bitset.specs.Set.{set_slots}
 use Rattle.limits.specs.Limits.{slots, every_way}
 use Rattle.semantics.specs.Holds.{Model, step}
 use Rattle.semantics.specs.Table.{way_of}
@@ -14,37 +13,31 @@ use Rattle.semantics.specs.Bisimulation.{IsClass}
 use Rattle.semantics.proofs.Laws.Classes.{class_is}
 use Rattle.semantics.specs.Refine.{Rel, covers, match, bisimilar_in}
 use Rattle.semantics.proofs.Laws.Refine.{covers_iff, Stable, stable}
-use Rattle.site.specs.Layout.{rows_bytes}
-use Rattle.partition.specs.Rows.{in_row, sees, see_same, Neighbours}
+use Rattle.partition.specs.Rows.{row, in_row, sees, see_same, way_rows, Neighbours}
 use Rattle.partition.specs.Partition.{across, Partitions, by_seen, Refines}
 use Rattle.partition.proofs.Laws.Partitions.{partitions_map, partitions_first, number_small}
 
 -- ---- one way
 
--- way w's rows, as a part of those of all ways
-abbrev way_rows : List ℕ → ℕ → List ℕ
-way_rows W w = take rows_bytes (drop (rows_bytes * w) W)
-
-way_row_lem : (M : Model) (W : List ℕ) (w s t : ℕ) → Neighbours M W → w < every_way → s < set_slots → t < set_slots
+way_row_lem : (M : Model) (W : List (List (List ℕ))) (w s t : ℕ) → Neighbours M W → w < every_way → s < set_slots → t < set_slots
     → in_row (way_rows W w) s t ≡ step M (way_of w) s t
 unfolding Neighbours
-way_row_lem M W w s t n hw hs ht =
-    has_part W (rows_bytes * w) rows_bytes (set_slots * s + t) (omega arith) ∙ ap (has W) (omega arith) ∙ n w s t hw hs ht
+way_row_lem M W w s t n hw hs ht = n w s t hw hs ht
 
 -- where the numbers p of the slots of M and q of those of N say what E relates: each neighbour of s is related to some neighbour of t exactly
 -- if t sees each class that s sees
-module _ (M N : Model) (E : Rel) (w : ℕ) (p q R S : List ℕ) (n : (s t : ℕ) → s < set_slots → t < set_slots → across p q s t ≡ E s t)
+module _ (M N : Model) (E : Rel) (w : ℕ) (p q : List ℕ) (R S : List (List ℕ)) (n : (s t : ℕ) → s < set_slots → t < set_slots → across p q s t ≡ E s t)
     (rows : (s t : ℕ) → s < set_slots → t < set_slots → in_row R s t ≡ step M (way_of w) s t)
     (rows' : (s t : ℕ) → s < set_slots → t < set_slots → in_row S s t ≡ step N (way_of w) s t)
     (s t : ℕ) (h : s < set_slots) (j : t < set_slots) where
-  seen_covers : ((x : ℕ) → x < set_slots → get_or p x 0 < set_slots) → ((c : ℕ) → c < set_slots → sees R p s c ≡ true → sees S q t c ≡ true) → covers M N (way_of w) E s t ≡ true
+  seen_covers : ((x : ℕ) → x < set_slots → get_or p x 0 < set_slots) → ((c : ℕ) → c < set_slots → sees (row R s) p c ≡ true → sees (row S t) q c ≡ true) → covers M N (way_of w) E s t ≡ true
   unfolding sees slots
   seen_covers small f = (covers_iff M N (way_of w) E s t).1 (λ x l e.
       let a = any_out set_slots _ (f (get_or p x 0) (small x l) (any_in set_slots _ x l (and_in (rows s x h l ∙ e) (same_refl (get_or p x 0))))) in
       let b = and_r (in_row S t a.0) _ a.2 in
       (a.0, a.1, sym (rows' t a.0 j a.1) ∙ and_l _ _ a.2, sym (n x a.0 l a.1) ∙ eq_same (sym (same_eq b))))
 
-  covers_seen : covers M N (way_of w) E s t ≡ true → (c : ℕ) → sees R p s c ≡ true → sees S q t c ≡ true
+  covers_seen : covers M N (way_of w) E s t ≡ true → (c : ℕ) → sees (row R s) p c ≡ true → sees (row S t) q c ≡ true
   unfolding sees slots
   covers_seen e c f =
       let a = any_out set_slots _ f in
@@ -54,7 +47,7 @@ module _ (M N : Model) (E : Rel) (w : ℕ) (p q R S : List ℕ) (n : (s t : ℕ)
       any_in set_slots _ b.0 b.1 (and_in (rows' t b.0 j b.1 ∙ b.2) (eq_same (sym g ∙ d)))
 
 -- slots see the same classes exactly if their neighbours match
-module _ (M N : Model) (E : Rel) (w : ℕ) (p q R S : List ℕ) (n : (s t : ℕ) → s < set_slots → t < set_slots → across p q s t ≡ E s t)
+module _ (M N : Model) (E : Rel) (w : ℕ) (p q : List ℕ) (R S : List (List ℕ)) (n : (s t : ℕ) → s < set_slots → t < set_slots → across p q s t ≡ E s t)
     (small : (x : ℕ) → x < set_slots → get_or p x 0 < set_slots) (small' : (x : ℕ) → x < set_slots → get_or q x 0 < set_slots)
     (rows : (s t : ℕ) → s < set_slots → t < set_slots → in_row R s t ≡ step M (way_of w) s t)
     (rows' : (s t : ℕ) → s < set_slots → t < set_slots → in_row S s t ≡ step N (way_of w) s t) where
@@ -65,7 +58,7 @@ module _ (M N : Model) (E : Rel) (w : ℕ) (p q R S : List ℕ) (n : (s t : ℕ)
   unfolding see_same match
   seen_match s t h j = both
       (λ e.
-      let f : (c : ℕ) → c < set_slots → sees R p s c ≡ sees S q t c = λ c l. beq-true _ _ (all_out set_slots _ e c l) in
+      let f : (c : ℕ) → c < set_slots → sees (row R s) p c ≡ sees (row S t) q c = λ c l. beq-true _ _ (all_out set_slots _ e c l) in
       and_in
       (seen_covers M N E w p q R S n rows rows' s t h j small (λ c l a. sym (f c l) ∙ a))
       (seen_covers N M (λ a b. E b a) w q p S R turned rows' rows t s j h small' (λ c l a. f c l ∙ a)))
@@ -86,7 +79,7 @@ upto_next M N k w s t =
     ∙ ap (λ (x : Bool). bisimilar_in k M N s t && x) (and_comm (all w (λ v. match M N (way_of v) (bisimilar_in k M N) s t)) (match M N (way_of w) (bisimilar_in k M N) s t)))
 
 -- two sites, whose numbers p and q after k rounds are refined to a and b by the ways below w: one way more
-pub upto_seen : (M N : Model) (k w : ℕ) (W W' p q a b : List ℕ) → Neighbours M W → Neighbours N W' → w < every_way
+pub upto_seen : (M N : Model) (k w : ℕ) (W W' : List (List (List ℕ))) (p q a b : List ℕ) → Neighbours M W → Neighbours N W' → w < every_way
     → ((x : ℕ) → x < set_slots → get_or p x 0 < set_slots) → ((x : ℕ) → x < set_slots → get_or q x 0 < set_slots)
     → ((s t : ℕ) → s < set_slots → t < set_slots → across p q s t ≡ bisimilar_in k M N s t)
     → ((s t : ℕ) → s < set_slots → t < set_slots → across a b s t ≡ upto M N k w s t)
@@ -101,12 +94,12 @@ pub upto-none : (M : Model) (k : ℕ) {p : List ℕ} → Partitions (bisimilar_i
 unfolding upto all
 upto-none M k n = partitions_map (λ s t h j. sym (and-true (bisimilar_in k M M s t))) n
 
-pub upto_more : (M : Model) (k w m : ℕ) (W p q r : List ℕ) → Neighbours M W → w < every_way → m ≡ rows_bytes → Partitions (bisimilar_in k M M) p
-    → Partitions (upto M M k w) q → Partitions (by_seen q (take m (drop (rows_bytes * w) W)) p) r → Partitions (upto M M k (w + 1)) r
+pub upto_more : (M : Model) (k w : ℕ) (W : List (List (List ℕ))) (p q r : List ℕ) → Neighbours M W → w < every_way → Partitions (bisimilar_in k M M) p
+    → Partitions (upto M M k w) q → Partitions (by_seen q (way_rows W w) p) r → Partitions (upto M M k (w + 1)) r
 unfolding by_seen
-upto_more M k w m W p q r nb hw e n u f =
+upto_more M k w W p q r nb hw n u f =
     let small : (x : ℕ) → x < set_slots → get_or p x 0 < set_slots = number_small p n.lowest in
-    partitions_map (upto_seen M M k w W W p p q q nb nb hw small small n.by u.by) (rw e at f)
+    partitions_map (upto_seen M M k w W W p p q q nb nb hw small small n.by u.by) f
 
 pub upto_all : (M : Model) (k : ℕ) {q : List ℕ} → Partitions (upto M M k every_way) q → Partitions (bisimilar_in (k + 1) M M) q
 unfolding upto bisimilar_in
@@ -115,7 +108,7 @@ upto_all M k u = rw (add-one k) (partitions_map {E = upto M M k every_way} {F = 
 -- ---- the end
 
 -- two rounds with one partition: nothing more is told apart
-pub same_stable : (M : Model) (W : List ℕ) (k : ℕ) {p : List ℕ} (q : List ℕ) → Neighbours M W → Partitions (bisimilar_in k M M) p → Refines W p q
+pub same_stable : (M : Model) (W : List (List (List ℕ))) (k : ℕ) {p : List ℕ} (q : List ℕ) → Neighbours M W → Partitions (bisimilar_in k M M) p → Refines W p q
     → ((s : ℕ) → s < set_slots → get_or p s 0 ≡ get_or q s 0) → Stable M M k
 unfolding slots Refines
 same_stable M W k q nb n f e s t h j l =

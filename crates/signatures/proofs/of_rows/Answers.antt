@@ -1,21 +1,21 @@
--- Pass s puts in what row s does.
-use Rattle.std.proofs.Common.{arith}
-use Rattle.bitset.specs.Set.{set_slots}
-use Rattle.finite.specs.Tests.{any}
-use Rattle.partition.proofs.Laws.Gains.{gains_start, gains_more, gains_done}
-use Rattle.partition.proofs.Laws.Rows.{signed}
-use Rattle.partition.specs.Rows.{group_puts}
-use Rattle.site.specs.Layout.{rows_bytes}
+-- The slots below s have their signatures.
+use Rattle.std.proofs.Common.{ℕ, List, [], length-set, below_none, arith}
+use Rattle.bitset.specs.Set.{Is}
+use Rattle.partition.specs.Rows.{row, sees, Signed}
+use Rattle.partition.proofs.Laws.Gains.{row_at}
+use Rattle.partition.proofs.Laws.Partitions.{put_more}
 use Rattle.signatures.proofs.of_rows.Goals as goal
 
 pub loop-s-init : goal.loop-s-init
-loop-s-init c = (omega arith, omega arith, gains_start (λ k y. any 4 (λ g. group_puts c.args.rows.now c.args.p.now k g y)))
-
-pub put_row-requires-clause-is : goal.put_row-requires-clause-is
-put_row-requires-clause-is c = (c.own_slots-own.ensures, c.other_classes-others.ensures)
+loop-s-init c = (omega arith, below_none _)
 
 pub loop-s-preserved : goal.loop-s-preserved
-loop-s-preserved c = (omega arith, omega arith, gains_more (λ k y. any 4 (λ g. group_puts c.args.rows.now c.args.p.now k g y)) c.loop-s.s c.loop-s.invariant.2 c.put_row.ensures)
+loop-s-preserved c = (
+  simp length-set c.loop-s.invariant.0,
+  put_more [] (λ (k : ℕ) (x : List ℕ). Is x (sees (row c.args.rows.now k) c.args.members.now.numbers)) c.loop-s.signatures c.loop-s.s _ (omega arith) c.loop-s.invariant.1
+      (rw (row_at c.args.rows.now c.loop-s.s _ (omega arith)) at c.seen.ensures),
+)
 
 pub returns : goal.returns
-returns c = signed c.args.rows.now c.args.p.now rows_bytes (λ k. omega (arith, c.type_inv.p k)) (gains_done (λ k y. any 4 (λ g. group_puts c.args.rows.now c.args.p.now k g y)) set_slots c.loop-s.s c.loop-s.invariant.2 (omega arith) (omega arith))
+unfolding Signed
+returns c = λ s t i j. c.loop-s.invariant.1 s (omega arith) t j

@@ -1,17 +1,20 @@
--- Pass t puts slot t in if it has its own number.
-use Rattle.std.proofs.Common.{arith, ◌&&◌}
-use Rattle.bitset.specs.Set.{set_bytes, set_slots}
-use Rattle.finite.specs.Tests.{same}
-use Rattle.partition.proofs.Laws.Gains.{gains_start, gains_more, gains_done}
-use Rattle.partition.proofs.Laws.Puts.{own-set}
-use Rattle.partition.specs.Rows.{owns}
+-- The slots below t are looked at.
+use Rattle.std.proofs.Common.{true, false, sym, ◌∙◌, arith}
+use Rattle.std.proofs.Math.Bool.{or-false}
+use Rattle.finite.proofs.Laws.Below.{eq_same, ne_same}
+use Rattle.bitset.specs.Set.{has}
+use Rattle.signatures.proofs.Laws.Seen.{owned_start, owned_more, owned_done}
 use Rattle.signatures.proofs.own_slots.Goals as goal
+use Rattle.signatures.proofs.own_slots.Goals.{then-from-t, else-from-t}
 
 pub loop-t-init : goal.loop-t-init
-loop-t-init c = (omega arith, omega arith, gains_start (λ k y. owns c.args.p.now k && same y k))
+loop-t-init c = owned_start c.args.numbers.now _ c.empty-own.ensures
 
 pub loop-t-preserved : goal.loop-t-preserved
-loop-t-preserved c = (omega arith, omega arith, gains_more (λ k y. owns c.args.p.now k && same y k) c.loop-t.t c.loop-t.invariant.2 c.put_own.ensures)
+loop-t-preserved c = elim c.if-from-t.branch [
+  | then-from-t w ↦ owned_more c.args.numbers.now c.loop-t.own c.if-from-t.own c.loop-t.t true (eq_same (sym c.from.ensures ∙ w.if-from-t.true)) (rw w.own-is w.insert.ensures) c.loop-t.invariant
+  | else-from-t w ↦ owned_more c.args.numbers.now c.loop-t.own c.if-from-t.own c.loop-t.t false (ne_same (λ e. w.if-from-t.false (c.from.ensures ∙ e))) (λ s _. rw w.own-is (sym (or-false (has c.loop-t.own s)))) c.loop-t.invariant
+]
 
 pub returns : goal.returns
-returns c = own-set c.args.p.now set_bytes (gains_done (λ k y. owns c.args.p.now k && same y k) set_slots c.loop-t.t c.loop-t.invariant.2 (omega arith) (omega arith))
+returns c = owned_done c.args.numbers.now _ c.loop-t.t (omega arith) c.loop-t.invariant

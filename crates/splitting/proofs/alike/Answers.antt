@@ -1,11 +1,17 @@
--- By the classes, and then by the bytes of the rows.
-use Rattle.std.proofs.Common.{sym, ◌+◌, ◌*◌, ◌-◌, arith}
-use Rattle.bitset.specs.Set.{set_bytes}
-use Rattle.partition.proofs.Laws.Rows.{by_apart, by_row_bytes}
+-- By the classes, and then by the rows.
+use Rattle.std.proofs.Common.{sym, ◌∙◌, ap₂, arith}
+use Rattle.finite.specs.Tests.{same}
+use Rattle.finite.proofs.Laws.Below.{ne_same}
+use Rattle.partition.specs.Rows.{same_set, same_row}
+use Rattle.partition.proofs.Laws.Gains.{row_at}
+use Rattle.partition.proofs.Laws.Rows.{by_apart, by_same}
 use Rattle.splitting.proofs.alike.Goals as goal
 
 pub returns-then-q-s : goal.returns-then-q-s
-returns-then-q-s c = sym (by_apart c.args.q.now c.args.rows.now c.args.s c.args.t c.if-q-s.true)
+unfolding same_row
+returns-then-q-s c = let R = c.args.rows.now in
+    c.same.ensures ∙ ap₂ same_set (row_at R c.args.s _ (omega arith)) (row_at R c.args.t _ (omega arith)) ∙ by_same c.args.q.now R c.args.s c.args.t c.if-q-s.true
 
-pub returns : goal.returns
-returns c = by_row_bytes c.args.q.now c.args.rows.now c.args.s c.args.t (set_bytes * c.args.s + set_bytes - set_bytes * c.args.s) (set_bytes * c.args.t + set_bytes - set_bytes * c.args.t) _ (omega arith) (omega arith) (omega arith) (λ k. omega (arith, c.type_inv.rows k)) (omega arith) (omega arith) c.if-q-s.false c.equal.ensures
+pub returns-else-q-s : goal.returns-else-q-s
+unfolding same
+returns-else-q-s c = ne_same c.if-q-s.false ∙ sym (by_apart c.args.q.now c.args.rows.now c.args.s c.args.t c.if-q-s.false)

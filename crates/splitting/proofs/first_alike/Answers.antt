@@ -8,14 +8,14 @@ use Rattle.partition.specs.Partition.{by_row_of}
 use Rattle.splitting.proofs.first_alike.Goals as goal
 
 pub loop-t-init : goal.loop-t-init
-loop-t-init c = rw c.wide-t.ensures.0 (number_le c.args.q.now c.requires.1.1.1 c.args.s (omega arith), number_low c.args.q.now c.requires.1.1.1 c.args.s (omega arith) c.args.rows.now)
+loop-t-init c = rw c.from-t.ensures (number_low c.args.q.now c.requires.partition c.args.s (omega arith) c.args.rows.now)
 
 pub returns-then-alike : goal.returns-then-alike
-returns-then-alike c = sym (first_is set_slots (by_row_of c.args.q.now c.args.rows.now c.args.s) c.loop-t.t (omega arith) c.loop-t.invariant.1 (sym c.alike.ensures ∙ c.if-alike.true))
+returns-then-alike c = sym (first_is set_slots (by_row_of c.args.q.now c.args.rows.now c.args.s) c.loop-t.t (omega arith) c.loop-t.invariant (sym c.alike.ensures ∙ c.if-alike.true))
 
 pub loop-t-preserved : goal.loop-t-preserved
-loop-t-preserved c = (omega arith, none_more (by_row_of c.args.q.now c.args.rows.now c.args.s) c.loop-t.t c.loop-t.invariant.1 (sym c.alike.ensures ∙ c.if-alike.false))
+loop-t-preserved c = none_more (by_row_of c.args.q.now c.args.rows.now c.args.s) c.loop-t.t c.loop-t.invariant (sym c.alike.ensures ∙ c.if-alike.false)
 
 pub returns : goal.returns
-returns c = let e : c.loop-t.t ≡ c.args.s = omega arith in
-    sym (first_is set_slots (by_row_of c.args.q.now c.args.rows.now c.args.s) c.args.s (omega arith) (rw e at c.loop-t.invariant.1) (by_refl c.args.q.now c.args.rows.now c.args.s))
+returns c = let e : c.loop-t.t ≡ c.args.s = omega (arith, number_le c.args.q.now c.requires.partition c.args.s (omega arith), c.from-t.ensures) in
+    sym (first_is set_slots (by_row_of c.args.q.now c.args.rows.now c.args.s) c.args.s (omega arith) (rw e at c.loop-t.invariant) (by_refl c.args.q.now c.args.rows.now c.args.s))

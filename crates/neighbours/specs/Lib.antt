@@ -1,2 +1,0 @@
--- Links as steps of ways, along them and against them.
-pub mod Steps

@@ -1,0 +1,2 @@
+-- Laws of the signatures, by topic.
+pub mod Seen

@@ -1,0 +1,2 @@
+-- what is proved of the definitions of specs/
+pub mod Laws

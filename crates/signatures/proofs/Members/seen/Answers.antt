@@ -1,0 +1,16 @@
+-- The classes that the others see are to come.
+use Rattle.std.proofs.Common.{refl, arith}
+use Rattle.signatures.proofs.Laws.Seen.{sees_start, sees_more, sees_fewer, sees_done}
+use Rattle.signatures.proofs.Members.seen.Goals as goal
+
+pub loop-t-init : goal.loop-t-init
+loop-t-init c = sees_start c.args.self.now.numbers c.args.row c.args.self.now.own _ _ c.args.self.now.has_own c.bitand-seen.ensures c.sub-others.ensures
+
+pub loop-t-smaller : goal.loop-t-smaller
+loop-t-smaller c = sees_fewer c.args.self.now.numbers c.args.row c.loop-t.others c.loop-t.seen c.args.self.now.classes c.in-Some.t c.from-class.result _ _ c.args.self.now.has_classes c.from-class.ensures (omega arith) (omega arith) c.in-Some.ensures.some c.sub-others-in-Some.ensures
+
+pub loop-t-preserved : goal.loop-t-preserved
+loop-t-preserved c = sees_more c.args.self.now.numbers c.args.row c.loop-t.others c.loop-t.seen c.args.self.now.classes c.in-Some.t c.from-class.result _ _ c.args.self.now.has_classes c.from-class.ensures (omega arith) (omega arith) c.in-Some.ensures.some c.sub-others-in-Some.ensures c.insert.new.self c.insert.ensures c.loop-t.invariant
+
+pub returns : goal.returns
+returns c = sees_done c.args.self.now.numbers c.args.row c.loop-t.others _ (c.in_default.ensures.none refl) c.loop-t.invariant

@@ -1,0 +1,2 @@
+-- The members of classes.
+pub mod Members

@@ -1,0 +1,2 @@
+-- Laws of rows, by topic.
+pub mod Alike

@@ -1,0 +1,2 @@
+-- what is proved of rows
+pub mod Laws
