@@ -1,3 +1,4 @@
--- The rows of blocks as texts, written into the buffer of a rewritten table.
-pub mod Texts
+-- The nodes of blocks: fields, the steps of rows, and nodes in the buffer of a rewritten table.
+pub mod Node
+pub mod Steps
 pub mod Write

@@ -3,8 +3,6 @@
 pub mod Sizes
 -- the first node
 pub mod Fits
--- a copy of a node has the children of the node
-pub mod Shapes
 -- images and starts; bytes written; blocks emitted
 pub mod State
 pub mod Copied

@@ -1,12 +1,15 @@
 -- How far rewriting through one edit has come: the images of a table's first nodes, and the nodes written for them.
-use Rattle.std.specs.Prelude.{◌≡◌, List, [], ◌∷◌, ◌++◌, Bool, true, false, cond, ◌⊎◌, ℕ, zero, suc, ◌+◌, ◌*◌, ◌≤◌, ◌<◌, length, get_or, ltb}
-use Rattle.semantics.specs.Table.{Node, kind_of, node_fits}
+use Rattle.std.specs.Prelude.{◌≡◌, List, [], ◌∷◌, ◌++◌, Bool, true, false, ◌⊎◌, Option, None, ℕ, zero, suc, ◌+◌, ◌*◌, ◌≤◌, ◌<◌, length, get_or}
+use Rattle.semantics.specs.Table.{Node, kind_of}
 use Rattle.semantics.specs.Edit.{Edit, CN1, CN2, AP, DP, AT, RT, DT1, DT2, AS, DS}
 use Rattle.semantics.specs.Block.{Block, old, block, root, emit}
 use Rattle.condition.specs.Bytes.{node_at, bytes_of}
-use Rattle.limits.specs.Limits.{table_nodes, table_bytes, here_no, label_no, name_no, var_no, not_no, or_no, dia_no, mu_no, slot_no}
+use Rattle.limits.specs.Limits.{table_nodes, here_no, label_no, name_no, var_no, dia_no, mu_no}
+use Rattle.blocks.specs.Write.{puts}
 use Rattle.spelling.specs.declared.Spelling.{Spelling}
-use Rattle.spelling.specs.Spelling.{Spells, first_of, second_of}
+use Rattle.spelling.specs.Spelling.{Spells, Sized}
+use Rattle.emitting.specs.declared.Stage.{Stage}
+use Rattle.emitting.specs.declared.Stage.TheVariants.{ToCopy, ToRewrite, Emitted}
 
 pub record State : Type 0 where
   pub images : List ℕ
@@ -31,24 +34,6 @@ state_at e s (suc n) = step e (state_at e s n) (node_at s n)
 unfoldable pub image_of : Edit → List ℕ → ℕ → ℕ
 image_of e s i = get_or (state_at e s (suc i)).images i 0
 
--- the field c of node i, of kind k, where it is a child, that is for the kinds from lo to below hi; and i where it is not used
-abbrev pub used_child : ℕ → ℕ → ℕ → ℕ → ℕ → ℕ
-used_child lo hi k c i = cond (ltb k lo) i (cond (ltb k hi) c i)
-
--- the children of node i, and i where it has none
-unfoldable pub left_at : List ℕ → ℕ → ℕ
-left_at s i = used_child not_no slot_no (node_at s i).kind (node_at s i).left i
-
-unfoldable pub right_at : List ℕ → ℕ → ℕ
-right_at s i = used_child or_no dia_no (node_at s i).kind (node_at s i).right i
-
--- the lower and the higher one of two numbers
-abbrev pub lower_of : ℕ → ℕ → ℕ
-lower_of x y = cond (ltb x y) x y
-
-abbrev pub higher_of : ℕ → ℕ → ℕ
-higher_of x y = cond (ltb x y) y x
-
 -- the number of the first node of node i's block
 unfoldable pub start_of : Edit → List ℕ → ℕ → ℕ
 start_of e s i = length (state_at e s i).out
@@ -56,6 +41,14 @@ start_of e s i = length (state_at e s i).out
 -- blocks have at most 11 nodes each, so that those of 2,048 nodes have at most
 abbrev pub most_made : ℕ
 most_made = 22528
+
+-- the block of node i
+abbrev pub block_at : Edit → List ℕ → ℕ → Block
+block_at e s i = block_in e (state_at e s i).images (node_at s i)
+
+-- a buffer gets the block of node i in its place
+abbrev pub BlockWritten : List ℕ → Edit → ℕ → (o o' : List ℕ) → Type 0
+BlockWritten s e i o o' = o' ≡ puts o (start_of e s i) 0 (emit (block_at e s i) (start_of e s i))
 
 -- the nodes below n have numbers: their images stand in a buffer
 pub record Numbered (s : List ℕ) (e : Edit) (images : List ℕ) (n : ℕ) : Type 0 where
@@ -68,14 +61,6 @@ pub record Numbered (s : List ℕ) (e : Edit) (images : List ℕ) (n : ℕ) : Ty
 unfoldable pub start_in : List ℕ → ℕ → ℕ
 start_in images zero = 0
 start_in images (suc i) = get_or images i 0 + 1
-
--- what stands for a node's row once the node is emitted
-abbrev pub emitted_row : ℕ
-emitted_row = 255
-
--- the spelling of a node with parameter w by a row
-abbrev pub spelling_of : Edit → ℕ → ℕ → Spelling
-spelling_of e w row = record { row = row; w = w; a = first_of e; b = second_of e }
 
 -- an edit changes nodes of the kinds from `first_kind` to below `end_kind` at most
 abbrev pub first_kind : Edit → ℕ
@@ -102,36 +87,44 @@ end_kind (DT2 f n) = mu_no
 end_kind (AS n k) = var_no
 end_kind (DS n) = mu_no
 
--- the rows of the nodes below n spell their blocks, where the nodes are not emitted
-pub record Rowed (s : List ℕ) (e : Edit) (rows : List ℕ) (n : ℕ) : Type 0 where
-  pub size : length rows ≡ table_nodes
-  pub spells : (j : ℕ) → j < n → (get_or rows j 0 ≡ emitted_row → ⊥)
-      → Spells e (node_at s j).kind (node_at s j).param (spelling_of e (node_at s j).param (get_or rows j 0))
+-- a node that is not emitted waits
+abbrev pub waits : Stage → Bool
+waits ToCopy = true
+waits ToRewrite = true
+waits Emitted = false
 
--- b tells whether node c waits, that is whether it is not emitted
-abbrev pub Tells : List ℕ → ℕ → Bool → Type 0
-Tells rows c b = (b ≡ false → get_or rows c 0 ≡ emitted_row) × (b ≡ true → get_or rows c 0 ≡ emitted_row → ⊥)
+-- node j waits
+abbrev pub waits_at : List Stage → ℕ → Bool
+waits_at stages j = waits (get_or stages j ToCopy)
+
+-- a node of kind k and parameter p waits in this stage, and its block has r nodes
+pub record Planned (e : Edit) (k p : ℕ) (stage : Stage) (r : ℕ) : Type 0 where
+  pub spelling : Option Spelling
+  pub spells : Spells e k p spelling
+  pub sized : Sized spelling r
+  pub copy : stage ≡ ToCopy → Spells e k p None
+  pub waiting : waits stage ≡ true
+
+-- the nodes below n that are to be copied have a copy for their block
+pub record Rowed (s : List ℕ) (e : Edit) (stages : List Stage) (n : ℕ) : Type 0 where
+  pub size : length stages ≡ table_nodes
+  pub copies : (j : ℕ) → j < n → get_or stages j ToCopy ≡ ToCopy → Spells e (node_at s j).kind (node_at s j).param None
 
 -- none of the nodes below n is emitted
-abbrev pub NoneEmitted : List ℕ → ℕ → Type 0
-NoneEmitted rows n = (j : ℕ) → j < n → get_or rows j 0 ≡ emitted_row → ⊥
+abbrev pub NoneEmitted : List Stage → ℕ → Type 0
+NoneEmitted stages n = (j : ℕ) → j < n → waits_at stages j ≡ true
 
 -- the first pass has come to node n, whose block begins with number `next`
-pub record Numbering (s : List ℕ) (e : Edit) (images rows : List ℕ) (n next : ℕ) : Type 0 where
+pub record Numbering (s : List ℕ) (e : Edit) (images : List ℕ) (stages : List Stage) (n next : ℕ) : Type 0 where
   pub numbered : Numbered s e images n
-  pub rowed : Rowed s e rows n
-  pub none : NoneEmitted rows n
+  pub rowed : Rowed s e stages n
+  pub none : NoneEmitted stages n
   pub here : next ≡ start_of e s n
   pub small : next ≤ 11 * n
 
--- what emitting the nodes below n needs: nodes that meet item 8 nowhere, images and rows, the edit's numbers a and b, and a buffer with room for the blocks
-pub record Emittable (s : List ℕ) (e : Edit) (images rows out : List ℕ) (a b n : ℕ) : Type 0 where
-  pub whole : length s ≡ table_bytes
-  pub fits : (j : ℕ) → j < n → node_fits j (node_at s j) ≡ true
-  pub numbered : Numbered s e images n
-  pub rowed : Rowed s e rows n
-  pub first : a ≡ first_of e
-  pub second : b ≡ second_of e
+-- what emitting the nodes below n needs beside their images: stages, and a buffer with room for the blocks
+pub record Emittable (s : List ℕ) (e : Edit) (stages : List Stage) (out : List ℕ) (n : ℕ) : Type 0 where
+  pub rowed : Rowed s e stages n
   pub room : 6 * start_of e s n ≤ length out
 
 -- the block of node j stands in a buffer
@@ -139,28 +132,24 @@ unfoldable pub Stands : List ℕ → Edit → List ℕ → ℕ → Type 0
 Stands s e out j = (p : ℕ) → 6 * start_of e s j ≤ p → p < 6 * start_of e s (suc j) → get_or out p 0 ≡ get_or (bytes_of (state_at e s (suc j)).out) p 0
 
 -- some nodes more are emitted: their blocks stand, and no block that stood is spoiled
-pub record Emitting (s : List ℕ) (e : Edit) (rows out rows' out' : List ℕ) : Type 0 where
-  pub size : length rows' ≡ length rows
+pub record Emitting (s : List ℕ) (e : Edit) (stages : List Stage) (out : List ℕ) (stages' : List Stage) (out' : List ℕ) : Type 0 where
+  pub size : length stages' ≡ length stages
   pub room : length out' ≡ length out
-  pub stays : (j : ℕ) → get_or rows j 0 ≡ emitted_row → get_or rows' j 0 ≡ emitted_row
-  pub same : (j : ℕ) → (get_or rows' j 0 ≡ emitted_row → ⊥) → get_or rows' j 0 ≡ get_or rows j 0
-  pub stand : (j : ℕ) → (get_or rows j 0 ≡ emitted_row → ⊥) → get_or rows' j 0 ≡ emitted_row → Stands s e out' j
+  pub stays : (j : ℕ) → waits_at stages j ≡ false → waits_at stages' j ≡ false
+  pub same : (j : ℕ) → waits_at stages' j ≡ true → get_or stages' j ToCopy ≡ get_or stages j ToCopy
+  pub stand : (j : ℕ) → waits_at stages j ≡ true → waits_at stages' j ≡ false → Stands s e out' j
   pub keeps : (j : ℕ) → Stands s e out j → Stands s e out' j
 
--- the children that node j uses are emitted, where they are below it
-pub record ChildrenEmitted (s rows : List ℕ) (j : ℕ) : Type 0 where
-  pub left : left_at s j < j → get_or rows (left_at s j) 0 ≡ emitted_row
-  pub right : right_at s j < j → get_or rows (right_at s j) 0 ≡ emitted_row
+-- the nodes in both fields of node j are emitted. A field that its kind does not use is 0
+pub record ChildrenEmitted (s : List ℕ) (stages : List Stage) (j : ℕ) : Type 0 where
+  pub left : waits_at stages (node_at s j).left ≡ false
+  pub right : waits_at stages (node_at s j).right ≡ false
 
 -- each node that is emitted now (') and was not before has its children emitted too
-pub record Deep (s rows rows' : List ℕ) : Type 0 where
-  pub down : (j : ℕ) → (get_or rows j 0 ≡ emitted_row → ⊥) → get_or rows' j 0 ≡ emitted_row → ChildrenEmitted s rows' j
+pub record Deep (s : List ℕ) (stages stages' : List Stage) : Type 0 where
+  pub down : (j : ℕ) → waits_at stages j ≡ true → waits_at stages' j ≡ false → ChildrenEmitted s stages' j
 
--- only c is emitted now and was not before, and its children are emitted too, or one of them waits
-pub record OneEmitted (s rows rows' : List ℕ) (c : ℕ) (Waits : Type 0) : Type 0 where
-  pub only : (j : ℕ) → (get_or rows j 0 ≡ emitted_row → ⊥) → get_or rows' j 0 ≡ emitted_row → (j ≡ c) × (ChildrenEmitted s rows' j ⊎ Waits)
-
--- each node that is emitted now and was not before has its children emitted too; or it is lo, and waiting is 2 or 3; or hi, and waiting is 1 or 3
-pub record TwoEmitted (s rows rows' : List ℕ) (lo hi waiting : ℕ) : Type 0 where
-  pub owed : (j : ℕ) → (get_or rows j 0 ≡ emitted_row → ⊥) → get_or rows' j 0 ≡ emitted_row
-      → ChildrenEmitted s rows' j ⊎ (((j ≡ lo) × (2 ≤ waiting)) ⊎ ((j ≡ hi) × (1 ≤ waiting) × (waiting ≡ 2 → ⊥)))
+-- only c is emitted now and was not before, and its children are emitted too, or one of them waits, which b tells
+pub record OneEmitted (s : List ℕ) (stages stages' : List Stage) (c : ℕ) (b : Bool) : Type 0 where
+  pub only : (j : ℕ) → waits_at stages j ≡ true → waits_at stages' j ≡ false → (j ≡ c) × (ChildrenEmitted s stages' j ⊎ (b ≡ true))
+  pub below : b ≡ true → 0 < c

@@ -1,160 +1,166 @@
-// The block of a node through an edit, spelled: a row of a table, and the numbers that the row refers to. docs/SPEC.md, "Rewriting".
+// How the block of a node through an edit is spelled: the node is copied, or a row gives its block. docs/SPEC.md, "Rewriting".
 #![tactic(auto)]
 
-ghost use Rattle.std.specs.Prelude.{◌≡◌, true, ◌<◌};
-ghost use Rattle.semantics.specs.Edit.{legal};
+ghost use Rattle.std.specs.Prelude.{◌≡◌, ◌==◌, true, ◌&&◌, if◌then◌else◌, None, Some, ◌<◌};
+ghost use Rattle.limits.specs.Limits.{links, dia_no, box_no};
+ghost use Rattle.semantics.specs.Edit.{AS, DS, legal};
 ghost use Rattle.semantics.specs.Table.{way_of};
 ghost use Rattle.sheet.specs.Bytes.{edit_of};
-ghost use Rattle.spelling.specs.Spelling.{Spells, known_kind, on_way, leaf_row, way_row, as_row, ds_row};
+ghost use Rattle.spelling.specs.Spelling.{Spells, on_way};
 
-use limits::{BOX, DIA, EVERY, HERE, LABEL, LINKS, NAME, SLOT};
+use limits::{BOX, DIA, EVERY, HERE, LABEL, LINKS, NAME};
 use sheet::Op;
 
-// The spelling of a block: a row of the table, the old node's parameter w, and the numbers a and b, which the edit gives.
-#[derive(Clone, Copy)]
+// The blocks that are no copies, named for the edit and for the node that it replaces. `Back` is the reverse of a link, where the block is another
+// than along the link by more than the order of its two numbers.
+#[derive(Clone, Copy, PartialEq, Eq, Debug)]
+pub enum Row {
+    Cn1Name,
+    AsName,
+    Cn2Name,
+    ApLabel,
+    DpLabel,
+    AsHere,
+    DsHere,
+    DsName,
+    AtDiamond,
+    AtBox,
+    Dt1Diamond,
+    Dt1Box,
+    Dt2Diamond,
+    Dt2Box,
+    Dt2DiamondBack,
+    Dt2BoxBack,
+    DsDiamond,
+    DsBox,
+    RtDiamond,
+    RtBox,
+    RtDiamondBack,
+    RtBoxBack,
+}
+
+impl Row {
+    fn with(self, first: u8, second: u8) -> Spelling
+        ensures { result ≡ record { row = self; first = first; second = second } }
+    {
+        Spelling {
+            row: self,
+            first,
+            second,
+        }
+    }
+}
+
+// A row, and the two numbers of the edit that it refers to.
+#[derive(Clone, Copy, PartialEq, Eq, Debug)]
 pub struct Spelling {
-    pub row: u8,
-    pub w: u8,
-    pub a: u8,
-    pub b: u8,
+    pub row: Row,
+    pub first: u8,
+    pub second: u8,
 }
 
-// The rows that edits choose. Of the rows for ways the first is given; then come the box, and the two for the reverse way.
-const CN1_NAME: u8 = 13;
-
-const AS_NAME: u8 = 14;
-
-const CN2_NAME: u8 = 15;
-
-const AP_LABEL: u8 = 16;
-
-const DP_LABEL: u8 = 17;
-
-const AS_HERE: u8 = 18;
-
-const DS_HERE: u8 = 19;
-
-const DS_NAME: u8 = 20;
-
-pub const AT_WAYS: u8 = 21;
-
-const DT1_WAYS: u8 = 25;
-
-const DT2_WAYS: u8 = 29;
-
-const DS_DIA: u8 = 33;
-
-const DS_BOX: u8 = 34;
-
-const RT_WAYS: u8 = 35;
-
-// A kind that is known: one above 12 is read as 12. Its row is the one that copies the node.
-fn known(kind: u8) -> u8
-    ensures { result ≡ known_kind kind }
+// A node is the leaf that an edit changes.
+fn is_leaf(kind: u8, param: u8, leaf: u8, number: u8) -> bool
+    ensures { result ≡ (kind == leaf && param == number) }
 {
-    if kind < SLOT {
-        return kind;
-    }
-    SLOT
+    (kind == leaf) & (param == number)
 }
 
-// The row x on way m, y on its reverse, and z on any other way.
-fn on_way(w: u8, m: u8, x: u8, y: u8, z: u8) -> u8
-    ensures { result ≡ on_way (way_of w) m x y z }
+// The spelling of a diamond, that of a box, and none of other kinds.
+fn by_modality(kind: u8, diamond: Spelling, boxed: Spelling) -> Option<Spelling>
+    ensures { result ≡ (if kind == dia_no then Some diamond else (if kind == box_no then Some boxed else None)) }
 {
-    if w < LINKS {
-        if w == m {
-            return x;
-        }
-        return z;
+    match kind {
+        DIA => Some(diamond),
+        BOX => Some(boxed),
+        _ => None,
     }
-    if w < EVERY {
-        if w - LINKS == m {
-            return y;
-        }
-    }
-    z
 }
 
-// The row of a node of this kind and parameter, where an edit changes the leaf k with parameter n.
-fn leaf_row(kind: u8, param: u8, k: u8, n: u8, row: u8) -> u8
-    ensures { result ≡ leaf_row kind param k n row }
+// One spelling for a way along the link, another for one against it, and none for other ways.
+#[tactic(auto, using(crate::proofs::Laws::Spelling::on_link, crate::proofs::Laws::Spelling::on_reverse, crate::proofs::Laws::Spelling::on_other))]
+fn by_way(way: u8, link: u8, along: Option<Spelling>, against: Option<Spelling>) -> Option<Spelling>
+    requires { link < links }
+    ensures { result ≡ on_way (way_of way) link along against None }
 {
-    if (kind == k) & (param == n) {
-        return row;
+    if way == link {
+        return along;
     }
-    kind
+    if way == link + LINKS {
+        return against;
+    }
+    None
 }
 
-// The row of a node of this kind and parameter, where an edit changes way m.
-fn way_row(kind: u8, param: u8, m: u8, first: u8) -> u8
-    requires { first < 240 }
-    ensures { result ≡ way_row kind param m first }
+// The spelling for AS.
+#[tactic(auto, using(crate::proofs::Laws::Spelling::as_here, crate::proofs::Laws::Spelling::as_other))]
+fn for_new_slot(kind: u8, param: u8, n: u8, slot: u8) -> Option<Spelling>
+    ensures { Spells (AS n slot) kind param result }
 {
-    if kind == DIA {
-        return on_way(param, m, first, first + 2, DIA);
+    match kind {
+        HERE => Some(Row::AsHere.with(slot, 0)),
+        _ => is_leaf(kind, param, NAME, n).then_some(Row::AsName.with(slot, 0)),
     }
-    if kind == BOX {
-        return on_way(param, m, first + 1, first + 3, BOX);
-    }
-    kind
 }
 
-// The row of a node of this kind and parameter for AS.
-fn as_row(kind: u8, param: u8, n: u8) -> u8
-    ensures { result ≡ as_row kind param n }
+// The spelling for DS.
+#[tactic(auto, using(crate::proofs::Laws::Spelling::ds_here, crate::proofs::Laws::Spelling::ds_label, crate::proofs::Laws::Spelling::ds_name, crate::proofs::Laws::Spelling::ds_diamond, crate::proofs::Laws::Spelling::ds_box, crate::proofs::Laws::Spelling::ds_other))]
+fn for_slot_gone(kind: u8, param: u8, n: u8) -> Option<Spelling>
+    ensures { Spells (DS n) kind param result }
 {
-    if kind == HERE {
-        return AS_HERE;
+    match kind {
+        HERE => Some(Row::DsHere.with(n, 0)),
+        LABEL => Some(Row::DpLabel.with(n, 0)),
+        NAME => (param != 0).then_some(Row::DsName.with(n, 0)),
+        DIA => (param < EVERY).then_some(Row::DsDiamond.with(n, 0)),
+        BOX => (param < EVERY).then_some(Row::DsBox.with(n, 0)),
+        _ => None,
     }
-    leaf_row(kind, param, NAME, n, AS_NAME)
 }
 
-// The row of a node of this kind and parameter for DS.
-fn ds_row(kind: u8, param: u8) -> u8
-    ensures { result ≡ ds_row kind param }
-{
-    if kind == HERE {
-        return DS_HERE;
-    }
-    if kind == LABEL {
-        return DP_LABEL;
-    }
-    if (kind == NAME) & (param != 0) {
-        return DS_NAME;
-    }
-    if (kind == DIA) & (param < EVERY) {
-        return DS_DIA;
-    }
-    if (kind == BOX) & (param < EVERY) {
-        return DS_BOX;
-    }
-    kind
-}
-
-// A row, with the numbers that it refers to.
-fn by_row(row: u8, w: u8, a: u8, b: u8) -> Spelling
-    ensures { result ≡ record { row = row; w = w; a = a; b = b } }
-{
-    Spelling { row, w, a, b }
-}
-
-// The spelling of the block of a node with this kind and parameter, whatever its children. Each edit has rows of its own, and gives a and b.
-pub fn spell(e: Op, kind: u8, param: u8) -> Spelling
+// The spelling of the block of a node with this kind and parameter, whatever its children; none where the node is copied.
+pub fn spell(e: Op, kind: u8, param: u8) -> Option<Spelling>
     requires { legal (edit_of e) ≡ true }
     ensures { Spells (edit_of e) kind param result }
 {
-    let k = known(kind);
     match e {
-        Op::Cn1(n1, n2) => by_row(leaf_row(k, param, NAME, n1, CN1_NAME), param, n2, 0),
-        Op::Cn2(n1, n2, f) => by_row(leaf_row(k, param, NAME, n1, CN2_NAME), param, n2, f),
-        Op::Ap(n, p) => by_row(leaf_row(k, param, LABEL, p, AP_LABEL), param, n, 0),
-        Op::Dp(n, p) => by_row(leaf_row(k, param, LABEL, p, DP_LABEL), param, n, 0),
-        Op::At(m, n1, n2) => by_row(way_row(k, param, m, AT_WAYS), param, n1, n2),
-        Op::Dt1(m, n1, n2) => by_row(way_row(k, param, m, DT1_WAYS), param, n1, n2),
-        Op::Dt2(f, n) => by_row(way_row(k, param, f, DT2_WAYS), param, n, 0),
-        Op::As(n, slot) => by_row(as_row(k, param, n), param, slot, 0),
-        Op::Ds(n) => by_row(ds_row(k, param), param, n, 0),
-        Op::Rt(f, n1, n2) => by_row(way_row(k, param, f, RT_WAYS), param, n1, n2),
+        Op::Cn1(n1, n2) => is_leaf(kind, param, NAME, n1).then_some(Row::Cn1Name.with(n2, 0)),
+        Op::Cn2(n1, n2, f) => is_leaf(kind, param, NAME, n1).then_some(Row::Cn2Name.with(n2, f)),
+        Op::Ap(n, p) => is_leaf(kind, param, LABEL, p).then_some(Row::ApLabel.with(n, 0)),
+        Op::Dp(n, p) => is_leaf(kind, param, LABEL, p).then_some(Row::DpLabel.with(n, 0)),
+        Op::At(m, n1, n2) => by_way(
+            param,
+            m,
+            by_modality(kind, Row::AtDiamond.with(n1, n2), Row::AtBox.with(n1, n2)),
+            by_modality(kind, Row::AtDiamond.with(n2, n1), Row::AtBox.with(n2, n1)),
+        ),
+        Op::Dt1(m, n1, n2) => by_way(
+            param,
+            m,
+            by_modality(kind, Row::Dt1Diamond.with(n1, n2), Row::Dt1Box.with(n1, n2)),
+            by_modality(kind, Row::Dt1Diamond.with(n2, n1), Row::Dt1Box.with(n2, n1)),
+        ),
+        Op::Dt2(f, n) => by_way(
+            param,
+            f,
+            by_modality(kind, Row::Dt2Diamond.with(n, 0), Row::Dt2Box.with(n, 0)),
+            by_modality(
+                kind,
+                Row::Dt2DiamondBack.with(n, 0),
+                Row::Dt2BoxBack.with(n, 0),
+            ),
+        ),
+        Op::As(n, slot) => for_new_slot(kind, param, n, slot),
+        Op::Ds(n) => for_slot_gone(kind, param, n),
+        Op::Rt(f, n1, n2) => by_way(
+            param,
+            f,
+            by_modality(kind, Row::RtDiamond.with(n1, n2), Row::RtBox.with(n1, n2)),
+            by_modality(
+                kind,
+                Row::RtDiamondBack.with(n1, n2),
+                Row::RtBoxBack.with(n1, n2),
+            ),
+        ),
     }
 }

@@ -1,8 +1,10 @@
 -- Laws of writing nodes into a buffer.
-use Rattle.std.specs.Prelude.{◌≡◌, refl, List, [], ◌∷◌, ◌++◌, map, ℕ, zero, suc, ◌+◌, ◌*◌, ◌/◌, ◌%◌, length, set}
-use Rattle.std.proofs.Common.{◌∙◌, ap, arith, add-one, length-append}
-use Rattle.std.proofs.lemmas.List.{map-append}
-use Rattle.std.proofs.Math.Numerals.{towards_suc}
+use Rattle.std.specs.Prelude.{◌≡◌, refl, List, [], ◌∷◌, ◌++◌, map, ℕ, suc, ◌+◌, ◌*◌, ◌≤◌, ◌<◌, length, take, get_or}
+use Rattle.std.proofs.Common.{sym, ◌∙◌, ap, arith, length-take-le}
+use Rattle.std.proofs.lemmas.List.{length-map, take_more, take_all}
+use Rattle.std.proofs.Math.ListN.{get_or-map}
+use Rattle.std.proofs.lemmas.List.Edits.{sets-eq}
+use lib.Seq.{paste}
 use Rattle.std.proofs.Math.Seq.{length-sets}
 use Rattle.limits.specs.Limits.{node_size}
 use Rattle.semantics.specs.Table.{Node}
@@ -20,13 +22,11 @@ unfolding puts
 length-puts o at j [] = refl
 length-puts o at j (x ∷ xs) = length-puts (put o (at + j) x) at (suc j) xs ∙ length-put o (at + j) x
 
--- ---- a node, byte by byte
+-- ---- the bytes of a node, in their place
 
-pub put-bytes : (o : List ℕ) (i k p l r : ℕ) {l0 l1 r0 r1 : ℕ} → l0 ≡ l % 256 → l1 ≡ l / 256 → r0 ≡ r % 256 → r1 ≡ r / 256
-    → set (set (set (set (set (set o (6 * i) k) (6 * i + 1) p) (6 * i + 2) l0) (6 * i + 3) l1) (6 * i + 4) r0) (6 * i + 5) r1
-    ≡ put o i (record { kind = k; param = p; left = l; right = r })
+pub paste-node : (o : List ℕ) (i : ℕ) (x : Node) → 6 * i + 6 ≤ length o → paste o (6 * i) (node_bytes x) 6 ≡ put o i x
 unfolding put node_bytes
-put-bytes o i k p l r e0 e1 e2 e3 = simp (e0, e1, e2, e3, towards_suc)
+paste-node o i x h = sym (sets-eq (node_bytes x) o (6 * i) h)
 
 -- ---- some nodes more
 
@@ -58,37 +58,25 @@ puts_one o at xs x =
     let z : 0 + length xs ≡ length xs = omega arith in
     puts_append o at 0 xs (x ∷ []) ∙ ap (λ (j : ℕ). put (puts o at 0 xs) (at + j) x) z
 
--- ---- nodes written one by one
+-- a list of one node
+pub puts_single : (o : List ℕ) (at : ℕ) (x : Node) {xs : List Node} → xs ≡ x ∷ [] → put o at x ≡ puts o at 0 xs
+unfolding puts
+puts_single o at x e = let z : at ≡ at + 0 = omega arith in rw e (ap (λ (i : ℕ). put o i x) z)
 
--- the first n of the nodes that f gives
-unfoldable pub firsts : (ℕ → Node) → ℕ → List Node
-firsts f zero = []
-firsts f (suc n) = firsts f n ++ (f n ∷ [])
+-- ---- nodes written one by one, which f makes of a list
 
-length-firsts : (f : ℕ → Node) (n : ℕ) → length (firsts f n) ≡ n
-unfolding firsts
-length-firsts f zero = refl
-length-firsts f (suc n) = length-append (firsts f n) (f n ∷ []) ∙ omega (arith, length-firsts f n)
+module _ {A : Type 0} (f : A → Node) (o : List ℕ) (at : ℕ) (xs : List A) where
+  pub made_none : o ≡ puts o at 0 (take 0 (map f xs))
+  unfolding puts
+  made_none = refl
 
--- out is the buffer o with the first n of them written from number at on
-pub record Put (o : List ℕ) (at : ℕ) (f : ℕ → Node) (n : ℕ) (out : List ℕ) : Type 0 where
-  pub is : out ≡ puts o at 0 (firsts f n)
+  pub made_more : (j : ℕ) (d : A) {out out' : List ℕ} → j < length xs → out ≡ puts o at 0 (take j (map f xs)) → out' ≡ put out (at + j) (f (get_or xs j d))
+      → out' ≡ puts o at 0 (take (j + 1) (map f xs))
+  made_more j d {out} {out'} h e e' =
+      let n : j < length (map f xs) = omega (arith, length-map xs f) in
+      let k : length (take j (map f xs)) ≡ j = length-take-le j (map f xs) (omega arith) in
+      let x : get_or (map f xs) j (f d) ≡ f (get_or xs j d) = get_or-map f xs j d in
+      rw (e', e, take_more (map f xs) j (f d) n, x, puts_one, k) refl
 
-pub put-none : {o : List ℕ} {at : ℕ} {f : ℕ → Node} → Put o at f 0 o
-unfolding puts firsts
-put-none = record { is = refl }
-
-pub put_more : {o : List ℕ} {at n : ℕ} {f : ℕ → Node} {out out' : List ℕ} → Put o at f n out → out' ≡ put out (at + n) (f n)
-    → Put o at f (n + 1) out'
-unfolding firsts
-put_more {o} {at} {n} {f} w e =
-    record { is = e ∙ rw (w.is, add-one n, firsts, puts_one, length-firsts f n) refl }
-
-pub put-length : {o : List ℕ} {at n : ℕ} {f : ℕ → Node} {out : List ℕ} → Put o at f n out → length out ≡ length o
-put-length {o} {at} {n} {f} w = ap length w.is ∙ length-puts o at 0 (firsts f n)
-
--- nodes that f makes of others
-pub firsts-map : (f : Node → Node) (g : ℕ → Node) (n : ℕ) → firsts (λ j. f (g j)) n ≡ map f (firsts g n)
-unfolding firsts
-firsts-map f g zero = refl
-firsts-map f g (suc n) = rw (map-append, firsts-map f g n) refl
+  pub made_all : {out : List ℕ} → out ≡ puts o at 0 (take (length xs) (map f xs)) → out ≡ puts o at 0 (map f xs)
+  made_all e = e ∙ ap (puts o at 0) (take_all (length xs) (map f xs) (omega (arith, length-map xs f)))

@@ -1,22 +1,24 @@
--- The text of a row, node by node.
-use Rattle.std.proofs.Common.{◌≡◌, refl, ◌∙◌, arith}
-use Rattle.blocks.proofs.Laws.Rows.{text_size, row_written}
-use Rattle.blocks.proofs.Laws.Write.{put-none, put_more, put-length}
+-- The steps of a row, node by node.
+use Rattle.std.proofs.Common.{◌≡◌, ◌+◌, ◌∙◌, ap, arith, length}
+use Rattle.blocks.proofs.Laws.Rows.{row_count, row_written}
+use Rattle.blocks.proofs.Laws.Write.{made_none, made_more}
+use Rattle.blocks.specs.Steps.{node_of}
+use Rattle.blocks.specs.Write.{put}
 use Rattle.blocks.proofs.write_row.Goals as goal
 
-pub params-ps-requires : goal.params-ps-requires
-params-ps-requires c = tt
+pub loop-place-init : goal.loop-place-init
+loop-place-init c = made_none (node_of c.numbers-numbers.result c.args.at c.args.image) c.args.out.now c.args.at c.steps_of-steps.result.now
 
-pub loop-j-init : goal.loop-j-init
-loop-j-init c = let n = text_size c.args.s c.args.t (omega arith) (omega arith) c.text-x.ensures c.group-n.ensures.0 in
-    (omega arith, n.2, omega (arith, n.0), put-none)
+pub put_node-requires : goal.put_node-requires
+put_node-requires c =
+    omega (arith, row_count c.args.spelling c.args.own c.args.image c.steps_of-steps.ensures, c.requires.room)
 
-pub put_group-requires : goal.put_group-requires
-put_group-requires c = omega (arith, put-length c.loop-j.invariant.3)
-
-pub loop-j-preserved : goal.loop-j-preserved
-loop-j-preserved c = (omega arith, omega arith, c.loop-j.invariant.2, put_more c.loop-j.invariant.3 (c.put_group.ensures ∙ rw c.group.ensures.0 refl))
+pub loop-place-preserved : goal.loop-place-preserved
+loop-place-preserved c =
+    made_more (node_of c.numbers-numbers.result c.args.at c.args.image) c.args.out.now c.args.at c.steps_of-steps.result.now c.loop-place.place _ c.loop-place-test.true c.loop-place.invariant
+    (c.put_node.ensures ∙ ap (put c.loop-place.out (c.args.at + c.loop-place.place)) c.node.ensures)
 
 pub returns : goal.returns
-returns c = row_written c.args.s c.args.t (omega arith) (omega arith) c.params-ps.ensures c.text-x.ensures (let e : c.loop-j.j ≡ c.group-n.result = omega arith in e ∙ c.group-n.ensures.0)
-    c.loop-j.invariant.3
+returns c =
+    let e : c.loop-place.place ≡ length c.steps_of-steps.result.now = omega arith in
+    row_written c.args.spelling c.args.own c.args.image c.args.at c.args.out.now c.steps_of-steps.ensures (rw (← e, ← c.numbers-numbers.ensures) c.loop-place.invariant)

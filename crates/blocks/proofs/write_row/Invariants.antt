@@ -1,11 +1,9 @@
--- The text of a row, node by node.
-use Rattle.std.proofs.Common.{◌+◌, ◌*◌, ◌-◌, ◌≤◌, length}
-use Rattle.blocks.proofs.Laws.Rows.{node_in}
-use Rattle.blocks.proofs.Laws.Write.{Put}
+-- The steps of a row, node by node.
+use Rattle.std.proofs.Common.{◌≡◌, map, take}
+use Rattle.blocks.specs.Steps.{node_of}
+use Rattle.blocks.specs.Write.{puts}
 use Rattle.blocks.proofs.write_row.Given as goal
 
-abbrev pub invariant-loop-j : goal.invariant-loop-j
-invariant-loop-j l = (l.j ≤ l.n) × (l.n ≤ 11) × (6 * (l.at + l.n) ≤ length l.initial.out) × Put l.initial.out l.at (node_in l.ps l.at l.t l.x) l.j l.out
-
-abbrev pub decreases-loop-j : goal.decreases-loop-j
-decreases-loop-j l = l.n - l.j
+abbrev pub invariant-loop-place : goal.invariant-loop-place
+invariant-loop-place l =
+    l.out ≡ puts l.initial.out l.at 0 (take l.place (map (node_of l.numbers l.at l.image) l.steps))

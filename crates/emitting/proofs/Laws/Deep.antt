@@ -1,136 +1,86 @@
 -- The second pass goes down: a node that is emitted has its children emitted too, or waits for them.
-use Rattle.std.specs.Prelude.{◌≡◌, refl, List, ◌⊎◌, Bool, true, false, ◌||◌, ℕ, ◌+◌, ◌*◌, ◌-◌, ◌≤◌, ◌<◌, length, set, ltb, get_or}
-use Rattle.std.proofs.Common.{sym, ◌∙◌, ap, subst, inl, inr, arith, get_or-set_same, get_or-set_other}
+use Rattle.std.specs.Prelude.{◌≡◌, List, ◌⊎◌, Bool, true, false, ◌||◌, ℕ, ◌-◌, ◌≤◌, ◌<◌, length, set, get_or, min, max}
+use Rattle.std.proofs.Common.{sym, ◌∙◌, ap, subst, inl, inr, arith, get_or-set_same, get_or-set_other, refl}
+use Rattle.finite.specs.Tests.{below}
 use Rattle.finite.proofs.Laws.Bools.{either, look, clash, or_out}
-use Rattle.finite.proofs.Laws.Below.{equal?}
+use Rattle.finite.proofs.Laws.Below.{equal?, below_out, not-below}
 use Rattle.semantics.specs.Edit.{Edit}
 use Rattle.condition.specs.Bytes.{node_at}
-use Rattle.limits.specs.Limits.{not_no, or_no, dia_no, slot_no}
-use Rattle.emitting.specs.State.{used_child, left_at, right_at, emitted_row, Tells, Emitting, ChildrenEmitted, Deep, OneEmitted, TwoEmitted}
+use Rattle.emitting.specs.declared.Stage.{Stage}
+use Rattle.emitting.specs.declared.Stage.TheVariants.{ToCopy, Emitted}
+use Rattle.emitting.specs.State.{waits, waits_at, Emitting, ChildrenEmitted, Deep, OneEmitted}
 
 -- ---- one node
 
-pub one_none : {s rows : List ℕ} {c : ℕ} {A : Type 0} → OneEmitted s rows rows c A
-one_none = record { only = λ j n p. absurd (n p) }
+pub one_none : {s : List ℕ} {stages : List Stage} {c : ℕ} → OneEmitted s stages stages c false
+one_none = record { only = λ j n p. clash n p; below = λ q. clash q refl }
 
-pub one_then : {s rows rows' : List ℕ} {c : ℕ} {A B : Type 0} → OneEmitted s rows rows' c A → (A → B) → OneEmitted s rows rows' c B
-one_then O f = record { only = λ j n p. ((O.only j n p).0, either (O.only j n p).1 inl (λ a. inr (f a))) }
+-- both children of a node
+pub both_emitted : {s : List ℕ} {stages : List Stage} {i l r : ℕ} → l ≡ (node_at s i).left → r ≡ (node_at s i).right → waits_at stages l ≡ false
+    → waits_at stages r ≡ false → ChildrenEmitted s stages i
+both_emitted el er a b = record { left = rw (← el) a; right = rw (← er) b }
 
--- node c's row is changed, and what is known of its children
-one_set : {s rows rows' : List ℕ} {c : ℕ} {A : Type 0} → rows' ≡ set rows c emitted_row → ChildrenEmitted s rows' c ⊎ A → OneEmitted s rows rows' c A
-one_set {s} {rows} {rows'} {c} {A} e K = record {
-  only = λ j n p.
-      either
-      (equal? j c)
-      (λ q. (q, subst (λ (m : ℕ). ChildrenEmitted s rows' m ⊎ A) (sym q) K))
-      (λ q. absurd (n (sym (get_or-set_other rows c j emitted_row 0 q) ∙ ap (λ (l : List ℕ). get_or l j 0) (sym e) ∙ p)));
-}
+-- node c is emitted
+module _ (stages : List Stage) {stages' : List Stage} {c : ℕ} (e : stages' ≡ set stages c Emitted) (i : c < length stages) where
+  pub set_emitted : waits_at stages' c ≡ false
+  set_emitted = rw e (ap waits (get_or-set_same stages c Emitted ToCopy i))
+
+  pub set_other : (j : ℕ) → (j ≡ c → ⊥) → get_or stages' j ToCopy ≡ get_or stages j ToCopy
+  set_other j q = rw e (get_or-set_other stages c j Emitted ToCopy q)
+
+  -- it is not the first one, where the node l in one of its fields waits: the first one is its own field
+  not_first : (l : ℕ) → l ≤ c - 1 → waits_at stages' l ≡ true → 0 < c
+  not_first l h w =
+      either (equal? c 0) (λ z. let q : l ≡ c = omega arith in clash (rw q at w) set_emitted) (λ z. omega arith)
+
+  pub one_set : {s : List ℕ} {l r : ℕ} {a b : Bool} → l ≡ (node_at s c).left → r ≡ (node_at s c).right → a ≡ waits_at stages' l → b ≡ waits_at stages' r
+      → l ≤ c - 1 → r ≤ c - 1 → OneEmitted s stages stages' c (a || b)
+  one_set {s} {l} {r} {a} {b} el er ea eb hl hr =
+      let K : ChildrenEmitted s stages' c ⊎ ((a || b) ≡ true) =
+      either (look a) (λ q. inr (rw q refl)) (λ q. either (look b) (λ z. inr (rw (q, z) refl)) (λ z. inl (both_emitted el er (sym ea ∙ q) (sym eb ∙ z)))) in
+      record {
+        only = λ j n p.
+            either
+            (equal? j c)
+            (λ q. (q, subst (λ (m : ℕ). ChildrenEmitted s stages' m ⊎ ((a || b) ≡ true)) (sym q) K))
+            (λ q. clash n (sym (ap waits (set_other j q)) ∙ p));
+        below = λ q. either (or_out a b q) (λ z. not_first l hl (sym ea ∙ z)) (λ z. not_first r hr (sym eb ∙ z));
+      }
 
 -- ---- more nodes
 
-pub children_stay : {s : List ℕ} {e : Edit} {rows out rows' out' : List ℕ} {j : ℕ} → Emitting s e rows out rows' out'
-    → ChildrenEmitted s rows j → ChildrenEmitted s rows' j
-children_stay P C = record { left = λ h. P.stays _ (C.left h); right = λ h. P.stays _ (C.right h) }
+pub children_stay : {s : List ℕ} {e : Edit} {stages : List Stage} {out : List ℕ} {stages' : List Stage} {out' : List ℕ} {j : ℕ} → Emitting s e stages out stages' out'
+    → ChildrenEmitted s stages j → ChildrenEmitted s stages' j
+children_stay P C = record { left = P.stays _ C.left; right = P.stays _ C.right }
 
-pub deep_none : {s rows : List ℕ} → Deep s rows rows
-deep_none = record { down = λ j n p. absurd (n p) }
+pub deep_none : {s : List ℕ} {stages : List Stage} → Deep s stages stages
+deep_none = record { down = λ j n p. clash n p }
 
-pub deep_then : {s : List ℕ} {e : Edit} {rows rows₁ out₁ rows₂ out₂ : List ℕ} → Deep s rows rows₁ → Emitting s e rows₁ out₁ rows₂ out₂
-    → Deep s rows₁ rows₂ → Deep s rows rows₂
-deep_then {s} {e} {rows} {rows₁} D Q E = record {
-  down = λ j n p. either (equal? (get_or rows₁ j 0) emitted_row) (λ q. children_stay Q (D.down j n q)) (λ q. E.down j q p);
+pub deep_then : {s : List ℕ} {e : Edit} {stages stages₁ stages₂ : List Stage} {out₁ out₂ : List ℕ} → Deep s stages stages₁ → Emitting s e stages₁ out₁ stages₂ out₂
+    → Deep s stages₁ stages₂ → Deep s stages stages₂
+deep_then {stages₁ = stages₁} D Q E = record {
+  down = λ j n p. either (look (waits_at stages₁ j)) (λ q. E.down j q p) (λ q. children_stay Q (D.down j n q));
 }
 
--- lo and hi are emitted; those of them that wait have their children emitted then, and more nodes are
-pub paid : {s : List ℕ} {e : Edit} {rows rows₁ out₁ rows₂ out₂ : List ℕ} {lo hi waiting : ℕ} → TwoEmitted s rows rows₁ lo hi waiting
-    → Emitting s e rows₁ out₁ rows₂ out₂ → Deep s rows₁ rows₂ → (2 ≤ waiting → ChildrenEmitted s rows₂ lo)
-    → (1 ≤ waiting → (waiting ≡ 2 → ⊥) → ChildrenEmitted s rows₂ hi) → Deep s rows rows₂
-paid {s} {e} {rows} {rows₁} {out₁} {rows₂} T Q E a b = record {
+-- lo and then hi are emitted; those of them that wait for their children have them emitted then, and more nodes are
+pub paid : {s : List ℕ} {e : Edit} {stages stages₁ stages₂ stages₃ : List Stage} {out₁ out₂ out₃ : List ℕ} {lo hi : ℕ} {a b : Bool} → OneEmitted s stages stages₁ lo a
+    → Emitting s e stages₁ out₁ stages₂ out₂ → OneEmitted s stages₁ stages₂ hi b → Emitting s e stages₂ out₂ stages₃ out₃ → Deep s stages₂ stages₃
+    → (a ≡ true → ChildrenEmitted s stages₃ lo) → (b ≡ true → ChildrenEmitted s stages₃ hi) → Deep s stages stages₃
+paid {s} {stages₁ = stages₁} {stages₂} {stages₃} O P N Q D f g = record {
   down = λ j n p.
       either
-      (equal? (get_or rows₁ j 0) emitted_row)
-      (λ q. either (T.owed j n q) (children_stay Q)
-      (λ o. either o
-      (λ x. subst (ChildrenEmitted s rows₂) (sym x.0) (a x.1))
-      (λ x. subst (ChildrenEmitted s rows₂) (sym x.0) (b x.1 x.2))))
-      (λ q. E.down j q p);
+      (look (waits_at stages₁ j))
+      (λ q. either (look (waits_at stages₂ j))
+      (λ z. D.down j z p)
+      (λ z. let o = N.only j q z in either o.1 (children_stay Q) (λ w. subst (ChildrenEmitted s stages₃) (sym o.0) (g w))))
+      (λ q. let o = O.only j n q in either o.1 (λ k. children_stay Q (children_stay P k)) (λ w. subst (ChildrenEmitted s stages₃) (sym o.0) (f w)));
 }
 
--- ---- lo, and then hi
-
-pub one_more : {s : List ℕ} {e : Edit} {rows rows₁ out₁ rows₂ out₂ : List ℕ} {lo c waiting r : ℕ} → OneEmitted s rows rows₁ lo (1 ≤ waiting)
-    → Emitting s e rows₁ out₁ rows₂ out₂ → OneEmitted s rows₁ rows₂ c (r ≡ 1) → c ≡ lo → OneEmitted s rows rows₂ lo (1 ≤ 2 * waiting + r)
-one_more {s} {e} {rows} {rows₁} {out₁} {rows₂} {out₂} {lo} {c} {waiting} {r} O Q N q = record {
-  only = λ j n p.
-      either
-      (equal? (get_or rows₁ j 0) emitted_row)
-      (λ h. ((O.only j n h).0, either (O.only j n h).1 (λ k. inl (children_stay Q k)) (λ w. inr (omega arith))))
-      (λ h. ((N.only j h p).0 ∙ q, either (N.only j h p).1 inl (λ w. inr (omega arith))));
-}
-
-pub two_more : {s : List ℕ} {e : Edit} {rows rows₁ out₁ rows₂ out₂ : List ℕ} {lo hi c waiting r : ℕ} → OneEmitted s rows rows₁ lo (1 ≤ waiting)
-    → Emitting s e rows₁ out₁ rows₂ out₂ → OneEmitted s rows₁ rows₂ c (r ≡ 1) → c ≡ hi → TwoEmitted s rows rows₂ lo hi (2 * waiting + r)
-two_more {s} {e} {rows} {rows₁} {out₁} {rows₂} {out₂} {lo} {hi} {c} {waiting} {r} O Q N q = record {
-  owed = λ j n p.
-      either
-      (equal? (get_or rows₁ j 0) emitted_row)
-      (λ h. either (O.only j n h).1 (λ k. inl (children_stay Q k)) (λ w. inr (inl ((O.only j n h).0, omega arith))))
-      (λ h. either (N.only j h p).1 inl (λ w. inr (inr ((N.only j h p).0 ∙ q, omega arith, λ z. omega arith))));
-}
-
--- lo and hi are emitted, and neither waits
-pub none_owed : {s rows rows' : List ℕ} {lo hi waiting : ℕ} → TwoEmitted s rows rows' lo hi waiting → waiting < 1 → Deep s rows rows'
-none_owed T h = record {
-  down = λ j n p. either (T.owed j n p) (λ k. k) (λ o. absurd (either o (λ x. omega (arith, x.1)) (λ x. omega (arith, x.1))));
-}
-
--- ---- one node, by what waits
-
--- a field is emitted, and so is the child, where the kind uses it
-there : (rows : List ℕ) (lo hi k c i : ℕ) → get_or rows c 0 ≡ emitted_row → used_child lo hi k c i < i → get_or rows (used_child lo hi k c i) 0 ≡ emitted_row
-there rows lo hi k c i h =
-    either (look (ltb k lo)) (λ q. rw q (λ g. absurd (omega arith)))
-    (λ q. either (look (ltb k hi)) (λ z. rw (q, z) (λ g. h)) (λ z. rw (q, z) (λ g. absurd (omega arith))))
-
-module _ (s rows : List ℕ) (i : ℕ) where
-  left_there : {l : ℕ} → l ≡ (node_at s i).left → get_or rows l 0 ≡ emitted_row → left_at s i < i → get_or rows (left_at s i) 0 ≡ emitted_row
-  unfolding left_at
-  left_there e h = there rows not_no slot_no (node_at s i).kind (node_at s i).left i (subst (λ (m : ℕ). get_or rows m 0 ≡ emitted_row) e h)
-
-  right_there : {r : ℕ} → r ≡ (node_at s i).right → get_or rows r 0 ≡ emitted_row → right_at s i < i → get_or rows (right_at s i) 0 ≡ emitted_row
-  unfolding right_at
-  right_there e h = there rows or_no dia_no (node_at s i).kind (node_at s i).right i (subst (λ (m : ℕ). get_or rows m 0 ≡ emitted_row) e h)
-
--- both children of a node
-pub below_both : {s rows : List ℕ} {i l r : ℕ} → l ≡ (node_at s i).left → r ≡ (node_at s i).right → get_or rows l 0 ≡ emitted_row
-    → get_or rows r 0 ≡ emitted_row → ChildrenEmitted s rows i
-below_both {s} {rows} {i} el er a b = record { left = left_there s rows i el a; right = right_there s rows i er b }
-
--- a node whose child waits is not the first one: the first one is its own field, and is emitted
-not_first : (rows : List ℕ) {rows' : List ℕ} {c l : ℕ} {b : Bool} → rows' ≡ set rows c emitted_row → c < length rows → Tells rows' l b → l ≤ c - 1 → b ≡ true → 0 < c
-not_first rows {rows'} {c} {l} e i t h q =
+-- the lower and the higher one of two nodes are both
+pub both_of : (stages : List Stage) (l r : ℕ) {lo hi : ℕ} → lo ≡ min l r → hi ≡ max l r → waits_at stages lo ≡ false → waits_at stages hi ≡ false
+    → (waits_at stages l ≡ false) × (waits_at stages r ≡ false)
+both_of stages l r {lo} {hi} el eh a b =
     either
-    (equal? c 0)
-    (λ z. let g : l ≡ c = omega arith in absurd (t.1 q (rw (g, e) (get_or-set_same rows c emitted_row 0 i))))
-    (λ z. omega arith)
-
--- node c is emitted, and is not 0 where one of its children waits
-module _ {s rows rows' : List ℕ} {c : ℕ} (e : rows' ≡ set rows c emitted_row) (i : c < length rows) where
-  pub one-leaf : (left_at s c ≡ c) × (right_at s c ≡ c) → OneEmitted s rows rows' c (false ≡ true) × (false ≡ true → 0 < c)
-  one-leaf h =
-      (one_set e (inl (record { left = λ g. absurd (omega (arith, h.0)); right = λ g. absurd (omega (arith, h.1)) })), λ q. clash q refl)
-
-  pub one_waits : {l : ℕ} {left : Bool} → l ≡ (node_at s c).left → Tells rows' l left → l ≤ c - 1 → right_at s c ≡ c
-      → OneEmitted s rows rows' c (left ≡ true) × (left ≡ true → 0 < c)
-  one_waits {l} {left} el t b h = (
-    one_set e (either (look left) inr (λ q. inl (record { left = left_there s rows' c el (t.0 q); right = λ g. absurd (omega (arith, h)) }))),
-    not_first rows e i t b,
-  )
-
-  pub two_wait : {l r : ℕ} {left right : Bool} → l ≡ (node_at s c).left → Tells rows' l left → l ≤ c - 1 → r ≡ (node_at s c).right → Tells rows' r right
-      → r ≤ c - 1 → OneEmitted s rows rows' c ((left || right) ≡ true) × ((left || right) ≡ true → 0 < c)
-  two_wait {l} {r} {left} {right} el t b er u d = (
-    one_set e (either (look left) (λ q. inr (rw q refl))
-        (λ q. either (look right) (λ z. inr (rw (q, z) refl)) (λ z. inl (below_both el er (t.0 q) (u.0 z))))),
-    λ q. either (or_out left right q) (not_first rows e i t b) (not_first rows e i u d),
-  )
+    (look (below l r))
+    (λ q. let h = below_out l r q in let e : lo ≡ l = omega arith in let f : hi ≡ r = omega arith in (rw e at a, rw f at b))
+    (λ q. let h = not-below l r q in let e : lo ≡ r = omega arith in let f : hi ≡ l = omega arith in (rw f at b, rw e at a))

@@ -1,6 +1,6 @@
 -- The first pass for one edit: the numbers that the nodes' blocks begin with and end with.
 use Rattle.std.specs.Prelude.{◌≡◌, refl, List, [], ℕ, zero, suc, ◌+◌, ◌*◌, ◌-◌, ◌≤◌, ◌<◌, length, get_or, set}
-use Rattle.std.proofs.Common.{sym, ◌∙◌, ap, subst, arith, not-suc-le-zero, length-append, length-set, get_or-set_same, get_or-set_other, ap₂, add-one}
+use Rattle.std.proofs.Common.{sym, ◌∙◌, ap, arith, not-suc-le-zero, length-append, length-set, get_or-set_same, get_or-set_other, ap₂, add-one}
 use Rattle.std.proofs.lemmas.List.{get_or_at}
 use Rattle.finite.proofs.Laws.Bools.{either}
 use Rattle.finite.proofs.Laws.Below.{equal?}
@@ -10,12 +10,11 @@ use Rattle.semantics.specs.Block.{Block, old, end, on, join, size, root, block}
 use Rattle.semantics.proofs.Laws.Emit.{emit-length}
 use Rattle.condition.specs.Bytes.{node_at}
 use Rattle.limits.specs.Limits.{table_nodes}
-use Rattle.spelling.specs.declared.Spelling.{Spelling}
-use Rattle.spelling.specs.Spelling.{Spells, Sized}
-use Rattle.emitting.specs.State.{block_in, step, state_at, image_of, start_of, start_in, Numbered, Numbering, spelling_of, Rowed, NoneEmitted}
+use Rattle.emitting.specs.declared.Stage.{Stage}
+use Rattle.emitting.specs.declared.Stage.TheVariants.{ToCopy}
+use Rattle.emitting.specs.State.{block_in, block_at, step, state_at, image_of, start_of, start_in, Numbered, Numbering, Planned, Rowed, NoneEmitted}
 use Rattle.emitting.proofs.Laws.State.{images_length, image_at}
 use Rattle.emitting.proofs.Laws.Sizes.{block-some}
-use Rattle.emitting.proofs.Laws.Copied.{by_row}
 
 -- ---- starts and images
 
@@ -25,10 +24,6 @@ root-some (old i) b h = absurd (omega arith)
 root-some (end k p) b h = omega arith
 root-some (on k p x) b h = omega arith
 root-some (join k x y) b h = omega arith
-
--- the block of node i, as the definition writes it
-abbrev pub block_at : Edit → List ℕ → ℕ → Block
-block_at e s i = block_in e (state_at e s i).images (node_at s i)
 
 pub start_more : (e : Edit) (s : List ℕ) (i : ℕ) → start_of e s (suc i) ≡ start_of e s i + size (block_at e s i)
 unfolding start_of state_at step
@@ -103,39 +98,36 @@ unfolding start_in
 start_after images zero h e = absurd (omega arith)
 start_after images (suc c) h e = let z : suc c - 1 ≡ c = omega arith in ap (λ (m : ℕ). m + 1) (e ∙ ap (λ (m : ℕ). get_or images m 0) z)
 
-pub start_first : (images : List ℕ) {c : ℕ} → c < 1 → 0 ≡ start_in images c
+pub start_first : (images : List ℕ) (c : ℕ) → c ≡ 0 → 0 ≡ start_in images c
 unfolding start_in
-start_first images {c} h = let z : c ≡ 0 = omega arith in rw z refl
+start_first images c h = rw h refl
 
--- ---- rows
+-- ---- stages
 
-rowed_none : (s : List ℕ) (e : Edit) (rows : List ℕ) → length rows ≡ table_nodes → Rowed s e rows 0 × NoneEmitted rows 0
-rowed_none s e rows h = (record { size = h; spells = λ j q. absurd (not-suc-le-zero q) }, λ j q. absurd (not-suc-le-zero q))
+rowed_none : (s : List ℕ) (e : Edit) (stages : List Stage) → length stages ≡ table_nodes → Rowed s e stages 0 × NoneEmitted stages 0
+rowed_none s e stages h = (record { size = h; copies = λ j q. absurd (not-suc-le-zero q) }, λ j q. absurd (not-suc-le-zero q))
 
--- one row more
-rowed_more : {s : List ℕ} {e : Edit} {rows : List ℕ} {n k p row : ℕ} → Rowed s e rows n × NoneEmitted rows n → n < table_nodes
-    → k ≡ (node_at s n).kind → p ≡ (node_at s n).param → Spells e k p (spelling_of e p row)
-    → Rowed s e (set rows n row) (n + 1) × NoneEmitted (set rows n row) (n + 1)
-rowed_more {s} {e} {rows} {n} {k} {p} {row} R b ek ep S =
-    let here : get_or (set rows n row) n 0 ≡ row = get_or-set_same rows n row 0 (omega (arith, R.0.size)) in (
+-- one stage more
+rowed_more : {s : List ℕ} {e : Edit} {stages : List Stage} {n k p r : ℕ} {stage : Stage} → Rowed s e stages n × NoneEmitted stages n → n < table_nodes
+    → k ≡ (node_at s n).kind → p ≡ (node_at s n).param → Planned e k p stage r
+    → Rowed s e (set stages n stage) (n + 1) × NoneEmitted (set stages n stage) (n + 1)
+rowed_more {s} {e} {stages} {n} {stage = stage} R b ek ep P =
+    let here : get_or (set stages n stage) n ToCopy ≡ stage = get_or-set_same stages n stage ToCopy (omega (arith, R.0.size)) in
+    let other : (j : ℕ) → (j ≡ n → ⊥) → get_or (set stages n stage) j ToCopy ≡ get_or stages j ToCopy = λ j g. get_or-set_other stages n j stage ToCopy g in (
       record {
-        size = length-set rows n row ∙ R.0.size;
-        spells = λ j h ne.
+        size = length-set stages n stage ∙ R.0.size;
+        copies = λ j h c.
             either
             (equal? j n)
-            (λ g. rw (g, here, ← ek, ← ep) S)
-            (λ g. let o : get_or (set rows n row) j 0 ≡ get_or rows j 0 = get_or-set_other rows n j row 0 g in
-            rw o (R.0.spells j (omega arith) (λ z. ne (o ∙ z))));
+            (λ g. rw (g, ← ek, ← ep) (P.copy (sym here ∙ ap (λ (m : ℕ). get_or (set stages n stage) m ToCopy) (sym g) ∙ c)))
+            (λ g. R.0.copies j (omega arith) (sym (other j g) ∙ c));
       },
-      λ j h z.
+      λ j h.
           either
           (equal? j n)
-          (λ g. absurd (omega (arith, here, S.known, ap (λ (m : ℕ). get_or (set rows n row) m 0) g)))
-          (λ g. R.1 j (omega arith) (sym (get_or-set_other rows n j row 0 g) ∙ z)),
+          (λ g. rw (g, here) P.waiting)
+          (λ g. rw (other j g) (R.1 j (omega arith))),
     )
-
-pub rowed_low : {s : List ℕ} {e : Edit} {rows : List ℕ} {n : ℕ} → Rowed s e rows n → (i : ℕ) → i ≤ n → Rowed s e rows i
-rowed_low R i h = record { size = R.size; spells = λ j q. R.spells j (omega arith) }
 
 -- ---- what is read from the images
 
@@ -156,29 +148,26 @@ image_small {s} {e} {images} {i} N c h q = let g : suc c ≤ i = h in omega (ari
 
 -- ---- the first pass
 
-pub numbering_none : {s : List ℕ} {e : Edit} {images rows : List ℕ} → length images ≡ table_nodes → length rows ≡ table_nodes → Numbering s e images rows 0 0
-numbering_none {s} {e} {images} {rows} h g = record {
+pub numbering_none : {s : List ℕ} {e : Edit} {images : List ℕ} {stages : List Stage} → length images ≡ table_nodes → length stages ≡ table_nodes → Numbering s e images stages 0 0
+numbering_none {s} {e} {images} {stages} h g = record {
   numbered = numbered_none s e images h;
-  rowed = (rowed_none s e rows g).0;
-  none = (rowed_none s e rows g).1;
+  rowed = (rowed_none s e stages g).0;
+  none = (rowed_none s e stages g).1;
   here = start_none e s;
   small = omega arith;
 }
 
--- one node more: the spelling x of its block, which has r nodes, and its image v
-pub numbering_more : {s : List ℕ} {e : Edit} {images rows : List ℕ} {n next k p r v : ℕ} {x : Spelling} → Numbering s e images rows n next → n < table_nodes
-    → k ≡ (node_at s n).kind → p ≡ (node_at s n).param → Spells e k p x → Sized x r → v ≡ next + r - 1
-    → Numbering s e (set images n v) (set rows n x.row) (n + 1) (next + r)
-numbering_more {s} {e} {images} {rows} {n} {next} {k} {p} {r} {v} N h ek ep S Z ev =
-    let er : (t u : ℕ) → r ≡ size (block e (kind_of k) p (old t) (old u)) = λ t u. Z.right t u ∙ ap size (S.right t u) in
-    let R = rowed_more (N.rowed, N.none) h ek ep (by_row S) in
+-- one node more: its stage, the r nodes of its block, and its image v
+pub numbering_more : {s : List ℕ} {e : Edit} {images : List ℕ} {stages : List Stage} {n next k p r v : ℕ} {stage : Stage} → Numbering s e images stages n next → n < table_nodes
+    → k ≡ (node_at s n).kind → p ≡ (node_at s n).param → Planned e k p stage r → v ≡ next + r - 1
+    → Numbering s e (set images n v) (set stages n stage) (n + 1) (next + r)
+numbering_more {s} {e} {images} {stages} {n} {next} {k} {p} {r} {v} N h ek ep P ev =
+    let er : (t u : ℕ) → r ≡ size (block e (kind_of k) p (old t) (old u)) = λ t u. P.sized.right k p t u ∙ ap size (P.spells.right t u) in
+    let R = rowed_more (N.rowed, N.none) h ek ep P in
     record {
-      numbered = numbered_more N.numbered k p next r ek ep N.here er h Z.few N.small v ev;
+      numbered = numbered_more N.numbered k p next r ek ep N.here er h P.sized.few N.small v ev;
       rowed = R.0;
       none = R.1;
       here = next_start N.numbered k p next r ek ep N.here er;
-      small = omega (arith, Z.few, N.small);
+      small = omega (arith, P.sized.few, N.small);
     }
-
-pub numbering_ended : {s : List ℕ} {e : Edit} {images rows : List ℕ} {i n next : ℕ} → i ≡ n → Numbering s e images rows i next → Numbering s e images rows n next
-numbering_ended {s} {e} {images} {rows} {i} {n} {next} q N = subst (λ (m : ℕ). Numbering s e images rows m next) q N

@@ -1,17 +1,11 @@
--- A block has at least one node, and which blocks are a single one.
-use Rattle.std.specs.Prelude.{◌≡◌, refl, Bool, true, false, ℕ, ◌≤◌}
+-- A block has at least one node.
+use Rattle.std.specs.Prelude.{ℕ, ◌≤◌}
 use Rattle.std.proofs.Common.{arith}
 use Rattle.finite.specs.Tests.{same}
 use Rattle.finite.proofs.Laws.Bools.{either, look}
 use Rattle.semantics.specs.Edit.{Edit, CN1, CN2, AP, DP, AT, RT, DT1, DT2, AS, DS}
-use Rattle.semantics.specs.Table.{Leaf, Unary, Binary, k_true, k_here, k_label, k_name, k_var, k_slot, k_not, k_dia, k_box, k_mu, k_nu, Kind, leaf, unary, binary, way_of}
-use Rattle.semantics.specs.Block.{Change, keep, added, only_from, only_to, cut, cut_from, cut_to, cut_off, change, Block, old, end, on, join, size, block_dia, block_box, block_leaf, block}
-
-unfoldable pub is_end : Block → Bool
-is_end (old i) = false
-is_end (end k p) = true
-is_end (on k p x) = false
-is_end (join k x y) = false
+use Rattle.semantics.specs.Table.{Leaf, k_true, k_here, k_label, k_name, k_var, k_slot, k_not, k_dia, k_box, k_mu, k_nu, Kind, leaf, unary, binary, way_of}
+use Rattle.semantics.specs.Block.{Change, keep, added, only_from, only_to, cut, cut_from, cut_to, cut_off, change, Block, size, block_dia, block_box, block_leaf, block}
 
 leaf-some : (e : Edit) (k : Leaf) (p : ℕ) → 1 ≤ size (block_leaf e k p)
 unfolding block_leaf size
@@ -49,38 +43,25 @@ leaf-some (DS n) k_name p = either (look (same p 0)) (λ e. rw (e, size) (omega 
 leaf-some e k_var p = omega arith
 leaf-some e k_slot p = omega arith
 
--- a block that has a child: it has a node, and is no end
-pub record Inner (B : Block) : Type 0 where
-  pub some : 1 ≤ size B
-  pub no_end : is_end B ≡ false
-
-on_inner : {k : Unary} {p : ℕ} {x : Block} → Inner (on k p x)
-unfolding is_end size
-on_inner = record { some = omega arith; no_end = refl }
-
-join_inner : {k : Binary} {x y : Block} → Inner (join k x y)
-unfolding is_end size
-join_inner = record { some = omega arith; no_end = refl }
-
 -- the blocks of a diamond and of a box
-pub ways_inner : (c : Change) (w : ℕ) (T : Block) → Inner (block_dia c w T) × Inner (block_box c w T)
-unfolding block_dia block_box
-ways_inner keep w T = (on_inner, on_inner)
-ways_inner (added a b) w T = (join_inner, join_inner)
-ways_inner (only_from a b) w T = (join_inner, join_inner)
-ways_inner (only_to a b) w T = (join_inner, join_inner)
-ways_inner (cut a b) w T = (join_inner, join_inner)
-ways_inner (cut_from n) w T = (join_inner, join_inner)
-ways_inner (cut_to n) w T = (on_inner, on_inner)
-ways_inner (cut_off n) w T = (join_inner, join_inner)
+ways_some : (c : Change) (w : ℕ) (T : Block) → (1 ≤ size (block_dia c w T)) × (1 ≤ size (block_box c w T))
+unfolding block_dia block_box size
+ways_some keep w T = (omega arith, omega arith)
+ways_some (added a b) w T = (omega arith, omega arith)
+ways_some (only_from a b) w T = (omega arith, omega arith)
+ways_some (only_to a b) w T = (omega arith, omega arith)
+ways_some (cut a b) w T = (omega arith, omega arith)
+ways_some (cut_from n) w T = (omega arith, omega arith)
+ways_some (cut_to n) w T = (omega arith, omega arith)
+ways_some (cut_off n) w T = (omega arith, omega arith)
 
 -- a node makes at least one
 pub block-some : (e : Edit) (k : Kind) (p : ℕ) (T U : Block) → 1 ≤ size (block e k p T U)
 unfolding block size
 block-some e (leaf k) p T U = leaf-some e k p
 block-some e (unary k_not) p T U = omega arith
-block-some e (unary k_dia) p T U = (ways_inner (change e (way_of p)) p T).0.some
-block-some e (unary k_box) p T U = (ways_inner (change e (way_of p)) p T).1.some
+block-some e (unary k_dia) p T U = (ways_some (change e (way_of p)) p T).0
+block-some e (unary k_box) p T U = (ways_some (change e (way_of p)) p T).1
 block-some e (unary k_mu) p T U = omega arith
 block-some e (unary k_nu) p T U = omega arith
 block-some e (binary k) p T U = omega arith

@@ -1,17 +1,15 @@
--- Laws of the states of rewriting for one edit, and of a node's children.
+-- Laws of the states of rewriting for one edit.
 use Rattle.std.specs.Prelude.{◌≡◌, refl, List, [], ◌∷◌, ◌++◌, ℕ, zero, suc, ◌<◌, length, get_or}
-use Rattle.std.proofs.Common.{sym, ◌∙◌, ap, arith, not-suc-le-zero, le-ltb, length-append}
+use Rattle.std.proofs.Common.{sym, ◌∙◌, ap, arith, not-suc-le-zero, length-append}
 use Rattle.std.proofs.Math.ListN.{get_or-append}
 use Rattle.finite.proofs.Laws.Bools.{either}
 use Rattle.finite.proofs.Laws.Below.{equal?}
 use Rattle.semantics.specs.Edit.{Edit}
-use Rattle.semantics.specs.Table.{Kind, leaf, unary, binary, kind_of, Node}
+use Rattle.semantics.specs.Table.{Node}
 use Rattle.semantics.specs.Block.{rewrite, rewrite_table}
 use Rattle.condition.specs.Bytes.{node_at, nodes}
 use Rattle.condition.proofs.Laws.Bytes.{nodes_more}
-use Rattle.condition.proofs.Laws.Limits.{each_kind, kind_past}
-use Rattle.limits.specs.Limits.{not_no, or_no, dia_no, slot_no}
-use Rattle.emitting.specs.State.{State, block_in, step, state_at, image_of, used_child}
+use Rattle.emitting.specs.State.{State, block_in, step, state_at, image_of}
 
 run : Edit → State → List Node → State
 run e st [] = st
@@ -49,28 +47,3 @@ image_at e s (suc n) i h =
     (equal? i n)
     (λ q. ap (λ (k : ℕ). get_or (state_at e s (suc k)).images i 0) (sym q))
     (λ q. let lt : i < n = omega arith in get_or-append (state_at e s n).images _ 0 i (omega (arith, images_length e s n)) ∙ image_at e s n i lt)
-
--- ---- children
-
--- a kind's children, and i where it has none
-unfoldable pub left_by : Kind → ℕ → ℕ → ℕ
-left_by (leaf k) l i = i
-left_by (unary k) l i = l
-left_by (binary k) l i = l
-
-unfoldable pub right_by : Kind → ℕ → ℕ → ℕ
-right_by (leaf k) r i = i
-right_by (unary k) r i = i
-right_by (binary k) r i = r
-
-pub left_used : (l i k : ℕ) → left_by (kind_of k) l i ≡ used_child not_no slot_no k l i
-unfolding kind_of left_by
-left_used l i =
-    each_kind _ refl refl refl refl refl refl refl refl refl refl refl refl
-    (λ k h. rw (kind_past k h, le-ltb k 5 (omega arith), le-ltb k 12 h) refl)
-
-pub right_used : (r i k : ℕ) → right_by (kind_of k) r i ≡ used_child or_no dia_no k r i
-unfolding kind_of right_by
-right_used r i =
-    each_kind _ refl refl refl refl refl refl refl refl refl refl refl refl
-    (λ k h. rw (kind_past k h, le-ltb k 6 (omega arith), le-ltb k 8 (omega arith)) refl)

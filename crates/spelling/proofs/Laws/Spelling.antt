@@ -1,21 +1,25 @@
--- The row that is chosen for a node has the block of the node.
-use Rattle.std.specs.Prelude.{◌≡◌, ◌++◌, Bool, true, false, cond, ℕ, ◌+◌, ◌-◌, ◌%◌, ◌≤◌, ◌<◌, get_or, refl}
+-- The spelling that is chosen for a node spells the block of the node.
+use Rattle.std.specs.Prelude.{◌≡◌, ◌≢◌, Bool, true, false, not, ◌&&◌, nat_eq, nat_lt, Option, None, Some, cond, ℕ, ◌+◌, ◌-◌, ◌%◌, ◌≤◌, ◌<◌, refl}
 use Rattle.std.proofs.Common.{◌∙◌, ap, arith}
+use Rattle.std.specs.Bool.{then_some, if◌then◌else◌}
 use Rattle.finite.specs.Tests.{same, below}
-use Rattle.finite.proofs.Laws.Bools.{either, look}
-use Rattle.finite.proofs.Laws.Below.{below_in, below_out, below-not}
+use Rattle.finite.proofs.Laws.Bools.{either, look, and_l}
+use Rattle.finite.proofs.Laws.Below.{same_refl, below_in, below_out, below-not, not-below, ne_same}
 use Rattle.limits.specs.Limits.{links, every_way}
 use Rattle.semantics.specs.Form.{Way, along, against, every}
 use Rattle.semantics.specs.Edit.{Edit, CN1, CN2, AP, DP, AT, RT, DT1, DT2, AS, DS, legal}
 use Rattle.semantics.specs.Table.{kind_of, way_of}
 use Rattle.semantics.specs.Block.{Change, keep, added, only_from, only_to, cut, cut_from, cut_to, cut_off, change, Block, old, block_dia, block_box, block_leaf, block}
 use Rattle.semantics.proofs.Laws.Edits.{Legal, legal_out, functional_small}
+use Rattle.semantics.proofs.Laws.Ways.{way_along, way_against}
 use Rattle.condition.proofs.Laws.Limits.{each_kind, kind_past}
 use Rattle.sheet.specs.declared.Op.{Op}
 use Rattle.sheet.specs.Bytes.{edit_of}
+use Rattle.spelling.specs.declared.Row.{Row}
+use Rattle.spelling.specs.declared.Row.TheVariants.{Cn1Name, AsName, Cn2Name, ApLabel, DpLabel, AsHere, DsHere, DsName, AtDiamond, AtBox, Dt1Diamond, Dt1Box, Dt2Diamond, Dt2Box, Dt2DiamondBack, Dt2BoxBack, DsDiamond, DsBox, RtDiamond, RtBox, RtDiamondBack, RtBoxBack}
 use Rattle.spelling.specs.declared.Spelling.{Spelling}
-use Rattle.spelling.specs.Rows.{row_count, copies, rows}
-use Rattle.spelling.specs.Spelling.{spelled, Spells, known_kind, on_way, leaf_row, way_row, as_row, ds_row, row_of, first_of, second_of}
+use Rattle.spelling.specs.Rows.{copied, row_block}
+use Rattle.spelling.specs.Spelling.{row_spelled, spelled, Spells, on_way}
 
 -- ---- ways by their numbers, and what an edit does by each
 
@@ -59,102 +63,248 @@ change_ds n w =
     (λ e. let h = below_out w links e in rw (e, below_in w every_way (omega arith), change, way_of) refl)
     (λ e. either (look (below w every_way)) (λ g. rw (e, g, change, way_of) refl) (λ g. rw (e, g, change, way_of) refl))
 
--- ---- the rows of each edit
+-- ---- a choice by the way, as the code makes it
 
--- a row, with a test that there is one
-abbrev Found : Type 0
-Found = Bool × Block
-
--- a choice between two numbers, whose rows are known
-choose : {A : Type 0} (f : A → Found) (g : ℕ → Found) (c : Bool) {x z : ℕ} {X Z : A} → g x ≡ f X → g z ≡ f Z → g (cond c x z) ≡ f (cond c X Z)
-choose f g true p q = p
-choose f g false p q = q
-
--- the same by ways, where an edit's change C is X on way m and Y on its reverse
-choose_way : (f : Change → Found) (g : ℕ → Found) (w : Way) (m : ℕ) (X Y : Change) {C : Change} → on_way w m X Y keep ≡ C
-    → {x y z : ℕ} → g x ≡ f X → g y ≡ f Y → g z ≡ f keep → g (on_way w m x y z) ≡ f C
+pub on_link : {A : Type 0} (w m : ℕ) (x y z : A) → m < links → w ≡ m → on_way (way_of w) m x y z ≡ x
 unfolding on_way
-choose_way f g (along l) m X Y e p q r = choose f g (same l m) p r ∙ ap f e
-choose_way f g (against l) m X Y e p q r = choose f g (same l m) q r ∙ ap f e
-choose_way f g every m X Y e p q r = r ∙ ap f e
+on_link w m x y z h e = rw (e, way_along m h, same_refl m) refl
 
-known_past : (k : ℕ) → 12 ≤ k → known_kind k ≡ 12
-unfolding known_kind
-known_past k h = rw (below-not k 12 h) refl
+pub on_reverse : {A : Type 0} (w m : ℕ) (x y z : A) → m < links → w ≡ m + links → on_way (way_of w) m x y z ≡ y
+unfolding on_way
+on_reverse w m x y z h e = rw (e, way_against m h, same_refl m) refl
 
-module _ (p t u : ℕ) where
-  -- row r of an edit with the numbers a and b
-  abbrev row : ℕ → ℕ → ℕ → Found
-  row a b r = (below r row_count, get_or (copies p (old t) (old u) ++ rows p a b ((b + links) % 256) every_way (old t)) r (old 0))
+on_way_same : {A : Type 0} (W : Way) (m : ℕ) (x : A) → on_way W m x x x ≡ x
+unfolding on_way
+on_way_same (along l) m x = either (look (same l m)) (λ e. rw e refl) (λ e. rw e refl)
+on_way_same (against l) m x = either (look (same l m)) (λ e. rw e refl) (λ e. rw e refl)
+on_way_same every m x = refl
 
-  abbrev leaf : Block → Found
-  leaf B = (true, B)
+pub on_other : {A : Type 0} (w m : ℕ) (x y z : A) → w ≢ m → w ≢ m + links → on_way (way_of w) m x y z ≡ z
+unfolding on_way way_of
+on_other w m x y z a b =
+    either
+    (look (below w links))
+    (λ e. rw (e, on_way, ne_same a) refl)
+    (λ e. either (look (below w every_way))
+    (λ g. let h = not-below w links e in let n : w - links ≢ m = λ q. b (omega arith) in rw (e, g, on_way, ne_same n) refl)
+    (λ g. rw (e, g, on_way) refl))
 
-  abbrev dia : Change → Found
-  dia c = (true, block_dia c p (old t))
+-- ---- the spelling of each edit, for a node with parameter w
 
-  abbrev box : Change → Found
-  box c = (true, block_box c p (old t))
+-- a kind past the last is no other kind
+past : (n k : ℕ) → n < 12 → 12 ≤ k → nat_eq k n ≡ false
+unfolding same
+past n k l h = let d : k ≢ n = λ q. omega arith in ne_same d
 
-  abbrev Right : Edit → ℕ → Type 0
-  Right e k = row (first_of e) (second_of e) (row_of e (known_kind k) p) ≡ leaf (block e (kind_of k) p (old t) (old u))
+abbrev pub by_row : Row → ℕ → ℕ → Spelling
+by_row r a b = record { row = r; first = a; second = b }
 
-  right : (e : Edit) → legal e ≡ true → (k : ℕ) → Right e k
-  unfolding copies rows block block_leaf block_dia block_box change kind_of known_kind leaf_row way_row as_row ds_row same below Legal
-  right (CN1 n1 n2) l =
-      each_kind _ refl refl refl (choose leaf (row n2 0) (same p n1) refl refl) refl refl refl refl refl refl refl refl
-      (λ k h. rw (kind_past k h, known_past k h) refl)
-  right (CN2 n1 n2 f) l =
-      let small = functional_small f (legal_out (CN2 n1 n2 f) l).2 in let e : (f + links) % 256 ≡ f + links = omega arith in
-      each_kind _ refl refl refl (choose leaf (row n2 f) (same p n1) (rw e refl) refl) refl refl refl refl refl refl refl refl
-      (λ k h. rw (kind_past k h, known_past k h) refl)
-  right (AP n q) l =
-      each_kind _ refl refl (choose leaf (row n 0) (same p q) refl refl) refl refl refl refl refl refl refl refl refl
-      (λ k h. rw (kind_past k h, known_past k h) refl)
-  right (DP n q) l =
-      each_kind _ refl refl (choose leaf (row n 0) (same p q) refl refl) refl refl refl refl refl refl refl refl refl
-      (λ k h. rw (kind_past k h, known_past k h) refl)
-  right (AT m a b) l =
-      each_kind _ refl refl refl refl refl refl refl refl
-      (choose_way dia (row a b) (way_of p) m (added a b) (added b a) (change-at m a b (way_of p)) refl refl refl)
-      (choose_way box (row a b) (way_of p) m (added a b) (added b a) (change-at m a b (way_of p)) refl refl refl) refl refl
-      (λ k h. rw (kind_past k h, known_past k h) refl)
-  right (RT f a b) l =
-      each_kind _ refl refl refl refl refl refl refl refl
-      (choose_way dia (row a b) (way_of p) f (only_from a b) (only_to b a) (change_rt f a b (way_of p)) refl refl refl)
-      (choose_way box (row a b) (way_of p) f (only_from a b) (only_to b a) (change_rt f a b (way_of p)) refl refl refl) refl refl
-      (λ k h. rw (kind_past k h, known_past k h) refl)
-  right (DT1 m a b) l =
-      each_kind _ refl refl refl refl refl refl refl refl
-      (choose_way dia (row a b) (way_of p) m (cut a b) (cut b a) (change_dt1 m a b (way_of p)) refl refl refl)
-      (choose_way box (row a b) (way_of p) m (cut a b) (cut b a) (change_dt1 m a b (way_of p)) refl refl refl) refl refl
-      (λ k h. rw (kind_past k h, known_past k h) refl)
-  right (DT2 f n) l =
-      each_kind _ refl refl refl refl refl refl refl refl
-      (choose_way dia (row n 0) (way_of p) f (cut_from n) (cut_to n) (change_dt2 f n (way_of p)) refl refl refl)
-      (choose_way box (row n 0) (way_of p) f (cut_from n) (cut_to n) (change_dt2 f n (way_of p)) refl refl refl) refl refl
-      (λ k h. rw (kind_past k h, known_past k h) refl)
-  right (AS n s) l =
-      each_kind _ refl refl refl (choose leaf (row s 0) (same p n) refl refl) refl refl refl refl refl refl refl refl
-      (λ k h. rw (kind_past k h, known_past k h) refl)
-  right (DS n) l =
-      each_kind _ refl refl refl
-      (either (look (same p 0)) (λ e. rw e refl) (λ e. rw e refl)) refl refl refl refl
-      (choose dia (row n 0) (below p every_way) refl refl ∙ ap dia (change_ds n p))
-      (choose box (row n 0) (below p every_way) refl refl ∙ ap box (change_ds n p))
-      refl refl (λ k h. rw (kind_past k h, known_past k h) refl)
+-- the row of a leaf of kind κ with parameter n, where a node of kind k has parameter w
+abbrev pub leaf_row : (k κ w n : ℕ) → Spelling → Option Spelling
+leaf_row k κ w n s = then_some (nat_eq k κ && nat_eq w n) s
 
-spells : (e : Edit) (k p : ℕ) → legal e ≡ true → Spells e k p (record { row = row_of e (known_kind k) p; w = p; a = first_of e; b = second_of e })
-unfolding spelled
-spells e k p l = record {
-  known = below_out _ row_count (ap (λ (x : Found). x.0) (right p 0 0 e l k));
-  own = refl;
-  first = refl;
-  second = refl;
-  right = λ t u. ap (λ (x : Found). x.1) (right p t u e l k);
-}
+-- the rows of the diamond and of the box
+abbrev pub rows : ℕ → Spelling → Spelling → Option Spelling
+rows k d b = if nat_eq k 8 then Some d else (if nat_eq k 9 then Some b else None)
 
--- as an arm of the code has it, where the edit o is known to be o'
-pub spells_by : {o o' : Op} {kind p k r : ℕ} {s : Spelling} → o ≡ o' → legal (edit_of o) ≡ true → k ≡ known_kind kind → r ≡ row_of (edit_of o') k p
-    → s ≡ record { row = r; w = p; a = first_of (edit_of o'); b = second_of (edit_of o') } → Spells (edit_of o) kind p s
-spells_by {o} {o'} {kind} {p} t l ek er es = rw (es, er, ek, ← t) (spells (edit_of o) kind p l)
+module _ (w t u : ℕ) where
+  abbrev Right : Edit → ℕ → Option Spelling → Type 0
+  Right e k s = spelled s k w t u ≡ block e (kind_of k) w (old t) (old u)
+
+  -- a row, or a copy
+  choose : {A : Type 0} (f : A → Block) (k : ℕ) (c : Bool) (s : Spelling) {X Z : A} → spelled (Some s) k w t u ≡ f X → spelled None k w t u ≡ f Z
+      → spelled (then_some c s) k w t u ≡ f (cond c X Z)
+  choose f k true s p q = p
+  choose f k false s p q = q
+
+  abbrev leaf : Block → Block
+  leaf B = B
+
+  abbrev dia : Change → Block
+  dia c = block_dia c w (old t)
+
+  abbrev box : Change → Block
+  box c = block_box c w (old t)
+
+  -- the same by ways, where an edit's change C is X on way m and Y on its reverse
+  choose_way : (f : Change → Block) (k : ℕ) (W : Way) (m : ℕ) (X Y : Change) {C : Change} → on_way W m X Y keep ≡ C → (x y : Option Spelling)
+      → spelled x k w t u ≡ f X → spelled y k w t u ≡ f Y → spelled None k w t u ≡ f keep → spelled (on_way W m x y None) k w t u ≡ f C
+  unfolding on_way
+  choose_way f k (along l) m X Y e x y p q r = either (look (same l m)) (λ c. rw (c, p) (ap f (rw c at e))) (λ c. rw (c, r) (ap f (rw c at e)))
+  choose_way f k (against l) m X Y e x y p q r = either (look (same l m)) (λ c. rw (c, q) (ap f (rw c at e))) (λ c. rw (c, r) (ap f (rw c at e)))
+  choose_way f k every m X Y e x y p q r = r ∙ ap f e
+
+  -- and of kinds without a way
+  unchanged : (k m : ℕ) {X : Block} → spelled None k w t u ≡ X → spelled (on_way (way_of w) m None None None) k w t u ≡ X
+  unchanged k m e = rw (on_way_same {A = Option Spelling} (way_of w) m None) e
+
+  right_cn1 : (n1 n2 k : ℕ) → Right (CN1 n1 n2) k (leaf_row k 3 w n1 (by_row Cn1Name n2 0))
+  unfolding spelled row_spelled copied row_block block block_leaf block_dia block_box change kind_of same
+  right_cn1 n1 n2 =
+      each_kind _ refl refl refl (choose leaf 3 (same w n1) _ refl refl) refl refl refl refl refl refl refl refl
+      (λ k h. rw (past 3 k (omega arith) h, kind_past k h) refl)
+
+  right_cn2 : (n1 n2 f k : ℕ) → (f + links) % 256 ≡ f + links → Right (CN2 n1 n2 f) k (leaf_row k 3 w n1 (by_row Cn2Name n2 f))
+  unfolding spelled row_spelled copied row_block block block_leaf block_dia block_box change kind_of same
+  right_cn2 n1 n2 f k e =
+      each_kind (λ k. Right (CN2 n1 n2 f) k (leaf_row k 3 w n1 (by_row Cn2Name n2 f))) refl refl refl (choose leaf 3 (same w n1) _ (rw e refl) refl) refl refl refl refl refl refl refl refl
+      (λ k h. rw (past 3 k (omega arith) h, kind_past k h) refl) k
+
+  right_ap : (n p k : ℕ) → Right (AP n p) k (leaf_row k 2 w p (by_row ApLabel n 0))
+  unfolding spelled row_spelled copied row_block block block_leaf block_dia block_box change kind_of same
+  right_ap n p =
+      each_kind _ refl refl (choose leaf 2 (same w p) _ refl refl) refl refl refl refl refl refl refl refl refl
+      (λ k h. rw (past 2 k (omega arith) h, kind_past k h) refl)
+
+  right_dp : (n p k : ℕ) → Right (DP n p) k (leaf_row k 2 w p (by_row DpLabel n 0))
+  unfolding spelled row_spelled copied row_block block block_leaf block_dia block_box change kind_of same
+  right_dp n p =
+      each_kind _ refl refl (choose leaf 2 (same w p) _ refl refl) refl refl refl refl refl refl refl refl refl
+      (λ k h. rw (past 2 k (omega arith) h, kind_past k h) refl)
+
+  -- names but 0, for DS
+  right_name : (n : ℕ) → Right (DS n) 3 (then_some (not (nat_eq w 0)) (by_row DsName n 0))
+  unfolding spelled row_spelled copied row_block block block_leaf kind_of same
+  right_name n = either (look (nat_eq w 0)) (λ e. rw e refl) (λ e. rw e refl)
+
+  -- links and their reverses, for DS
+  right_dia : (n : ℕ) → Right (DS n) 8 (then_some (nat_lt w 16) (by_row DsDiamond n 0))
+  unfolding spelled row_spelled copied row_block block block_dia kind_of below
+  right_dia n = choose dia 8 (below w every_way) _ {X = cut_off n} {Z = keep} refl refl ∙ ap dia (change_ds n w)
+
+  right_box : (n : ℕ) → Right (DS n) 9 (then_some (nat_lt w 16) (by_row DsBox n 0))
+  unfolding spelled row_spelled copied row_block block block_box kind_of below
+  right_box n = choose box 9 (below w every_way) _ {X = cut_off n} {Z = keep} refl refl ∙ ap box (change_ds n w)
+
+  right_at : (m a b k : ℕ) → Right (AT m a b) k (on_way (way_of w) m (rows k (by_row AtDiamond a b) (by_row AtBox a b)) (rows k (by_row AtDiamond b a) (by_row AtBox b a)) None)
+  unfolding spelled row_spelled copied row_block block block_leaf block_dia block_box kind_of
+  right_at m a b =
+      each_kind _ (unchanged 0 m refl) (unchanged 1 m refl) (unchanged 2 m refl) (unchanged 3 m refl) (unchanged 4 m refl) (unchanged 5 m refl) (unchanged 6 m refl) (unchanged 7 m refl)
+      (choose_way dia 8 (way_of w) m (added a b) (added b a) (change-at m a b (way_of w)) _ _ refl refl refl)
+      (choose_way box 9 (way_of w) m (added a b) (added b a) (change-at m a b (way_of w)) _ _ refl refl refl)
+      (unchanged 10 m refl) (unchanged 11 m refl)
+      (λ k h. rw (past 8 k (omega arith) h, past 9 k (omega arith) h) (unchanged k m (rw (kind_past k h) refl)))
+
+  right_dt1 : (m a b k : ℕ) → Right (DT1 m a b) k (on_way (way_of w) m (rows k (by_row Dt1Diamond a b) (by_row Dt1Box a b)) (rows k (by_row Dt1Diamond b a) (by_row Dt1Box b a)) None)
+  unfolding spelled row_spelled copied row_block block block_leaf block_dia block_box kind_of
+  right_dt1 m a b =
+      each_kind _ (unchanged 0 m refl) (unchanged 1 m refl) (unchanged 2 m refl) (unchanged 3 m refl) (unchanged 4 m refl) (unchanged 5 m refl) (unchanged 6 m refl) (unchanged 7 m refl)
+      (choose_way dia 8 (way_of w) m (cut a b) (cut b a) (change_dt1 m a b (way_of w)) _ _ refl refl refl)
+      (choose_way box 9 (way_of w) m (cut a b) (cut b a) (change_dt1 m a b (way_of w)) _ _ refl refl refl)
+      (unchanged 10 m refl) (unchanged 11 m refl)
+      (λ k h. rw (past 8 k (omega arith) h, past 9 k (omega arith) h) (unchanged k m (rw (kind_past k h) refl)))
+
+  right_dt2 : (f n k : ℕ) → Right (DT2 f n) k (on_way (way_of w) f (rows k (by_row Dt2Diamond n 0) (by_row Dt2Box n 0)) (rows k (by_row Dt2DiamondBack n 0) (by_row Dt2BoxBack n 0)) None)
+  unfolding spelled row_spelled copied row_block block block_leaf block_dia block_box kind_of
+  right_dt2 f n =
+      each_kind _ (unchanged 0 f refl) (unchanged 1 f refl) (unchanged 2 f refl) (unchanged 3 f refl) (unchanged 4 f refl) (unchanged 5 f refl) (unchanged 6 f refl) (unchanged 7 f refl)
+      (choose_way dia 8 (way_of w) f (cut_from n) (cut_to n) (change_dt2 f n (way_of w)) _ _ refl refl refl)
+      (choose_way box 9 (way_of w) f (cut_from n) (cut_to n) (change_dt2 f n (way_of w)) _ _ refl refl refl)
+      (unchanged 10 f refl) (unchanged 11 f refl)
+      (λ k h. rw (past 8 k (omega arith) h, past 9 k (omega arith) h) (unchanged k f (rw (kind_past k h) refl)))
+
+  right_rt : (f a b k : ℕ) → Right (RT f a b) k (on_way (way_of w) f (rows k (by_row RtDiamond a b) (by_row RtBox a b)) (rows k (by_row RtDiamondBack a b) (by_row RtBoxBack a b)) None)
+  unfolding spelled row_spelled copied row_block block block_leaf block_dia block_box kind_of
+  right_rt f a b =
+      each_kind _ (unchanged 0 f refl) (unchanged 1 f refl) (unchanged 2 f refl) (unchanged 3 f refl) (unchanged 4 f refl) (unchanged 5 f refl) (unchanged 6 f refl) (unchanged 7 f refl)
+      (choose_way dia 8 (way_of w) f (only_from a b) (only_to b a) (change_rt f a b (way_of w)) _ _ refl refl refl)
+      (choose_way box 9 (way_of w) f (only_from a b) (only_to b a) (change_rt f a b (way_of w)) _ _ refl refl refl)
+      (unchanged 10 f refl) (unchanged 11 f refl)
+      (λ k h. rw (past 8 k (omega arith) h, past 9 k (omega arith) h) (unchanged k f (rw (kind_past k h) refl)))
+
+  -- for AS
+  right_as : (n s k : ℕ) → k ≢ 1 → Right (AS n s) k (leaf_row k 3 w n (by_row AsName s 0))
+  unfolding spelled row_spelled copied row_block block block_leaf block_dia block_box change kind_of same
+  right_as n s =
+      each_kind _ (λ _. refl) (λ q. absurd (q refl)) (λ _. refl) (λ _. choose leaf 3 (same w n) _ refl refl) (λ _. refl) (λ _. refl)
+      (λ _. refl) (λ _. refl) (λ _. refl) (λ _. refl) (λ _. refl) (λ _. refl) (λ k h _. rw (past 3 k (omega arith) h, kind_past k h) refl)
+
+  -- all but here, labels, names, diamonds and boxes, for DS
+  right_ds : (n k : ℕ) → k ≢ 1 → k ≢ 2 → k ≢ 3 → k ≢ 8 → k ≢ 9 → Right (DS n) k None
+  unfolding spelled copied block block_leaf kind_of
+  right_ds n =
+      each_kind _ (λ _ _ _ _ _. refl) (λ q _ _ _ _. absurd (q refl)) (λ _ q _ _ _. absurd (q refl)) (λ _ _ q _ _. absurd (q refl))
+      (λ _ _ _ _ _. refl) (λ _ _ _ _ _. refl) (λ _ _ _ _ _. refl) (λ _ _ _ _ _. refl) (λ _ _ _ q _. absurd (q refl)) (λ _ _ _ _ q. absurd (q refl))
+      (λ _ _ _ _ _. refl) (λ _ _ _ _ _. refl) (λ k h _ _ _ _ _. rw (kind_past k h) refl)
+
+-- ---- as the code has it
+
+-- an edit o has the spelling s
+pub spells_as : {o o' : Op} {k w : ℕ} {s s' : Option Spelling} → o ≡ o' → s ≡ s' → Spells (edit_of o') k w s' → Spells (edit_of o) k w s
+spells_as e es S = rw (e, es) S
+
+pub rows_as : (k : ℕ) {d b d' b' : Spelling} {s : Option Spelling} → d ≡ d' → b ≡ b' → s ≡ rows k d b → s ≡ rows k d' b'
+rows_as k e f g = rw (g, e, f) refl
+
+pub way_as : (W : Way) (m : ℕ) {x y x' y' s : Option Spelling} → x ≡ x' → y ≡ y' → s ≡ on_way W m x y None → s ≡ on_way W m x' y' None
+way_as W m e f g = rw (g, e, f) refl
+
+pub spells_cn1 : (n1 n2 k w : ℕ) → Spells (CN1 n1 n2) k w (leaf_row k 3 w n1 (by_row Cn1Name n2 0))
+spells_cn1 n1 n2 k w = record { right = λ t u. right_cn1 w t u n1 n2 k }
+
+pub spells_cn2 : (n1 n2 f k w : ℕ) → legal (CN2 n1 n2 f) ≡ true → Spells (CN2 n1 n2 f) k w (leaf_row k 3 w n1 (by_row Cn2Name n2 f))
+unfolding Legal
+spells_cn2 n1 n2 f k w l =
+    let small = functional_small f (legal_out (CN2 n1 n2 f) l).2 in record { right = λ t u. right_cn2 w t u n1 n2 f k (omega arith) }
+
+pub spells_ap : (n p k w : ℕ) → Spells (AP n p) k w (leaf_row k 2 w p (by_row ApLabel n 0))
+spells_ap n p k w = record { right = λ t u. right_ap w t u n p k }
+
+pub spells_dp : (n p k w : ℕ) → Spells (DP n p) k w (leaf_row k 2 w p (by_row DpLabel n 0))
+spells_dp n p k w = record { right = λ t u. right_dp w t u n p k }
+
+pub spells_at : (m a b k w : ℕ) → Spells (AT m a b) k w (on_way (way_of w) m (rows k (by_row AtDiamond a b) (by_row AtBox a b)) (rows k (by_row AtDiamond b a) (by_row AtBox b a)) None)
+spells_at m a b k w = record { right = λ t u. right_at w t u m a b k }
+
+pub spells_dt1 : (m a b k w : ℕ) → Spells (DT1 m a b) k w (on_way (way_of w) m (rows k (by_row Dt1Diamond a b) (by_row Dt1Box a b)) (rows k (by_row Dt1Diamond b a) (by_row Dt1Box b a)) None)
+spells_dt1 m a b k w = record { right = λ t u. right_dt1 w t u m a b k }
+
+pub spells_dt2 : (f n k w : ℕ) → Spells (DT2 f n) k w (on_way (way_of w) f (rows k (by_row Dt2Diamond n 0) (by_row Dt2Box n 0)) (rows k (by_row Dt2DiamondBack n 0) (by_row Dt2BoxBack n 0)) None)
+spells_dt2 f n k w = record { right = λ t u. right_dt2 w t u f n k }
+
+pub spells_rt : (f a b k w : ℕ) → Spells (RT f a b) k w (on_way (way_of w) f (rows k (by_row RtDiamond a b) (by_row RtBox a b)) (rows k (by_row RtDiamondBack a b) (by_row RtBoxBack a b)) None)
+spells_rt f a b k w = record { right = λ t u. right_rt w t u f a b k }
+
+-- the link of an edit
+pub at_link : (m a b : ℕ) → legal (AT m a b) ≡ true → m < links
+unfolding legal
+at_link m a b l = below_out m links (and_l _ _ l)
+
+pub dt1_link : (m a b : ℕ) → legal (DT1 m a b) ≡ true → m < links
+unfolding legal
+dt1_link m a b l = below_out m links (and_l _ _ l)
+
+pub dt2_link : (f n : ℕ) → legal (DT2 f n) ≡ true → f < links
+unfolding legal
+dt2_link f n l = functional_small f (and_l _ _ l)
+
+pub rt_link : (f a b : ℕ) → legal (RT f a b) ≡ true → f < links
+unfolding legal
+rt_link f a b l = functional_small f (and_l _ _ l)
+
+pub as_here : (n s k w : ℕ) (x : Spelling) → k ≡ 1 → x ≡ record { row = AsHere; first = s; second = 0 } → Spells (AS n s) k w (Some x)
+unfolding spelled row_spelled row_block block block_leaf kind_of
+as_here n s k w x e ex = record { right = λ t u. rw (e, ex) refl }
+
+pub as_other : (n s k w : ℕ) (c : Bool) (x : Spelling) → k ≢ 1 → c ≡ (nat_eq k 3 && nat_eq w n) → x ≡ record { row = AsName; first = s; second = 0 } → Spells (AS n s) k w (then_some c x)
+as_other n s k w c x h ec ex = record { right = λ t u. rw (ec, ex) (right_as w t u n s k h) }
+
+pub ds_here : (n k w : ℕ) (x : Spelling) → k ≡ 1 → x ≡ record { row = DsHere; first = n; second = 0 } → Spells (DS n) k w (Some x)
+unfolding spelled row_spelled row_block block block_leaf kind_of
+ds_here n k w x e ex = record { right = λ t u. rw (e, ex) refl }
+
+pub ds_label : (n k w : ℕ) (x : Spelling) → k ≡ 2 → x ≡ record { row = DpLabel; first = n; second = 0 } → Spells (DS n) k w (Some x)
+unfolding spelled row_spelled row_block block block_leaf kind_of
+ds_label n k w x e ex = record { right = λ t u. rw (e, ex) refl }
+
+pub ds_name : (n k w : ℕ) (x : Spelling) → k ≡ 3 → x ≡ record { row = DsName; first = n; second = 0 } → Spells (DS n) k w (then_some (not (nat_eq w 0)) x)
+ds_name n k w x e ex = record { right = λ t u. rw (e, ex) (right_name w t u n) }
+
+pub ds_diamond : (n k w : ℕ) (x : Spelling) → k ≡ 8 → x ≡ record { row = DsDiamond; first = n; second = 0 } → Spells (DS n) k w (then_some (nat_lt w 16) x)
+ds_diamond n k w x e ex = record { right = λ t u. rw (e, ex) (right_dia w t u n) }
+
+pub ds_box : (n k w : ℕ) (x : Spelling) → k ≡ 9 → x ≡ record { row = DsBox; first = n; second = 0 } → Spells (DS n) k w (then_some (nat_lt w 16) x)
+ds_box n k w x e ex = record { right = λ t u. rw (e, ex) (right_box w t u n) }
+
+pub ds_other : (n k w : ℕ) → k ≢ 1 → k ≢ 2 → k ≢ 3 → k ≢ 8 → k ≢ 9 → Spells (DS n) k w None
+ds_other n k w a b c d e = record { right = λ t u. right_ds w t u n k a b c d e }
