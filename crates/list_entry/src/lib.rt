@@ -23,10 +23,10 @@ fn try_list(
     check_length(set, SET_BYTES)?; // item 1
     check_length(work, WORK_BYTES)?;
     check_limit(limit)?; // 16
-    site::check(site)?; // 3 to 6
+    let site = site::read(site)?; // 3 to 6
     let mut free = even_rule::no_masks();
     even_rule::check(cond, &mut free)?; // 7 to 10
-    let found = listing::list(site, cond, &free, limit, set, work);
+    let found = listing::list(&site, cond, &free, limit, set, work);
     check_rounds(limit, found.rounds)?; // 15
     Ok(found)
 }

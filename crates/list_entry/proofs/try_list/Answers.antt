@@ -24,31 +24,28 @@ returns-in_err-check_limit c =
     rw (passed_on c.from_residual-in_err-check_limit.ensures.1)
     (tried_refused (rw (← c.in_ok-check_length.ensures, ← c.in_ok-check_length-2.ensures, ← c.in_err-check_limit.ensures)))
 
+pub returns-in_err-site : goal.returns-in_err-site
+unfolding list_inputs
+returns-in_err-site c =
+    rw (passed_on c.from_residual-in_err-site.ensures.1)
+    (tried_refused
+    (rw (← c.in_ok-check_length.ensures, ← c.in_ok-check_length-2.ensures, ← c.in_ok-check_limit.ensures, ← c.in_err-site.ensures.verdict)))
+
 pub returns-in_err-check : goal.returns-in_err-check
 unfolding list_inputs
 returns-in_err-check c =
     rw (passed_on c.from_residual-in_err-check.ensures.1)
     (tried_refused
-    (rw (← c.in_ok-check_length.ensures, ← c.in_ok-check_length-2.ensures, ← c.in_ok-check_limit.ensures, ← c.in_err-check.ensures)))
-
-pub returns-in_err-check-2 : goal.returns-in_err-check-2
-unfolding list_inputs
-returns-in_err-check-2 c =
-    rw (passed_on c.from_residual-in_err-check-2.ensures.1)
-    (tried_refused
     (rw (
       ← c.in_ok-check_length.ensures,
       ← c.in_ok-check_length-2.ensures,
       ← c.in_ok-check_limit.ensures,
-      ← c.in_ok-check.ensures,
-      ← c.in_err-check-2.ensures.verdict,
+      ← c.in_ok-site.ensures.verdict,
+      ← c.in_err-check.ensures.verdict,
     )))
 
-pub list-found-requires-clause-site_len : goal.list-found-requires-clause-site_len
-list-found-requires-clause-site_len c = (accepted_out _ (sym c.in_ok-check.ensures)).0
-
 pub list-found-requires-clause-free_len : goal.list-found-requires-clause-free_len
-list-found-requires-clause-free_len c = (omega arith, checked_rows c.check-2.ensures c.in_ok-check-2.was)
+list-found-requires-clause-free_len c = (omega arith, checked_rows c.check.ensures c.in_ok-check.was)
 
 pub list-found-requires-clause-limit_le_highest_limit : goal.list-found-requires-clause-limit_le_highest_limit
 list-found-requires-clause-limit_le_highest_limit c = limit_out _ (sym c.in_ok-check_limit.ensures)
@@ -65,8 +62,8 @@ returns-in_err-check_rounds c =
       ← c.in_ok-check_length.ensures,
       ← c.in_ok-check_length-2.ensures,
       ← c.in_ok-check_limit.ensures,
-      ← c.in_ok-check.ensures,
-      ← c.in_ok-check-2.ensures.verdict,
+      ← c.in_ok-site.ensures.verdict,
+      ← c.in_ok-check.ensures.verdict,
     ))
     c.list-found.ensures.limited c.list-found.ensures.work_after c.in_err-check_rounds.ensures)
 
@@ -78,7 +75,7 @@ returns c =
       ← c.in_ok-check_length.ensures,
       ← c.in_ok-check_length-2.ensures,
       ← c.in_ok-check_limit.ensures,
-      ← c.in_ok-check.ensures,
-      ← c.in_ok-check-2.ensures.verdict,
+      ← c.in_ok-site.ensures.verdict,
+      ← c.in_ok-check.ensures.verdict,
     ))
     c.list-found.ensures.limited c.list-found.ensures.work_after c.in_ok-check_rounds.ensures
