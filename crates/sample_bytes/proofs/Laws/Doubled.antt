@@ -4,8 +4,7 @@ use Rattle.std.proofs.Common.{◌∙◌, arith, pow_pos, ap, pow_mono}
 use Rattle.std.proofs.lemmas.List.{length-replicate}
 use Rattle.finite.specs.Tests.{same, below, all}
 use Rattle.finite.proofs.Laws.Below.{below_in, below-not}
-use Rattle.verdict.specs.Verdict.{reason_of}
-use Rattle.verdict.specs.declared.Verdict.TheVariants.{Accepted}
+use Rattle.verdict.specs.Verdict.{Accepted, reason_of}
 use Rattle.semantics.specs.Form.{occ, free, closed, even}
 use Rattle.semantics.specs.Table.{kind_of, way_of, atom, one, two, build, tree, trees, tree_at, form_of, leaf_fits, unary_fits, kind_fits, node_fits, nodes_fit, even_table}
 use Rattle.semantics.specs.Edit.{Edit, DT1, legal, sheet_legal}

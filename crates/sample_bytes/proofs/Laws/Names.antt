@@ -1,5 +1,5 @@
 -- Names 0 to 47: what holds of every name below the limit, with the limit's number written out.
-use Rattle.std.specs.Prelude.{◌≡◌, ◌≢◌, true, false, not, List, [], ◌∷◌, ℕ, ◌≤◌, ◌<◌, length, get_or, refl}
+use Rattle.std.specs.Prelude.{◌≡◌, ◌≢◌, true, false, not, List, [], ◌∷◌, ℕ, ◌≤◌, ◌<◌, length, get_or, refl, Err}
 use Rattle.std.proofs.Common.{◌∙◌, ap, arith}
 use Rattle.finite.specs.Tests.{same, below, all}
 use Rattle.finite.proofs.Laws.Bools.{both, clash, no_true}
@@ -7,7 +7,8 @@ use Rattle.finite.proofs.Laws.Below.{same_eq, eq_same, ne_same, below_in, below-
 use Rattle.finite.proofs.Laws.First.{first_is, none_start}
 use Rattle.bitset.specs.Set.{Is}
 use Rattle.limits.specs.Limits.{slots, names}
-use Rattle.verdict.specs.declared.Verdict.TheVariants.{Accepted, Refused}
+use Rattle.verdict.specs.Verdict.{Accepted}
+use Rattle.verdict.specs.declared.Refusal.TheVariants.{Names, MalformedNode}
 use Rattle.semantics.specs.Form.{closed, free, even, occ}
 use Rattle.semantics.specs.Holds.{Env, Model, Holds, Distinguishes}
 use Rattle.semantics.specs.Bisimulation.{Bisimilar}
@@ -54,7 +55,7 @@ name_accepted n h =
     let t = closed_name n h in
     table_accepted (table_name n) t.some (omega arith) t.fits t.even_rule t.is_closed
 
-name_refused : (n : ℕ) → names ≤ n → condition_verdict (name_bytes n) ≡ Refused 8 0
+name_refused : (n : ℕ) → names ≤ n → condition_verdict (name_bytes n) ≡ Err (MalformedNode 0)
 unfolding first_unfit table_name condition.node_at condition.bytes_of condition.node_bytes node_fits kind_fits leaf_fits kind_of same below
 name_refused n h =
     let S = name_bytes n in

@@ -6,7 +6,7 @@ use Rattle.finite.proofs.Laws.Bools.{both, no_true}
 use Rattle.finite.proofs.Laws.Below.{below_in}
 use Rattle.bitset.specs.Set.{has, Is}
 use Rattle.limits.specs.Limits.{slots, labels, names}
-use Rattle.verdict.specs.declared.Verdict.TheVariants.{Accepted}
+use Rattle.verdict.specs.Verdict.{Accepted}
 use Rattle.semantics.specs.Holds.{Holds}
 use Rattle.semantics.specs.Table.{kind_of, atom, build, tree, trees, tree_at, form_of}
 use Rattle.semantics.specs.Edit as edits

@@ -7,7 +7,7 @@ use Rattle.finite.proofs.Laws.Below.{same_eq, below_out, count_cong}
 use Rattle.bitset.specs.Set as bitset
 use Rattle.bitset.specs.Set.{Is}
 use Rattle.limits.specs.Limits.{slots, table_nodes}
-use Rattle.verdict.specs.declared.Verdict.TheVariants.{Accepted}
+use Rattle.verdict.specs.Verdict.{Accepted}
 use Rattle.semantics.specs.Holds.{Env, Model, Holds}
 use Rattle.semantics.specs.Table.{Node, kind_of, atom, build, tree, trees, tree_at, form_of}
 use Rattle.semantics.specs.Edit.{Valid}
