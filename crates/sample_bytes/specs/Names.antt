@@ -4,7 +4,7 @@ use Rattle.finite.specs.Tests.{same, below}
 use Rattle.bitset.specs.Set.{Is}
 use Rattle.limits.specs.Limits.{slots}
 use Rattle.verdict.specs.Verdict.{Accepted}
-use Rattle.verdict.specs.declared.Refusal.TheVariants.{Names, MalformedNode, MalformedEdit}
+use Rattle.verdict.specs.declared.Refusal.TheVariants.{MalformedNode, MalformedEdit}
 use Rattle.semantics.specs.Holds.{Env, Distinguishes}
 use Rattle.semantics.specs.Table.{form_of}
 use Rattle.semantics.specs.Edit.{Edit, CN1, CN2, AP, DP, AT, RT, DT1, DT2, AS, DS}

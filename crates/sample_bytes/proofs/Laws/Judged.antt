@@ -52,7 +52,7 @@ module _ (xs : List Node) (some : 0 < length xs) (few : length xs ≤ table_node
   table_odd w h e =
       let back = table_back_lem xs in
       let q : first_uneven (condition.bytes_of xs) ≡ w = rw back e in
-      item_9 (condition.bytes_of xs) size_ok fields_ok (rw (q, back) (below_in w (length xs) h)) ∙ ap (Refused 9) q
+      item_9 (condition.bytes_of xs) size_ok fields_ok (rw (q, back) (below_in w (length xs) h)) ∙ ap (λ (w : ℕ). Err (EvenRule w)) q
 
 -- ---- a sheet that is stuck
 
