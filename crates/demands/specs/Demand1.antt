@@ -3,7 +3,7 @@
 -- or lengths. That a call returns as `Returned..` says is the contract of its export. A buffer is named twice: as it was, and as it is at
 -- return (').
 use Rattle.std.specs.Prelude.{◌≡◌, ◌≢◌, List, ℕ, ◌≤◌, length, replicate}
-use Rattle.verdict.specs.declared.Verdict.TheVariants.{Accepted}
+use Rattle.verdict.specs.Verdict.{Accepted}
 use Rattle.refusals.specs.Refusal.{last_item}
 use Rattle.listing.specs.declared.Found.{Found}
 use Rattle.list_entry.specs.Listing.{ListAfter}

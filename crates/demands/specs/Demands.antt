@@ -3,7 +3,7 @@
 -- condition without slot numbers, of any length, rewritten through the sheet, tells them apart today.
 use Rattle.std.specs.Prelude.{◌≡◌, ◌↔◌, ◌≢◌, true, List, ℕ, ◌*◌, ◌≤◌, ◌<◌, length, get_or, take}
 use Rattle.bitset.specs.Set.{set_bytes}
-use Rattle.verdict.specs.declared.Verdict.TheVariants.{Accepted}
+use Rattle.verdict.specs.Verdict.{Accepted}
 use Rattle.limits.specs.Limits.{slots, table_nodes, table_bytes, highest_limit}
 use Rattle.semantics.specs.Holds.{Env, Distinguishes}
 use Rattle.semantics.specs.Table.{Node, form_of, ClosedTable}

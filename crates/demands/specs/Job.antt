@@ -1,7 +1,7 @@
 -- The demands on a whole job, over the bytes of its file: what demands 2 and 3 ask of the entry points one by one holds of what a job
 -- leaves; and a job is refused only where its file meets an item or a list makes more rounds than the limit.
 use Rattle.std.specs.Prelude.{◌≡◌, ◌↔◌, List, ℕ, ◌*◌, ◌≤◌, take}
-use Rattle.verdict.specs.declared.Verdict.TheVariants.{Accepted}
+use Rattle.verdict.specs.Verdict.{Accepted}
 use Rattle.limits.specs.Limits.{highest_limit}
 use Rattle.trailer.specs.Refusal.{edition_in, trailer_verdict}
 use Rattle.trailer.specs.Pieces.{site_in, condition_in, sheet_in}

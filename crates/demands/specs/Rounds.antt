@@ -4,7 +4,7 @@
 use Rattle.std.specs.Prelude.{◌≡◌, ◌⊎◌, ◌↔◌, ◌≢◌, List, ℕ, ◌≤◌, ◌<◌, length}
 use Rattle.bitset.specs.Set.{set_bytes}
 use Rattle.limits.specs.Limits.{highest_limit}
-use Rattle.verdict.specs.declared.Verdict.TheVariants.{Accepted}
+use Rattle.verdict.specs.Verdict.{Accepted}
 use Rattle.site.specs.Refusal.{site_verdict}
 use Rattle.condition.specs.Refusal.{condition_verdict}
 use Rattle.trailer.specs.Refusal.{edition_in}

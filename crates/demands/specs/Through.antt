@@ -3,7 +3,7 @@
 -- item 13.
 use Rattle.std.specs.Prelude.{◌≡◌, ◌⊎◌, ◌↔◌, List, ℕ, ◌*◌, ◌≤◌, length, take, replicate}
 use Rattle.bitset.specs.Set.{set_bytes}
-use Rattle.verdict.specs.declared.Verdict.TheVariants.{Accepted}
+use Rattle.verdict.specs.Verdict.{Accepted}
 use Rattle.limits.specs.Limits.{slots, table_nodes, table_bytes}
 use Rattle.through.specs.Through.{through}
 use Rattle.editions.specs.Edition.{edition_verdict}

@@ -1,9 +1,7 @@
 -- What each entry point returns and leaves in its buffers, for all inputs, in numbers. A buffer is named twice: as it was, and as it is at
 -- return (').
 use Rattle.std.specs.Prelude.{◌≡◌, List, ℕ, length}
-use Rattle.verdict.specs.Verdict.{reason_of, fault_of}
-use Rattle.verdict.specs.declared.Verdict.{Verdict}
-use Rattle.verdict.specs.declared.Verdict.TheVariants.{Accepted}
+use Rattle.verdict.specs.Verdict.{Verdict, Accepted, reason_of, where_of}
 use Rattle.listing.specs.declared.Found.{Found}
 use Rattle.list_entry.specs.Refusal.{list_inputs, list_verdict}
 use Rattle.list_entry.specs.Listing.{SiteMakes, ListAfter}
@@ -27,7 +25,7 @@ use Rattle.job_entry.specs.Refusal.{job_inputs, job_verdict}
 -- that verdict
 pub record Returned (due : Verdict) (After : Verdict → Type 0) (reason fault : ℕ) : Type 0 where
   pub reason_is : reason ≡ reason_of due
-  pub fault_is : fault ≡ fault_of due
+  pub fault_is : fault ≡ where_of due
   pub left : After due
 
 -- listing, with the count of the slots and the rounds. `made` is how many rounds listing makes; where an item before 15 is met, it does not

@@ -1,9 +1,10 @@
 -- Names 0 to 47, over bytes. The numbers are written out here as docs/SPEC.md has them; elsewhere they follow from the limits.
-use Rattle.std.specs.Prelude.{◌≡◌, true, false, List, [], ◌∷◌, ℕ, ◌+◌, ◌≤◌, ◌<◌, length, get_or}
+use Rattle.std.specs.Prelude.{◌≡◌, true, false, List, [], ◌∷◌, ℕ, ◌+◌, ◌≤◌, ◌<◌, length, get_or, Err}
 use Rattle.finite.specs.Tests.{same, below}
 use Rattle.bitset.specs.Set.{Is}
 use Rattle.limits.specs.Limits.{slots}
-use Rattle.verdict.specs.declared.Verdict.TheVariants.{Accepted, Refused}
+use Rattle.verdict.specs.Verdict.{Accepted}
+use Rattle.verdict.specs.declared.Refusal.TheVariants.{MalformedNode, MalformedEdit}
 use Rattle.semantics.specs.Holds.{Env, Distinguishes}
 use Rattle.semantics.specs.Table.{form_of}
 use Rattle.semantics.specs.Edit.{Edit, CN1, CN2, AP, DP, AT, RT, DT1, DT2, AS, DS}
@@ -53,9 +54,9 @@ pub record Names : Type 0 where
   pub old_site : (site : List ℕ) → length site ≡ 34352 → SiteRefused site 3
   -- a condition names 0 to 47, and an edit does; name 0 may not be moved, and is in no operand here
   pub node_accepted : (n : ℕ) → n < 48 → condition_verdict (name_bytes n) ≡ Accepted
-  pub node_refused : (n : ℕ) → 48 ≤ n → condition_verdict (name_bytes n) ≡ Refused 8 0
+  pub node_refused : (n : ℕ) → 48 ≤ n → condition_verdict (name_bytes n) ≡ Err (MalformedNode 0)
   pub edits_accepted : (n : ℕ) → 0 < n → n < 48 → sheet_verdict (sheet.bytes_of (every_operand n)) ≡ Accepted
-  pub edit_refused : (edition : ℕ) (e : Edit) → in_edition edition e ≡ true → each (λ n. below n 48) (names_of e) ≡ false → sheet_verdict (sheet.bytes_of (e ∷ [])) ≡ Refused 12 0
+  pub edit_refused : (edition : ℕ) (e : Edit) → in_edition edition e ≡ true → each (λ n. below n 48) (names_of e) ≡ false → sheet_verdict (sheet.bytes_of (e ∷ [])) ≡ Err (MalformedEdit 0)
   -- likeness: no other slot has the class number of the slot of a name
   pub alone : (site : List ℕ) → site_verdict site ≡ Accepted → (call : ClassCall site) (n s : ℕ) → n < 48 → s < slots
       → get_or call.classes' s 0 ≡ get_or call.classes' ((site_of site).place n) 0 → s ≡ (site_of site).place n

@@ -3,7 +3,7 @@ use Rattle.std.specs.Prelude.{◌≡◌, true, false, List, [], ◌∷◌, ℕ, 
 use Rattle.finite.specs.Bytes.{Bytes}
 use Rattle.bitset.specs.Set.{has, Is}
 use Rattle.limits.specs.Limits.{labels, names}
-use Rattle.verdict.specs.declared.Verdict.TheVariants.{Accepted}
+use Rattle.verdict.specs.Verdict.{Accepted}
 use Rattle.semantics.specs.Edit.{AP}
 use Rattle.samples.specs.Rows.{table_label}
 use Rattle.editions.specs.Edition.{edition_verdict}

@@ -3,7 +3,7 @@ use Rattle.std.specs.Prelude.{◌≡◌, List, ℕ, replicate}
 use Rattle.bitset.specs.Set.{set_bytes}
 use Rattle.site.specs.Layout.{site_bytes}
 use Rattle.limits.specs.Limits.{table_bytes}
-use Rattle.verdict.specs.declared.Verdict.TheVariants.{Accepted}
+use Rattle.verdict.specs.Verdict.{Accepted}
 use Rattle.editions.specs.Edition.{edition_verdict}
 use Rattle.trailer.specs.Refusal.{trailer_verdict}
 use Rattle.trailer.specs.Pieces.{site_in}

@@ -5,7 +5,7 @@ use Rattle.finite.specs.Bytes.{Bytes}
 use Rattle.bitset.specs.Set.{Is}
 use Rattle.samples.specs.Rows.{Slots, only, has, Expected, lists, stuck_at, odd_at, Row, table_name}
 use Rattle.samples.specs.Said.{before, after}
-use Rattle.verdict.specs.declared.Verdict.TheVariants.{Accepted}
+use Rattle.verdict.specs.Verdict.{Accepted}
 use Rattle.editions.specs.Edition.{second, edition_verdict}
 use Rattle.site.specs.Site.{site_of}
 use Rattle.condition.specs.Bytes as condition

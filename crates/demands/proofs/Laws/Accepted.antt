@@ -1,11 +1,9 @@
--- Each entry point's chain of items: inputs that meet no item are accepted, and the numbers of the items; the one number of rounds.
+-- Each entry point's chain of items: inputs that meet no item are accepted; the one number of rounds.
 use Rattle.std.specs.Prelude.{◌≡◌, refl, false, List, ◌++◌, ℕ, ◌*◌, ◌-◌, ◌≤◌, length, replicate}
 use Rattle.std.proofs.Common.{sym, ◌∙◌, ap, arith}
 use Rattle.finite.specs.Tests.{below}
 use Rattle.finite.proofs.Laws.Below.{below-not, not-below}
-use Rattle.verdict.specs.Verdict.{reason_of}
-use Rattle.verdict.specs.declared.Verdict.{Verdict}
-use Rattle.verdict.specs.declared.Verdict.TheVariants.{Accepted}
+use Rattle.verdict.specs.Verdict.{Verdict, Accepted, reason_of}
 use Rattle.bitset.specs.Set.{set_bytes}
 use Rattle.site.specs.Layout.{site_bytes}
 use Rattle.site.specs.Site.{site_of}
@@ -30,7 +28,7 @@ use Rattle.rewriting.specs.Refusal.{is_too_long, length_verdict}
 use Rattle.rewriting.specs.Rewriting.{rewritten, TableAfter}
 use Rattle.rewriting.proofs.Laws.Grow.{table_grows, too_long_end}
 use Rattle.refusals.specs.Refusal.{buffer_verdict, limit_verdict, rounds_verdict}
-use Rattle.refusals.proofs.Laws.Items.{buffer_in, limit_in, Numbered, numbered_then, numbered_buffer, numbered_limit, numbered_rounds, numbered_edition, numbered_site, numbered_condition, numbered_sheet, numbered_goes}
+use Rattle.refusals.proofs.Laws.Items.{buffer_in, limit_in}
 use Rattle.list_entry.specs.Refusal.{list_inputs, list_verdict}
 use Rattle.list_entry.proofs.Laws.Refusal.{Accepts}
 use Rattle.apply_entry.specs.Refusal.{apply_verdict}
@@ -42,7 +40,7 @@ use Rattle.classes_entry.proofs.Laws.Refusal as classes
 use Rattle.job_run.specs.Buffers.{Buffers}
 use Rattle.job_run.proofs.Laws.Refusal.{pieces_in}
 use Rattle.job_entry.specs.Refusal.{job_inputs, job_verdict}
-use Rattle.job_entry.proofs.Laws.Refusal.{sized_in, JobAccepted, inputs_numbered}
+use Rattle.job_entry.proofs.Laws.Refusal.{sized_in, JobAccepted}
 use Rattle.desk.specs.Returned.{Returned}
 
 -- ---- a rewritten table fits exactly if it was too long after no edit: it never gets shorter
@@ -100,37 +98,3 @@ classes_accepted classes_len site a = rw (buffer_in a.classes_size) a.site_accep
 pub job_accepted : (b : Buffers) (limit : ℕ) (file : List ℕ) → JobAccepted b limit file → job_inputs b limit file ≡ Accepted
 unfolding job_inputs
 job_accepted b limit file a = rw (sized_in b a.sized, limit_in a.limit_fits, a.trailer_accepted) (pieces_in _ _ _ _ a.pieces)
-
--- ---- the numbers of the items; of rewriting and the condition for going through `rewrite_numbered` and `through_numbered` say it
-
-list_inputs_numbered : (set_len work_len limit : ℕ) (site table : List ℕ) → Numbered (list_inputs set_len work_len limit site table)
-unfolding list_inputs
-list_inputs_numbered set_len work_len limit site table =
-    numbered_then (buffer_verdict set_len set_bytes) _ (numbered_buffer set_len set_bytes)
-    (numbered_then (buffer_verdict work_len work_bytes) _ (numbered_buffer work_len work_bytes)
-    (numbered_then (limit_verdict limit) _ (numbered_limit limit)
-    (numbered_then (site_verdict site) _ (numbered_site site) (numbered_condition table))))
-
-pub list_numbered : (set_len work_len limit : ℕ) (site table : List ℕ) (n : ℕ) → Numbered (list_verdict set_len work_len limit site table n)
-unfolding list_verdict
-list_numbered set_len work_len limit site table n =
-    numbered_then (list_inputs set_len work_len limit site table) (rounds_verdict limit n) (list_inputs_numbered set_len work_len limit site table) (numbered_rounds limit n)
-
-pub apply_numbered : (edition result_len : ℕ) (site sheet : List ℕ) → Numbered (apply_verdict edition result_len site sheet)
-unfolding apply_verdict
-apply_numbered edition result_len site sheet =
-    numbered_then (buffer_verdict result_len site_bytes) _ (numbered_buffer result_len site_bytes)
-    (numbered_then (edition_verdict edition) _ (numbered_edition edition)
-    (numbered_then (site_verdict site) _ (numbered_site site)
-    (numbered_then (sheet_verdict sheet) _ (numbered_sheet sheet) (numbered_goes (edits_of edition sheet) (site_of site)))))
-
-pub classes_numbered : (classes_len : ℕ) (site : List ℕ) → Numbered (classes_verdict classes_len site)
-unfolding classes_verdict
-classes_numbered classes_len site =
-    numbered_then (buffer_verdict classes_len classes_bytes) _ (numbered_buffer classes_len classes_bytes) (numbered_site site)
-
-pub job_numbered : (b : Buffers) (limit : ℕ) (file : List ℕ) (a t : ℕ) → Numbered (job_verdict b limit file a t)
-unfolding job_verdict
-job_numbered b limit file a t =
-    numbered_then (job_inputs b limit file) _ (inputs_numbered b limit file)
-    (numbered_then (rounds_verdict limit a) (rounds_verdict limit t) (numbered_rounds limit a) (numbered_rounds limit t))

@@ -23,11 +23,10 @@ use Rattle.sheet.proofs.Laws.Accepted.{accepted_sheet}
 use Rattle.applying.specs.Refusal.{goes_verdict}
 use Rattle.applying.proofs.Laws.Goes as applying
 use Rattle.refusals.specs.Refusal.{buffer_verdict}
-use Rattle.refusals.proofs.Laws.Items.{then_out}
+use Rattle.refusals.proofs.Laws.Items.{then_out, numbered}
 use Rattle.apply_entry.specs.Refusal.{apply_verdict}
 use Rattle.demands.specs.Demands.{ApplyCall, Going}
 use Rattle.demands.specs.Editions.{DemandBothEditions}
-use Rattle.demands.proofs.Laws.Accepted.{apply_numbered}
 use Rattle.demands.proofs.Laws.Demands.{apply_reason, site_left}
 
 -- ---- one edit
@@ -88,7 +87,7 @@ module _ {site sheet : List ℕ} (c : ApplyCall 1 site sheet) (d : ApplyCall 2 s
   going_first : Going 1 site sheet
   unfolding apply_verdict
   going_first =
-      let a = (apply_numbered 1 (length c.result) site sheet).accepts (sym c.returned.reason_is ∙ e) in
+      let a = (numbered _).accepts (sym c.returned.reason_is ∙ e) in
       let p = then_out (buffer_verdict _ _) _ a in
       let q = then_out (edition_verdict 1) _ p.1 in
       let r = then_out (site_verdict site) _ q.1 in

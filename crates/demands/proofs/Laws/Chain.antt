@@ -1,14 +1,13 @@
 -- The demand on the chain is met.
-use Rattle.std.specs.Prelude.{◌≡◌, ◌⊎◌, ◌↔◌, ◌≢◌, true, List, ℕ, ◌≤◌, ◌<◌, length, false, get_or}
+use Rattle.std.specs.Prelude.{◌≡◌, ◌⊎◌, ◌↔◌, ◌≢◌, true, List, ℕ, ◌≤◌, ◌<◌, length, false, get_or, Err, Ok}
 use Rattle.std.proofs.Common.{◌∙◌, ap, arith, sym, inl, inr}
 use Rattle.finite.proofs.Laws.Bools.{either, look, and_in}
 use Rattle.finite.proofs.Laws.Below.{below_in}
 use Rattle.bitset.specs.Set.{set_bytes, has}
 use Rattle.bitset.proofs.Laws.Bytes.{same-slots}
 use Rattle.limits.specs.Limits.{slots, table_nodes}
-use Rattle.verdict.specs.Verdict.{reason_of, fault_of, ◌then◌}
-use Rattle.verdict.specs.declared.Verdict.{Verdict}
-use Rattle.verdict.specs.declared.Verdict.TheVariants.{Accepted, Refused}
+use Rattle.verdict.specs.Verdict.{Verdict, Accepted, reason_of, where_of, ◌then◌}
+use Rattle.verdict.specs.declared.Refusal.TheVariants.{Start}
 use Rattle.semantics.specs.Holds.{Env, Holds}
 use Rattle.semantics.specs.Table.{way_of, form_of}
 use Rattle.site.specs.Site.{site_of}
@@ -17,7 +16,7 @@ use Rattle.condition.specs.Refusal.{condition_verdict}
 use Rattle.condition.proofs.Laws.Bytes.{length_table, table_back_lem}
 use Rattle.condition.proofs.Laws.Verdict.{Sound, accepted_sound, bytes_accepted}
 use Rattle.refusals.specs.Refusal.{start_is_fit, start_verdict}
-use Rattle.refusals.proofs.Laws.Items.{buffer_in, start_in_lem, start_not, start_out, then_out}
+use Rattle.refusals.proofs.Laws.Items.{buffer_in, start_in_lem, start_not, start_out, then_out, numbered}
 use Rattle.list_entry.specs.Refusal.{pair_verdict}
 use Rattle.chains.specs.Chain.{SomeChain}
 use Rattle.chains.specs.Given.{leads_table}
@@ -27,7 +26,6 @@ use Rattle.chains.proofs.Laws.Shortest.{shortest_short, shortest_apart}
 use Rattle.chains.proofs.Laws.Reached.{Closed, reached_one, reached_closure, no_chain}
 use Rattle.chain_entry.specs.Refusal.{chain_verdict}
 use Rattle.chain_entry.specs.Chaining.{Goal, GivesChain, GivesSet, Gives}
-use Rattle.chain_entry.proofs.Laws.Refusal.{numbered_chain}
 use Rattle.demands.specs.Demands.{ListCall}
 use Rattle.demands.specs.Rounds.{Listable}
 use Rattle.demands.specs.Chain.{ChainCall, Startable, ChainRefused, leads_bytes, Apart, ChainExact, SameChain, DemandChain}
@@ -47,7 +45,7 @@ startable_out site way start e =
     let k = start_out (site_of site) way start e in
     record { way_fits = k.way_fits; start_fits = k.start_fits; start_present = k.start_present }
 
-startable_not : (site : List ℕ) (way start : ℕ) → ¬ Startable site way start → start_verdict (site_of site) way start ≡ Refused 17 0
+startable_not : (site : List ℕ) (way start : ℕ) → ¬ Startable site way start → start_verdict (site_of site) way start ≡ Err Start
 startable_not site way start n =
     either (look (start_is_fit (site_of site) way start))
     (λ e. absurd (n (startable_out site way start (start_in_lem (site_of site) way start e))))
@@ -68,7 +66,7 @@ module _ {site table : List ℕ} {way start : ℕ} (c : ChainCall site table way
   listable_out e = let p = then_out _ (condition_verdict table) e in record { site_accepted = p.0; table_accepted = p.1 }
 
   accepted_out : c.reason ≡ 0 → due ≡ Accepted
-  accepted_out e = (numbered_chain (length c.chain) (length c.set) (length c.work) site table way start).accepts (sym c.returned.reason_is ∙ e)
+  accepted_out e = (numbered _).accepts (sym c.returned.reason_is ∙ e)
 
   inputs_out : c.reason ≡ 0 → Listable site table × Startable site way start
   inputs_out e =
@@ -199,11 +197,11 @@ module _ {site table : List ℕ} {way start : ℕ} (c d : ChainCall site table w
       → Gives v site table way start d.chain d.chain' d.set d.set' d.found d.steps
       → (c.found ≡ d.found) × (c.steps ≡ d.steps) × (c.chain' ≡ d.chain') × (c.set' ≡ d.set')
   unfolding Gives
-  same_left Accepted p q =
+  same_left (Ok _) p q =
       either p
       (λ g. either q (same_given g) (λ h. absurd (both_answers g h)))
       (λ g. either q (λ h. absurd (both_answers h g)) (same_reached g))
-  same_left (Refused item w) p q = (
+  same_left (Err r) p q = (
     p.2 ∙ sym q.2,
     p.3 ∙ sym q.3,
     same_zeros p.0 q.0 (c.chain_size ∙ sym d.chain_size),
@@ -215,7 +213,7 @@ module _ {site table : List ℕ} {way start : ℕ} (c d : ChainCall site table w
       let l = same_left (due c) c.returned.left.gives (rw same-due d.returned.left.gives) in
       record {
         same_reason = c.returned.reason_is ∙ ap reason_of same-due ∙ sym d.returned.reason_is;
-        same_fault = c.returned.fault_is ∙ ap fault_of same-due ∙ sym d.returned.fault_is;
+        same_fault = c.returned.fault_is ∙ ap where_of same-due ∙ sym d.returned.fault_is;
         same_found = l.0;
         same_steps = l.1;
         same_chain = l.2;

@@ -2,8 +2,7 @@
 use Rattle.std.specs.Prelude.{◌≡◌, ◌≢◌, true, false, List, ◌++◌, ℕ, ◌*◌, ◌-◌, ◌<◌, length, get_or, replicate}
 use Rattle.std.proofs.Common.{◌∙◌, ap, arith}
 use Rattle.std.proofs.Math.Logic.Iff
-use Rattle.verdict.specs.Verdict.{reason_of}
-use Rattle.verdict.specs.declared.Verdict.TheVariants.{Accepted}
+use Rattle.verdict.specs.Verdict.{Accepted, reason_of}
 use Rattle.limits.specs.Limits.{slots, table_bytes}
 use Rattle.semantics.specs.Table.{form_of}
 use Rattle.semantics.specs.Edit as edits

@@ -1,11 +1,10 @@
 -- Item 18: the edition is tested before the other checks, and none of these refuses with 18.
-use Rattle.std.specs.Prelude.{◌≡◌, ◌≢◌, List, ℕ, ◌≤◌}
+use Rattle.std.specs.Prelude.{◌≡◌, ◌≢◌, List, ℕ, ◌≤◌, Err}
 use Rattle.std.proofs.Common.{sym, ◌∙◌, ap, inl, inr, arith}
 use Rattle.finite.proofs.Laws.Bools.{either, look}
-use Rattle.verdict.specs.Verdict.{reason_of, fault_of, ◌then◌}
+use Rattle.verdict.specs.Verdict.{Verdict, reason_of, where_of, ◌then◌}
+use Rattle.verdict.specs.declared.Refusal.TheVariants.{File}
 use Rattle.verdict.proofs.Laws.{then_assoc, refused}
-use Rattle.verdict.specs.declared.Verdict.{Verdict}
-use Rattle.verdict.specs.declared.Verdict.TheVariants.{Refused}
 use Rattle.limits.specs.Limits.{highest_limit}
 use Rattle.semantics.specs.Block.{rewrite_table}
 use Rattle.through.specs.Through.{through_edit, one_true}
@@ -35,7 +34,7 @@ use Rattle.demands.proofs.Laws.Early.{Never, never_then, rounds_item, site_items
 
 -- the edition is tested before the checks v, which never refuse with 18
 edition_tested : (edition : ℕ) {v : Verdict} → Never 18 v → {reason fault : ℕ} → reason ≡ reason_of (edition_verdict edition then v)
-    → fault ≡ fault_of (edition_verdict edition then v) → EditionTested edition reason fault
+    → fault ≡ where_of (edition_verdict edition then v) → EditionTested edition reason fault
 edition_tested edition {v} u {reason} {fault} e f =
     either
     (look (known edition))
@@ -105,11 +104,11 @@ edition_job limit file b b' reason fault after today nodes classes s h r =
     let t = r.today_made in
     let d = job_trailer_first b limit file a t s h in (
       λ p.
-          let e : trailer_verdict file then rest limit file a t ≡ Refused 2 0 = rw (trailer_refused file p) in
+          let e : trailer_verdict file then rest limit file a t ≡ Err File = rw (trailer_refused file p) in
           r.returned.reason_is ∙ ap reason_of (d ∙ e),
       λ p.
           let e = d ∙ ap (λ (v : Verdict). v then rest limit file a t) (trailer_edition file p ∙ ap edition_verdict (edition_fourth file p)) in
-          edition_tested (number 3 file) (rest_never limit file a t) (r.returned.reason_is ∙ ap reason_of e) (r.returned.fault_is ∙ ap fault_of e),
+          edition_tested (number 3 file) (rest_never limit file a t) (r.returned.reason_is ∙ ap reason_of e) (r.returned.fault_is ∙ ap where_of e),
     )
 
 pub demand_editions : DemandEditions

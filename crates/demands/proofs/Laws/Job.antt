@@ -1,9 +1,7 @@
 -- The demands on a job are met: what it leaves is what the entry points leave one by one, and theirs are.
 use Rattle.std.specs.Prelude.{◌≡◌, List, ℕ, ◌≤◌, length}
 use Rattle.std.proofs.Common.{sym, ◌∙◌, ap, arith}
-use Rattle.verdict.specs.Verdict.{reason_of, fault_of}
-use Rattle.verdict.specs.declared.Verdict.{Verdict}
-use Rattle.verdict.specs.declared.Verdict.TheVariants.{Accepted}
+use Rattle.verdict.specs.Verdict.{Verdict, Accepted, reason_of, where_of}
 use Rattle.semantics.specs.Edit as edits
 use Rattle.site.specs.Site.{site_of}
 use Rattle.condition.specs.Bytes.{table_of}
@@ -14,7 +12,7 @@ use Rattle.trailer.specs.Refusal.{edition_in}
 use Rattle.trailer.specs.Pieces.{site_in, condition_in, sheet_in}
 use Rattle.trailer.proofs.Laws.Verdict.{accepted_known}
 use Rattle.refusals.specs.Refusal.{rounds_verdict}
-use Rattle.refusals.proofs.Laws.Items.{then_out, rounds_in, rounds_out}
+use Rattle.refusals.proofs.Laws.Items.{then_out, rounds_in, rounds_out, numbered}
 use Rattle.listing.specs.Listed.{found_of}
 use Rattle.list_entry.specs.Listing.{SetAfter}
 use Rattle.apply_entry.specs.Applying.{SiteAfter}
@@ -24,7 +22,7 @@ use Rattle.job_entry.specs.Refusal.{job_inputs, job_verdict}
 use Rattle.job_entry.proofs.Laws.Refusal.{job_accepts}
 use Rattle.demands.specs.Demands.{Runnable, ApplyCall, ClassCall, Demand3}
 use Rattle.demands.specs.Job.{JobCall, job_table, RunnableFile, RoundsFit, JobAgrees, DemandJob}
-use Rattle.demands.proofs.Laws.Accepted.{fits_short, short_fits, same-makes, apply_accepted, classes_accepted, job_accepted, job_numbered}
+use Rattle.demands.proofs.Laws.Accepted.{fits_short, short_fits, same-makes, apply_accepted, classes_accepted, job_accepted}
 use Rattle.demands.proofs.Laws.Demands.{left_accepted, lists_agree, demand_3}
 
 module _ {file : List ℕ} (c : JobCall file) where
@@ -88,7 +86,7 @@ module _ {file : List ℕ} (c : JobCall file) where
 
   module _ (e : c.reason ≡ 0) where
     accepted : due_of ≡ Accepted
-    accepted = (job_numbered c.lent c.limit file _ _).accepts (sym c.returned.returned.reason_is ∙ e)
+    accepted = (numbered _).accepts (sym c.returned.returned.reason_is ∙ e)
 
     parts : (job_inputs c.lent c.limit file ≡ Accepted)
         × (lists_verdict c.limit c.returned.after_made c.returned.today_made ≡ Accepted)
@@ -148,7 +146,7 @@ module _ {file : List ℕ} (c : JobCall file) where
           reason = 0;
           fault = 0;
           result_size = c.sized.changed_size;
-          returned = record { reason_is = sym (ap reason_of v); fault_is = sym (ap fault_of v); left = rw v left.site_after };
+          returned = record { reason_is = sym (ap reason_of v); fault_is = sym (ap where_of v); left = rw v left.site_after };
         }
 
     abbrev class_call : ClassCall apply_call.result'
@@ -163,7 +161,7 @@ module _ {file : List ℕ} (c : JobCall file) where
           fault = 0;
           count = c.classes;
           classes_size = c.sized.classes_size;
-          returned = record { reason_is = sym (ap reason_of v); fault_is = sym (ap fault_of v); left = rw v left.classes_after };
+          returned = record { reason_is = sym (ap reason_of v); fault_is = sym (ap where_of v); left = rw v left.classes_after };
         }
 
     -- ---- what they agree on, the job does

@@ -1,13 +1,11 @@
 -- The demands on the limit are met.
-use Rattle.std.specs.Prelude.{◌≡◌, refl, ◌⊎◌, ◌↔◌, ◌≢◌, List, ℕ, ◌≤◌, ◌<◌, length}
+use Rattle.std.specs.Prelude.{◌≡◌, refl, ◌⊎◌, ◌↔◌, ◌≢◌, List, ℕ, ◌≤◌, ◌<◌, length, Err, Ok}
 use Rattle.std.proofs.Common.{sym, ◌∙◌, ap, subst, inl, inr, arith}
 use Rattle.finite.specs.Tests.{below}
 use Rattle.finite.proofs.Laws.Bools.{either, look}
 use Rattle.finite.proofs.Laws.Below.{below_out, not-below}
-use Rattle.verdict.specs.Verdict.{reason_of, fault_of, ◌then◌}
+use Rattle.verdict.specs.Verdict.{Verdict, Accepted, reason_of, where_of, ◌then◌}
 use Rattle.verdict.proofs.Laws.{then_assoc}
-use Rattle.verdict.specs.declared.Verdict.{Verdict}
-use Rattle.verdict.specs.declared.Verdict.TheVariants.{Accepted, Refused}
 use Rattle.bitset.specs.Set.{set_bytes}
 use Rattle.limits.specs.Limits.{highest_limit}
 use Rattle.semantics.specs.Edit as edits
@@ -186,7 +184,7 @@ limit_job file = record {
 
 -- the limit is tested before the checks v, which never refuse with 16
 highest : (limit : ℕ) {v : Verdict} → Never 16 v → {reason fault : ℕ} → reason ≡ reason_of (limit_verdict limit then v)
-    → fault ≡ fault_of (limit_verdict limit then v) → Highest limit reason fault
+    → fault ≡ where_of (limit_verdict limit then v) → Highest limit reason fault
 highest limit {v} u {reason} {fault} e f =
     either
     (over? highest_limit limit)
@@ -211,7 +209,7 @@ highest_list limit site table set set' work work' reason fault f p q r =
     let n = r.made in
     let d = list_limit_first (length set) (length work) limit site table n p q in
     let u = never_then {k = 16} (pair_verdict site table) (rounds_verdict limit n) (list_early (omega arith) site table) (rounds_item limit n (omega arith)) in
-    highest limit u (r.returned.reason_is ∙ ap reason_of d) (r.returned.fault_is ∙ ap fault_of d)
+    highest limit u (r.returned.reason_is ∙ ap reason_of d) (r.returned.fault_is ∙ ap where_of d)
 
 job_limit_first : (b : Buffers) (limit : ℕ) (file : List ℕ) (a t : ℕ) → Sized b
     → job_verdict b limit file a t ≡ limit_verdict limit then (job_items file then (lists_verdict limit a t))
@@ -226,14 +224,14 @@ highest_job limit file b b' reason fault after today nodes classes s r =
     let d = job_limit_first b limit file a t s in
     let both = never_then {k = 16} (rounds_verdict limit a) (rounds_verdict limit t) (rounds_item limit a (omega arith)) (rounds_item limit t (omega arith)) in
     let u = never_then (job_items file) (lists_verdict limit a t) (job_early (omega arith) (omega arith) file) both in
-    highest limit u (r.returned.reason_is ∙ ap reason_of d) (r.returned.fault_is ∙ ap fault_of d)
+    highest limit u (r.returned.reason_is ∙ ap reason_of d) (r.returned.fault_is ∙ ap where_of d)
 
 -- ---- a larger limit
 
 -- two chains with the same checks first
 then_same : (first u v : Verdict) → (first ≡ Accepted → u ≡ v) → first then u ≡ first then v
-then_same Accepted u v f = f refl
-then_same (Refused n k) u v f = refl
+then_same (Ok _) u v f = f refl
+then_same (Err r) u v f = refl
 
 module _ {site table : List ℕ} (c d : ListCall site table) (larger : c.limit ≤ d.limit) (h : c.reason ≢ 15) where
   list_rest : pair_verdict site table ≡ Accepted → rounds_verdict c.limit c.returned.made ≡ rounds_verdict d.limit d.returned.made
@@ -253,7 +251,7 @@ module _ {site table : List ℕ} (c d : ListCall site table) (larger : c.limit �
       let s = set_same c.set c.set' d.set d.set' (c.set_size ∙ sym d.set_size) (list_due d) site table _ _ l.set_after q.left.set_after in
       record {
         same_reason = p.reason_is ∙ ap reason_of e ∙ sym q.reason_is;
-        same_fault = p.fault_is ∙ ap fault_of e ∙ sym q.fault_is;
+        same_fault = p.fault_is ∙ ap where_of e ∙ sym q.fault_is;
         same_count = s.1;
         same_rounds = s.2;
         same_set = s.0;
@@ -321,7 +319,7 @@ module _ {file : List ℕ} (c d : JobCall file) (larger : c.limit ≤ d.limit) (
       let work = same_zeros left_of.work_zero q.left.work_zero (c.sized.work_size ∙ sym d.sized.work_size) in
       record {
         same_reason = p.reason_is ∙ ap reason_of same-due ∙ sym q.reason_is;
-        same_fault = p.fault_is ∙ ap fault_of same-due ∙ sym q.fault_is;
+        same_fault = p.fault_is ∙ ap where_of same-due ∙ sym q.fault_is;
         same_after = after_same.1;
         same_today = today_same.1;
         same_nodes = made_same.1;

@@ -1,10 +1,9 @@
 -- One verdict on one input leaves the same bytes and numbers in buffers of the same lengths.
-use Rattle.std.specs.Prelude.{◌≡◌, List, ℕ, length, replicate}
+use Rattle.std.specs.Prelude.{◌≡◌, List, ℕ, length, replicate, Err, Ok}
 use Rattle.std.proofs.Common.{◌∙◌, arith, ext_get_or, sym, ap}
 use Rattle.std.proofs.Math.Logic.Iff
 use Rattle.limits.specs.Limits.{slots}
-use Rattle.verdict.specs.declared.Verdict.{Verdict}
-use Rattle.verdict.specs.declared.Verdict.TheVariants.{Accepted, Refused}
+use Rattle.verdict.specs.Verdict.{Verdict, Accepted}
 use Rattle.semantics.specs.Holds.{Model}
 use Rattle.semantics.specs.Table.{Node, form_of}
 use Rattle.semantics.specs.Bisimulation.{IsClass}
@@ -36,23 +35,23 @@ same_numbers {p = p} {q = q} a b = ext_get_or 0 p q (a.long ∙ sym b.long) (λ 
 module _ (b b' d d' : List ℕ) (sizes : length b ≡ length d) where
   pub site_same : (edition : ℕ) (v : Verdict) (site sheet : List ℕ) → SiteAfter edition v site sheet b b' → SiteAfter edition v site sheet d d' → b' ≡ d'
   unfolding SiteAfter
-  site_same edition Accepted site sheet p q = same_site b' d' p.bytes q.bytes (p.effects ∙ sym q.effects) p.size q.size
-  site_same edition (Refused item w) site sheet p q = same_zeros p q sizes
+  site_same edition (Ok _) site sheet p q = same_site b' d' p.bytes q.bytes (p.effects ∙ sym q.effects) p.size q.size
+  site_same edition (Err r) site sheet p q = same_zeros p q sizes
 
   pub table_same : (v : Verdict) (xs : List Node) (m n : ℕ) → TableAfter v xs b b' m → TableAfter v xs d d' n → (b' ≡ d') × (m ≡ n)
   unfolding TableAfter
-  table_same Accepted xs m n p q = let e = p.0 ∙ sym q.0 in (p.1 ∙ rw e (sym q.1), e)
-  table_same (Refused item w) xs m n p q = (same_zeros p.1 q.1 sizes, p.0 ∙ sym q.0)
+  table_same (Ok _) xs m n p q = let e = p.0 ∙ sym q.0 in (p.1 ∙ rw e (sym q.1), e)
+  table_same (Err r) xs m n p q = (same_zeros p.1 q.1 sizes, p.0 ∙ sym q.0)
 
   pub set_same : (v : Verdict) (site table : List ℕ) (f g : Found) → SetAfter v site table b b' f → SetAfter v site table d d' g
       → (b' ≡ d') × (f.count ≡ g.count) × (f.rounds ≡ g.rounds)
   unfolding SetAfter
-  set_same Accepted site table f g p q =
+  set_same (Ok _) site table f g p q =
       let e = same_listed p.0 q.0 (λ ρ s h. Iff.rfl) in
       (e.0, e.1, same-makes (site_of site) (form_of (table_of table)) f.rounds g.rounds p.1 q.1)
-  set_same (Refused item w) site table f g p q = (same_zeros p.0 q.0 sizes, p.1.0 ∙ sym q.1.0, p.1.1 ∙ sym q.1.1)
+  set_same (Err r) site table f g p q = (same_zeros p.0 q.0 sizes, p.1.0 ∙ sym q.1.0, p.1.1 ∙ sym q.1.1)
 
   pub classes_same : (v : Verdict) (site : List ℕ) (m n : ℕ) → ClassesAfter v site b b' m → ClassesAfter v site d d' n → (b' ≡ d') × (m ≡ n)
   unfolding ClassesAfter
-  classes_same Accepted site m n p q = let e = same_numbers p.0 q.0 in (e, p.1 ∙ ap different e ∙ sym q.1)
-  classes_same (Refused item w) site m n p q = (same_zeros p.0 q.0 sizes, p.1 ∙ sym q.1)
+  classes_same (Ok _) site m n p q = let e = same_numbers p.0 q.0 in (e, p.1 ∙ ap different e ∙ sym q.1)
+  classes_same (Err r) site m n p q = (same_zeros p.0 q.0 sizes, p.1 ∙ sym q.1)

@@ -1,10 +1,10 @@
 -- The demand on the condition for going through is met.
-use Rattle.std.specs.Prelude.{◌≡◌, ◌≢◌, Bool, not, List, ◌++◌, ℕ, ◌*◌, ◌-◌, ◌≤◌, length, replicate, refl, true, false, cond}
+use Rattle.std.specs.Prelude.{◌≡◌, ◌≢◌, Bool, not, List, ◌++◌, ℕ, ◌*◌, ◌-◌, ◌≤◌, length, replicate, refl, true, false, cond, Err}
 use Rattle.std.proofs.Common.{◌∙◌, ap, inl, inr, arith}
 use Rattle.finite.proofs.Laws.Below.{below-not}
 use Rattle.bitset.specs.Set.{set_bytes}
-use Rattle.verdict.specs.Verdict.{reason_of}
-use Rattle.verdict.specs.declared.Verdict.TheVariants.{Accepted, Refused}
+use Rattle.verdict.specs.Verdict.{Accepted, reason_of}
+use Rattle.verdict.specs.declared.Refusal.TheVariants.{NotThrough}
 use Rattle.limits.specs.Limits.{slots, table_nodes, table_bytes}
 use Rattle.semantics.specs.Edit as edits
 use Rattle.semantics.specs.Block.{emit}
@@ -98,7 +98,7 @@ module _ {edition : ℕ} {site sheet : List ℕ} (j : Foreseeable edition site s
         unfolding apply_verdict goes_verdict
         apply_reason = a.returned.reason_is ∙ rw (buffer_in a.result_size, j.edition_accepted, j.site_accepted, j.sheet_accepted) (told goes _)
           where
-            told : (b : Bool) (w : ℕ) → reason_of (cond (not b) (Refused 13 w) Accepted) ≡ cond b 0 13
+            told : (b : Bool) (w : ℕ) → reason_of (cond (not b) (Err (NotThrough w)) Accepted) ≡ cond b 0 13
             told true w = refl
             told false w = refl
 

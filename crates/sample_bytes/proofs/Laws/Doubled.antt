@@ -4,8 +4,8 @@ use Rattle.std.proofs.Common.{◌∙◌, arith, pow_pos, ap, pow_mono}
 use Rattle.std.proofs.lemmas.List.{length-replicate}
 use Rattle.finite.specs.Tests.{same, below, all}
 use Rattle.finite.proofs.Laws.Below.{below_in, below-not}
-use Rattle.verdict.specs.Verdict.{reason_of}
-use Rattle.verdict.specs.declared.Verdict.TheVariants.{Accepted}
+use Rattle.verdict.specs.declared.Refusal.TheVariants.{TableFull}
+use Rattle.verdict.specs.Verdict.{Accepted, reason_of}
 use Rattle.semantics.specs.Form.{occ, free, closed, even}
 use Rattle.semantics.specs.Table.{kind_of, way_of, atom, one, two, build, tree, trees, tree_at, form_of, leaf_fits, unary_fits, kind_fits, node_fits, nodes_fit, even_table}
 use Rattle.semantics.specs.Edit.{Edit, DT1, legal, sheet_legal}
@@ -90,7 +90,7 @@ module _ {edition : ℕ} (known : edition_verdict edition ≡ Accepted) (k : ℕ
   unfolding length_verdict
   long h =
       let p : 2 ^ 9 ≤ 2 ^ k = pow_mono h in
-      not-rewritten call 14 0 (rw (verdict_is, long_is k, below_in table_nodes (5 + 8 * (2 ^ k - 1)) (omega arith)))
+      not-rewritten call TableFull (rw (verdict_is, long_is k, below_in table_nodes (5 + 8 * (2 ^ k - 1)) (omega arith)))
 
 pub doubles : (edition : ℕ) → edition_verdict edition ≡ Accepted → Doubles edition
 doubles edition known = record {

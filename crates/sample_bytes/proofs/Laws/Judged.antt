@@ -1,10 +1,11 @@
 -- The verdicts on a row's pieces.
-use Rattle.std.specs.Prelude.{◌≡◌, refl, List, [], ◌∷◌, true, false, not, ℕ, zero, suc, ◌≤◌, ◌<◌, length, get_or, take}
+use Rattle.std.specs.Prelude.{◌≡◌, refl, List, [], ◌∷◌, true, false, not, ℕ, zero, suc, ◌≤◌, ◌<◌, length, get_or, take, Err}
 use Rattle.std.proofs.Common.{sym, ◌∙◌, subst, arith, ap}
 use Rattle.finite.specs.Tests.{below, first}
 use Rattle.finite.proofs.Laws.Bools.{and_l, and_r}
 use Rattle.finite.proofs.Laws.Below.{below_in}
-use Rattle.verdict.specs.declared.Verdict.TheVariants.{Accepted, Refused}
+use Rattle.verdict.specs.Verdict.{Accepted}
+use Rattle.verdict.specs.declared.Refusal.TheVariants.{EvenRule, NotThrough}
 use Rattle.semantics.specs.Holds.{Model}
 use Rattle.semantics.specs.Table.{Node, tree_at, form_of, nodes_fit, even_table}
 use Rattle.semantics.specs.Form.{even, closed}
@@ -46,12 +47,12 @@ module _ (xs : List Node) (some : 0 < length xs) (few : length xs ≤ table_node
   table_accepted = bytes_accepted xs some few fits
 
   pub table_odd : (w : ℕ) → w < length xs → first (length xs) (λ i. not (even (tree_at xs i))) ≡ w
-      → condition_verdict (condition.bytes_of xs) ≡ Refused 9 w
+      → condition_verdict (condition.bytes_of xs) ≡ Err (EvenRule w)
   unfolding first_uneven
   table_odd w h e =
       let back = table_back_lem xs in
       let q : first_uneven (condition.bytes_of xs) ≡ w = rw back e in
-      item_9 (condition.bytes_of xs) size_ok fields_ok (rw (q, back) (below_in w (length xs) h)) ∙ ap (Refused 9) q
+      item_9 (condition.bytes_of xs) size_ok fields_ok (rw (q, back) (below_in w (length xs) h)) ∙ ap (λ (w : ℕ). Err (EvenRule w)) q
 
 -- ---- a sheet that is stuck
 
@@ -66,7 +67,7 @@ stuck_is (e ∷ es) M (suc w) h g s =
     (rw q (ap suc r.0), rw q r.1)
 
 pub stuck_refused : (es : List Edit) (M : Model) (w : ℕ) → w < length es → sheet_goes (take w es) M ≡ true
-    → goes (get_or es w (DS 0)) (edits.sheet (take w es) M) ≡ false → goes_verdict es M ≡ Refused 13 w
+    → goes (get_or es w (DS 0)) (edits.sheet (take w es) M) ≡ false → goes_verdict es M ≡ Err (NotThrough w)
 unfolding goes_verdict
 stuck_refused es M w h g s = let r = stuck_is es M w h g s in rw (r.1, r.0)
 
@@ -101,8 +102,8 @@ module _ (r : Row) (o : Sound r) (f : Fits r) where
       pub fits_ok : k ≤ table_nodes → length (rewrite_sheet (edits_of edition (sheet_in r)) (table_of (table_in r))) ≤ table_nodes
       fits_ok h = rw (sheet_read, table_read) (omega (arith, l.node_count))
 
-    pub goes_stuck : {w : ℕ} → Stuck r w → goes_verdict (edits_of edition (sheet_in r)) (site_of (site_in r)) ≡ Refused 13 w
+    pub goes_stuck : {w : ℕ} → Stuck r w → goes_verdict (edits_of edition (sheet_in r)) (site_of (site_in r)) ≡ Err (NotThrough w)
     goes_stuck {w} s = rw (sheet_read, site_read) (stuck_refused r.edits (before r) w s.inside s.others_go s.stuck)
 
-  pub table_refused : {w : ℕ} → Odd r w → condition_verdict (table_in r) ≡ Refused 9 w
+  pub table_refused : {w : ℕ} → Odd r w → condition_verdict (table_in r) ≡ Err (EvenRule w)
   table_refused {w} d = table_odd r.table o.some_node f.few_nodes o.fits w d.inside d.lowest

@@ -1,5 +1,5 @@
 -- Names 0 to 47: what holds of every name below the limit, with the limit's number written out.
-use Rattle.std.specs.Prelude.{◌≡◌, ◌≢◌, true, false, not, List, [], ◌∷◌, ℕ, ◌≤◌, ◌<◌, length, get_or, refl}
+use Rattle.std.specs.Prelude.{◌≡◌, ◌≢◌, true, false, not, List, [], ◌∷◌, ℕ, ◌≤◌, ◌<◌, length, get_or, refl, Err}
 use Rattle.std.proofs.Common.{◌∙◌, ap, arith}
 use Rattle.finite.specs.Tests.{same, below, all}
 use Rattle.finite.proofs.Laws.Bools.{both, clash, no_true}
@@ -7,7 +7,8 @@ use Rattle.finite.proofs.Laws.Below.{same_eq, eq_same, ne_same, below_in, below-
 use Rattle.finite.proofs.Laws.First.{first_is, none_start}
 use Rattle.bitset.specs.Set.{Is}
 use Rattle.limits.specs.Limits.{slots, names}
-use Rattle.verdict.specs.declared.Verdict.TheVariants.{Accepted, Refused}
+use Rattle.verdict.specs.Verdict.{Accepted}
+use Rattle.verdict.specs.declared.Refusal.TheVariants.{SiteLength, MalformedNode}
 use Rattle.semantics.specs.Form.{closed, free, even, occ}
 use Rattle.semantics.specs.Holds.{Env, Model, Holds, Distinguishes}
 use Rattle.semantics.specs.Bisimulation.{Bisimilar}
@@ -54,7 +55,7 @@ name_accepted n h =
     let t = closed_name n h in
     table_accepted (table_name n) t.some (omega arith) t.fits t.even_rule t.is_closed
 
-name_refused : (n : ℕ) → names ≤ n → condition_verdict (name_bytes n) ≡ Refused 8 0
+name_refused : (n : ℕ) → names ≤ n → condition_verdict (name_bytes n) ≡ Err (MalformedNode 0)
 unfolding first_unfit table_name condition.node_at condition.bytes_of condition.node_bytes node_fits kind_fits leaf_fits kind_of same below
 name_refused n h =
     let S = name_bytes n in
@@ -62,7 +63,7 @@ name_refused n h =
     let unfit : node_fits 0 (condition.node_at S 0) ≡ false = rw (below-not n names h) in
     let w : first_unfit S ≡ 0 = first_is _ _ 0 (omega arith) (none_start _) (ap not unfit) in
     let size = length-bytes (table_name n) in
-    item_8 S (size_in (length S) (omega arith) (omega arith) (omega arith)) (rw (w, one)) ∙ ap (Refused 8) w
+    item_8 S (size_in (length S) (omega arith) (omega arith) (omega arith)) (rw (w, one)) ∙ ap (λ (w : ℕ). Err (MalformedNode w)) w
 
 -- ---- and in edits
 
@@ -142,7 +143,7 @@ forty_eight = record {
   targets_at_is = refl;
   rows_at_is = refl;
   site_length = refl;
-  old_site = λ site e. site_refused site 3 (omega arith) (wrong_length site (λ q. absurd (omega arith)));
+  old_site = λ site e. site_refused site SiteLength refl (wrong_length site (λ q. absurd (omega arith)));
   node_accepted = λ n h. name_accepted n (omega arith);
   node_refused = λ n h. name_refused n (omega arith);
   edits_accepted = λ n p h. edits_accepted n p (omega arith);

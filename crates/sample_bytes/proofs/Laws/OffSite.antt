@@ -6,7 +6,8 @@ use Rattle.finite.proofs.Laws.Bools.{both, no_true}
 use Rattle.finite.proofs.Laws.Below.{below_in}
 use Rattle.bitset.specs.Set.{has, Is}
 use Rattle.limits.specs.Limits.{slots, labels, names}
-use Rattle.verdict.specs.declared.Verdict.TheVariants.{Accepted}
+use Rattle.verdict.specs.declared.Refusal.TheVariants.{Labels}
+use Rattle.verdict.specs.Verdict.{Accepted}
 use Rattle.semantics.specs.Holds.{Holds}
 use Rattle.semantics.specs.Table.{kind_of, atom, build, tree, trees, tree_at, form_of}
 use Rattle.semantics.specs.Edit as edits
@@ -68,7 +69,7 @@ listed edition site sheet p j a w t u =
 pub off_site : OffSite
 off_site = record {
   unlabelled = unlabelled;
-  label_refused = λ site l h p m. site_refused site 5 (omega arith) (nil_labelled site l h p m);
+  label_refused = λ site l h p m. site_refused site Labels refl (nil_labelled site l h p m);
   nothing_marked = λ edition known site b a n p hn hp nil. nothing_marked edition known site a n p hn hp b nil;
   listed = listed;
 }

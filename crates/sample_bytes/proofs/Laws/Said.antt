@@ -7,7 +7,8 @@ use Rattle.finite.proofs.Laws.Below.{same_eq, below_out, count_cong}
 use Rattle.bitset.specs.Set as bitset
 use Rattle.bitset.specs.Set.{Is}
 use Rattle.limits.specs.Limits.{slots, table_nodes}
-use Rattle.verdict.specs.declared.Verdict.TheVariants.{Accepted}
+use Rattle.verdict.specs.declared.Refusal.TheVariants.{EvenRule, NotThrough, Rounds}
+use Rattle.verdict.specs.Verdict.{Accepted}
 use Rattle.semantics.specs.Holds.{Env, Model, Holds}
 use Rattle.semantics.specs.Table.{Node, kind_of, atom, build, tree, trees, tree_at, form_of}
 use Rattle.semantics.specs.Edit.{Valid}
@@ -77,7 +78,7 @@ module _ {site table : List ℕ} (a : site_verdict site ≡ Accepted) (b : condi
   lists_within =
       record {
         within = λ h. listed_as (not_over makes_here call (omega (arith, h)));
-        over = λ h. not_listed call 15 0 (list_due_lem a b call n makes_here ∙ rounds-not (omega (arith, h)));
+        over = λ h. not_listed call Rounds (list_due_lem a b call n makes_here ∙ rounds-not (omega (arith, h)));
       }
 
 -- a condition that is a name lists its place
@@ -134,18 +135,18 @@ module _ (r : Row) (o : Sound r) (f : Fits r) (edition : ℕ) (known : edition_v
 
   stuck : (w : ℕ) → Stuck r w → (call : ApplyCall edition (site_in r) (sheet_in r)) → NotApplied call 13 w
   unfolding apply_verdict
-  stuck w s call = not_applied call 13 w (rw (buffer_in call.result_size, known, site_ok r o f, sheet_ok r o f edition i) (goes_stuck r o f edition i s))
+  stuck w s call = not_applied call (NotThrough w) (rw (buffer_in call.result_size, known, site_ok r o f, sheet_ok r o f edition i) (goes_stuck r o f edition i s))
 
   module _ (w : ℕ) (d : Odd r w) where
     unlisted : (call : ListCall (site_in r) (table_in r)) → NotListed call 9 w
     unfolding list_verdict list_inputs
     unlisted call =
-        not_listed call 9 w
+        not_listed call (EvenRule w)
         (rw (buffer_in call.set_size, buffer_in call.work_size, limit_in call.limit_fits, site_ok r o f, table_refused r o f d))
 
     unwritten : (call : RewriteCall edition (table_in r) (sheet_in r)) → NotRewritten call 9 w
     unfolding rewrite_verdict
-    unwritten call = not-rewritten call 9 w (rw (buffer_in call.result_size, known, table_refused r o f d))
+    unwritten call = not-rewritten call (EvenRule w) (rw (buffer_in call.result_size, known, table_refused r o f d))
 
   returns : (x : Expected) → expected_fits x ≡ true → Says r x → Returns edition r x
   unfolding expected_fits

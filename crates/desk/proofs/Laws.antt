@@ -1,2 +1,0 @@
--- Laws of the entry points.
-pub mod Returned

@@ -1,2 +1,0 @@
--- what is proved of the definitions of specs/
-pub mod Laws
