@@ -1,10 +1,7 @@
 -- Blocks written piece by piece.
-use Rattle.std.specs.Prelude.{◌≡◌, refl, List, [], ◌∷◌, Bool, true, false, not, cond, ℕ, ◌+◌, ◌-◌, ◌≤◌, ◌<◌, length}
+use Rattle.std.specs.Prelude.{◌≡◌, refl, List, [], ◌∷◌, true, Ok, Err, ℕ, ◌+◌, ◌-◌, ◌≤◌, ◌<◌, length}
 use Rattle.std.proofs.Common.{sym, ◌∙◌, ap, arith}
-use Rattle.std.proofs.Math.Option.{Option, none, some}
-use borrow.Author.Tests.{not-true, not-false}
-use Rattle.finite.proofs.Laws.Bools.{either, look}
-use Rattle.semantics.specs.Edit.{Edit, CN1, CN2, AP, DP, AT, RT, DT1, DT2, AS, DS, functional}
+use Rattle.std.proofs.Math.Option.{Option, none, some as some'}
 use Rattle.semantics.specs.Table.{Node, node, Leaf, Unary, Binary, k_true, k_name, k_not, k_and, k_or, leaf, unary, binary, kind_no}
 use Rattle.semantics.specs.Block.{Block, old, end, on, join, size, root, emit, nm, no!, ◌&◌, ⟨◌⟩◌}
 use Rattle.semantics.proofs.Laws.Emit.{emit-length}
@@ -12,9 +9,13 @@ use Rattle.semantics.proofs.Laws.Image.{makes, root-last}
 use Rattle.blocks.specs.Write.{put, puts}
 use Rattle.blocks.proofs.Laws.Write.{puts_one, puts_then}
 use Rattle.limits.specs.Limits.{table_nodes, every_way, true_no, name_no, not_no, or_no, and_no}
-use Rattle.through.specs.Through.{neither_nil, free_or_there, own, closing}
-use Rattle.own_conditions.specs.Nodes.{nowhere_nodes, reaches_nodes, own_size, own_nodes}
+use Rattle.through.specs.Through.{neither_nil, free_or_there, closing}
+use Rattle.own_conditions.specs.Nodes.{nowhere_nodes, reaches_nodes}
 use Rattle.own_conditions.specs.Behind.{PutBehind}
+
+-- the same node by another name
+pub put_as : (o : List ℕ) (i : ℕ) {o' : List ℕ} {x y : Node} → o' ≡ put o i x → x ≡ y → o' ≡ put o i y
+put_as o i e f = e ∙ ap (put o i) f
 
 -- five nodes, one by one
 pub puts_five : (o : List ℕ) (at : ℕ) (v w x y z : Node) {o₁ o₂ o₃ o₄ o₅ : List ℕ} → o₁ ≡ put o at v → o₂ ≡ put o₁ (at + 1) w → o₃ ≡ put o₂ (at + 2) x
@@ -54,20 +55,20 @@ not_nil n = no! (⟨ every_way ⟩ (nm n & nm 0))
 abbrev reaches : ℕ → ℕ → Block → Block
 reaches n m y = ⟨ every_way ⟩ (nm n & (⟨ m ⟩ y))
 
-reaches-nodes : (at n m : ℕ) (k : Leaf) (p : ℕ) → reaches_nodes at n m (kind_no (leaf k)) p ≡ emit (reaches n m (end k p)) at
+reaches-nodes : (at n m : ℕ) (k : Leaf) (p : ℕ) → reaches_nodes at n m (node (kind_no (leaf k)) p 0 0) ≡ emit (reaches n m (end k p)) at
 unfolding emit root size kind_no
 reaches-nodes at n m k p = let h : at + 2 ≡ at + 1 + 1 = omega arith in rw h refl
 
-pub neither_put : (o : List ℕ) (at n1 n2 : ℕ) {o₁ o₂ o₃ : List ℕ} → o₁ ≡ puts o at 0 (nowhere_nodes at name_no n1 name_no 0)
-    → o₂ ≡ puts o₁ (at + 5) 0 (nowhere_nodes (at + 5) name_no n2 name_no 0) → o₃ ≡ put o₂ (at + 10) (node and_no 0 (at + 4) (at + 9))
+pub neither_put : (o : List ℕ) (at n1 n2 : ℕ) {o₁ o₂ o₃ : List ℕ} → o₁ ≡ puts o at 0 (nowhere_nodes at (node name_no n1 0 0) (node name_no 0 0 0))
+    → o₂ ≡ puts o₁ (at + 5) 0 (nowhere_nodes (at + 5) (node name_no n2 0 0) (node name_no 0 0 0)) → o₃ ≡ put o₂ (at + 10) (node and_no 0 (at + 4) (at + 9))
     → o₃ ≡ puts o at 0 (emit (neither_nil n1 n2) at)
 unfolding emit root size kind_no
 neither_put o at n1 n2 e₁ e₂ e₃ =
     let h : at + 10 ≡ at + 5 + 5 = omega arith in let g : at + 9 ≡ at + 5 + 4 = omega arith in
     rw (e₃, e₂, e₁, h, g) (sym (puts_join o at k_and (not_nil n1) (not_nil n2)))
 
-pub free-put : (o : List ℕ) (at m n1 n2 : ℕ) {o₁ o₂ o₃ o₄ : List ℕ} → o₁ ≡ puts o at 0 (reaches_nodes at n1 m true_no 0)
-    → o₂ ≡ put o₁ (at + 5) (node not_no 0 (at + 4) 0) → o₃ ≡ puts o₂ (at + 6) 0 (reaches_nodes (at + 6) n1 m name_no n2)
+pub free-put : (o : List ℕ) (at m n1 n2 : ℕ) {o₁ o₂ o₃ o₄ : List ℕ} → o₁ ≡ puts o at 0 (reaches_nodes at n1 m (node true_no 0 0 0))
+    → o₂ ≡ put o₁ (at + 5) (node not_no 0 (at + 4) 0) → o₃ ≡ puts o₂ (at + 6) 0 (reaches_nodes (at + 6) n1 m (node name_no n2 0 0))
     → o₄ ≡ put o₃ (at + 11) (node or_no 0 (at + 5) (at + 10)) → o₄ ≡ puts o at 0 (emit (free_or_there m n1 n2) at)
 unfolding root size kind_no
 free-put o at m n1 n2 {o₁} {o₂} e₁ e₂ e₃ e₄ =
@@ -77,84 +78,34 @@ free-put o at m n1 n2 {o₁} {o₂} e₁ e₂ e₃ e₄ =
     let b : o₂ ≡ puts o at 0 (emit (no! t) at) = e₂ ∙ rw a (sym (puts_on o at k_not 0 t)) in
     rw (e₄, e₃, b, h, g, reaches-nodes (at + 6) n1 m k_name n2) (sym (puts_join o at k_or (no! t) u))
 
--- AT's condition, by whether the link is functional
-module _ (o : List ℕ) (at m n1 n2 : ℕ) {o₁ : List ℕ} (e₁ : o₁ ≡ puts o at 0 (emit (neither_nil n1 n2) at)) where
-  pub general_put : {b : Bool} → b ≡ functional m → not b ≡ true → o₁ ≡ puts o at 0 (own_nodes at (own (AT m n1 n2)))
-  unfolding own own_nodes
-  general_put e t = rw (sym e ∙ not-true _ t) e₁
-
-  pub functional-put : {o₂ o₃ : List ℕ} {b : Bool} → b ≡ functional m → not b ≡ false → o₂ ≡ puts o₁ (at + 11) 0 (emit (free_or_there m n1 n2) (at + 11))
-      → o₃ ≡ put o₂ (at + 23) (node and_no 0 (at + 10) (at + 22)) → o₃ ≡ puts o at 0 (own_nodes at (own (AT m n1 n2)))
-  unfolding own own_nodes root size kind_no
-  functional-put e t e₂ e₃ =
-      let h : at + 23 ≡ at + 11 + 12 = omega arith in let g : at + 22 ≡ at + 11 + 11 = omega arith in
-      rw (sym e ∙ not-false _ t) (rw (e₃, e₂, e₁, h, g) (sym (puts_join o at k_and (neither_nil n1 n2) (free_or_there m n1 n2))))
-
--- how many nodes it has
-link_size : (m n1 n2 : ℕ) → own_size (own (AT m n1 n2)) ≡ cond (functional m) 24 11
-unfolding own_size own size
-link_size m n1 n2 = either (look (functional m)) (λ f. rw f refl) (λ f. rw f refl)
-
-pub link_least : (m n1 n2 : ℕ) → 11 ≤ own_size (own (AT m n1 n2))
-link_least m n1 n2 =
-    either (look (functional m)) (λ f. rw (link_size m n1 n2, f) (omega arith)) (λ f. rw (link_size m n1 n2, f) (omega arith))
-
-pub link_sized : (m n1 n2 : ℕ) {r : ℕ} → r ≡ cond (functional m) 24 11 → (r ≡ own_size (own (AT m n1 n2))) × (r ≤ 24)
-link_sized m n1 n2 e =
-    (e ∙ sym (link_size m n1 n2), either (look (functional m)) (λ f. omega (arith, rw f at e)) (λ f. omega (arith, rw f at e)))
-
--- where the link is functional, there are 24
-pub link_whole : (m n1 n2 : ℕ) {b : Bool} → b ≡ functional m → not b ≡ false → own_size (own (AT m n1 n2)) ≡ 24
-link_whole m n1 n2 e t = link_size m n1 n2 ∙ rw (sym e ∙ not-false _ t) refl
+-- both
+pub link_put : (o : List ℕ) (at m n1 n2 : ℕ) {o₁ o₂ o₃ : List ℕ} → o₁ ≡ puts o at 0 (emit (neither_nil n1 n2) at)
+    → o₂ ≡ puts o₁ (at + 11) 0 (emit (free_or_there m n1 n2) (at + 11)) → o₃ ≡ put o₂ (at + 23) (node and_no 0 (at + 10) (at + 22))
+    → o₃ ≡ puts o at 0 (emit (neither_nil n1 n2 & free_or_there m n1 n2) at)
+unfolding root size kind_no
+link_put o at m n1 n2 e₁ e₂ e₃ =
+    let h : at + 23 ≡ at + 11 + 12 = omega arith in let g : at + 22 ≡ at + 11 + 11 = omega arith in
+    rw (e₃, e₂, e₁, h, g) (sym (puts_join o at k_and (neither_nil n1 n2) (free_or_there m n1 n2)))
 
 -- ---- behind a table
 
--- an edit whose condition has no node has none
-own-none : (e : Edit) (n : ℕ) → own_size (own e) ≡ 0 → closing n (own e) ≡ []
-unfolding own own_size size closing
-own-none (CN1 n1 n2) n h = refl
-own-none (CN2 n1 n2 f) n h = refl
-own-none (AP a p) n h = refl
-own-none (DP a p) n h = refl
-own-none (AT m n1 n2) n h = absurd (omega (arith, link_least m n1 n2))
-own-none (RT f n1 n2) n h = absurd (omega arith)
-own-none (DT1 m n1 n2) n h = refl
-own-none (DT2 f a) n h = refl
-own-none (AS a k) n h = absurd (omega arith)
-own-none (DS a) n h = absurd (omega arith)
+-- none
+pub put-none : (c : Option Block) (o : List ℕ) (n : ℕ) → c ≡ none → n ≤ table_nodes → PutBehind (closing n c) n o o (Ok n)
+unfolding closing puts
+put-none c o n e h = rw e (omega arith, h, refl)
 
--- a condition and the closing "and"
-closing-length : (n : ℕ) (c : Option Block) → 0 < own_size c → length (closing n c) ≡ own_size c + 1
-unfolding own_size closing size
-closing-length n none h = absurd (omega arith)
-closing-length n (some B) h = emit-length (old (n - 1) & B) n ∙ omega arith
+module _ (B : Block) (n : ℕ) (some : 0 < size B) where
+  counts : n + length (closing n (some' B)) ≡ n + size B + 1
+  unfolding closing size
+  counts = omega (arith, emit-length (old (n - 1) & B) n)
 
-closing-put : (o : List ℕ) (n : ℕ) (c : Option Block) {o₁ o₂ : List ℕ} → 0 < own_size c → o₁ ≡ puts o n 0 (own_nodes n c)
-    → o₂ ≡ put o₁ (n + own_size c) (node and_no 0 (n - 1) (n + own_size c - 1)) → o₂ ≡ puts o n 0 (closing n c)
-unfolding own_size own_nodes closing emit size root kind_no puts
-closing-put o n none h e₁ e₂ = absurd (omega arith)
-closing-put o n (some B) h e₁ e₂ =
-    let z : n + 0 ≡ n = omega arith in let r : n + size B - 1 ≡ root B n = omega (arith, root-last B (sized-makes B h) n) in
-    rw (e₂, e₁, r) (sym (puts_join o n k_and (old (n - 1)) B ∙ rw z refl))
+  pub put_long : (c : Option Block) (o : List ℕ) {r : ℕ} → c ≡ some' B → r ≡ n + size B + 1 → table_nodes < r → PutBehind (closing n c) n o o (Err (record { 0 = r }))
+  put_long c o e er h = rw e (omega (arith, counts), h)
 
-module _ (e : Edit) (n : ℕ) {s : ℕ} (es : s ≡ own_size (own e)) where
-  pub put-none : (o : List ℕ) → s ≡ 0 → PutBehind (closing n (own e)) n o o n
-  unfolding puts
-  put-none o h = rw (own-none e n (sym es ∙ h)) (record { fits = λ _. (omega arith, refl); long = λ g. omega arith })
-
-  pub put_full : (o : List ℕ) → table_nodes < n → PutBehind (closing n (own e)) n o o n
-  put_full o h = record { fits = λ g. absurd (omega arith); long = λ _. h }
-
-  module _ (some : 0 < s) where
-    counts : n + length (closing n (own e)) ≡ n + s + 1
-    counts = omega (arith, closing-length n (own e) (omega arith))
-
-    pub put_long : (o : List ℕ) → table_nodes < n + s + 1 → PutBehind (closing n (own e)) n o o (n + s + 1)
-    put_long o h = record { fits = λ g. absurd (omega (arith, counts)); long = λ _. h }
-
-    pub put-closed : (o : List ℕ) {o₁ o₂ : List ℕ} → n + s + 1 ≤ table_nodes → o₁ ≡ puts o n 0 (own_nodes n (own e))
-        → o₂ ≡ put o₁ (n + s) (node and_no 0 (n - 1) (n + s - 1)) → PutBehind (closing n (own e)) n o o₂ (n + s + 1)
-    put-closed o h e₁ e₂ = record {
-      fits = λ _. (sym counts, closing-put o n (own e) (omega arith) e₁ (rw (← es) e₂));
-      long = λ g. absurd (omega (arith, counts));
-    }
+  pub put-closed : (c : Option Block) (o : List ℕ) {o₁ o₂ : List ℕ} {r : ℕ} → c ≡ some' B → r ≡ n + size B + 1 → r ≤ table_nodes → o₁ ≡ puts o n 0 (emit B n)
+      → o₂ ≡ put o₁ (n + size B) (node and_no 0 (n - 1) (n + size B - 1)) → PutBehind (closing n c) n o o₂ (Ok r)
+  unfolding closing root size kind_no emit puts
+  put-closed c o {o₁} {o₂} e er h e₁ e₂ =
+      let z : n + 0 ≡ n = omega arith in let r : n + size B - 1 ≡ root B n = omega (arith, root-last B (sized-makes B some) n) in
+      let w : o₂ ≡ puts o n 0 (emit (old (n - 1) & B) n) = rw (e₂, e₁, r) (sym (puts_join o n k_and (old (n - 1)) B ∙ rw z refl)) in
+      rw e (omega (arith, counts), h, w)
