@@ -1,5 +1,5 @@
 -- The features of a slot, as bits of a row: that it is present, its labels, its names.
-use Rattle.std.specs.Prelude.{◌≡◌, Bool, ◌&&◌, cond, List, ℕ, ◌+◌, ◌-◌, ◌*◌, ◌<◌}
+use Rattle.std.specs.Prelude.{◌≡◌, Bool, ◌&&◌, cond, List, ℕ, ◌+◌, ◌-◌, ◌<◌}
 use Rattle.finite.specs.Tests.{same, below}
 use Rattle.bitset.specs.Set.{set_slots}
 use Rattle.limits.specs.Limits.{labels, names}
@@ -22,9 +22,5 @@ feature M s c =
     cond (below c labels_from) (M.present s) (cond (below c names_from) (M.marked (c - labels_from) s) (same (M.place (c - names_from)) s))
 
 -- the rows of G are the slots' features
-unfoldable pub FeatureRows : Model → List ℕ → Type 0
+unfoldable pub FeatureRows : Model → List (List ℕ) → Type 0
 FeatureRows M G = (s c : ℕ) → s < set_slots → c < set_slots → in_row G s c ≡ (below c features && feature M s c)
-
--- what slot s puts in: feature c, into row s, if it has it
-unfoldable pub feature_puts : Model → ℕ → ℕ → ℕ → Bool
-feature_puts M s c y = feature M s c && same y (set_slots * s + c)

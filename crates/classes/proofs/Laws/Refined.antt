@@ -26,7 +26,7 @@ classes_of_lem M p l h = record { long = l; bytes = λ k. byte k (dec_lt k set_s
 
 module _ (M : Model) (k : ℕ) (p : List ℕ) (l : length p ≡ set_slots) (n : Partitions (bisimilar_in k M M) p) where
   -- a round that changed nothing: the partition before it has the class numbers
-  pub refined_still : (W q : List ℕ) → Neighbours M W → Refines W p q → all set_slots (λ s. same (get_or p s 0) (get_or q s 0)) ≡ true → Classes M p
+  pub refined_still : (W : List (List (List ℕ))) (q : List ℕ) → Neighbours M W → Refines W p q → all set_slots (λ s. same (get_or p s 0) (get_or q s 0)) ≡ true → Classes M p
   refined_still W q b f e =
       classes_of_lem M p l (stable_class M k n (same_stable M W k q b n f (λ s h. same_eq (all_out set_slots _ e s h))))
 

@@ -1,16 +1,13 @@
--- The numbers of the slots below s are in the set.
-use Rattle.std.proofs.Common.{◌∙◌, arith, get_or}
-use Rattle.bitset.specs.Set.{set_bytes, set_slots}
-use Rattle.classes.proofs.Laws.Different.{count-different}
-use Rattle.finite.specs.Tests.{same}
-use Rattle.partition.proofs.Laws.Gains.{gains_start, gains_more, gains_done, gains_put}
+-- The numbers of the slots that were looked at are in the set.
+use Rattle.std.proofs.Common.{◌∙◌, arith}
+use Rattle.classes.proofs.Laws.Different.{numbers_start, numbers_more, count-different}
 use Rattle.classes.proofs.count.Goals as goal
 
-pub loop-s-init : goal.loop-s-init
-loop-s-init c = (omega arith, omega arith, gains_start (λ k y. same y (get_or c.args.classes.now k 0)))
+pub loop-class-init : goal.loop-class-init
+loop-class-init c = numbers_start c.args.classes.now _ c.empty-seen.ensures
 
-pub loop-s-preserved : goal.loop-s-preserved
-loop-s-preserved c = (omega arith, omega arith, gains_more (λ k y. same y (get_or c.args.classes.now k 0)) c.loop-s.s c.loop-s.invariant.2 (gains_put (get_or c.args.classes.now c.loop-s.s 0) (rw c.wide.ensures.0 at c.insert.ensures) (omega arith)))
+pub loop-class-preserved : goal.loop-class-preserved
+loop-class-preserved c = numbers_more c.args.classes.now c.loop-class.class-index c.loop-class.seen _ (rw c.from.ensures at c.insert.ensures) c.loop-class.invariant
 
 pub returns : goal.returns
-returns c = c.count.ensures ∙ count-different c.args.classes.now set_bytes (gains_done (λ k y. same y (get_or c.args.classes.now k 0)) set_slots c.loop-s.s c.loop-s.invariant.2 (omega arith) (omega arith))
+returns c = c.len.ensures ∙ count-different c.args.classes.now c.loop-class.class-index c.loop-class.seen (omega arith) c.loop-class.invariant

@@ -1,24 +1,25 @@
 -- p is the partition after as many rounds as were made.
-use Rattle.std.proofs.Common.{sym, ◌∙◌, arith}
-use Rattle.classes.proofs.Laws.Refined.{refined_still, refined_last}
+use Rattle.std.proofs.Common.{◌≡◌, ℕ, List, get_or, sym, ◌∙◌, ap, arith}
+use Rattle.std.specs.Cmp.Lexicographic.{same_text}
+use Rattle.finite.proofs.Laws.Below.{eq_same, all_in}
+use Rattle.bitset.specs.Set.{set_slots}
 use Rattle.partition.specs.Partition.{Refines}
 use Rattle.site.specs.Site.{site_of}
+use Rattle.classes.proofs.Laws.Refined.{refined_still, refined_last}
 use Rattle.classes.proofs.refine.Goals as goal
 
-pub loop-rounds-init : goal.loop-rounds-init
-loop-rounds-init c = (omega arith, omega arith, c.start-p.ensures, omega arith, c.of_site.ensures)
+pub loop-round-init : goal.loop-round-init
+loop-round-init c = (omega arith, c.start-p.ensures)
 
-pub round-q-requires : goal.round-q-requires
-round-q-requires c = (omega arith, c.loop-rounds.invariant.2.lowest)
+pub returns-then-eq : goal.returns-then-eq
+returns-then-eq c = let p = c.loop-round.p in
+    let e : c.round-q.result ≡ p = same_text c.round-q.result p (sym c.if-eq.true ∙ c.eq.ensures) in
+    refined_still (site_of c.args.site.now) c.loop-round._round p c.loop-round.invariant.0 c.loop-round.invariant.1 _ c.round-q.result c.of_site.ensures c.round-q.ensures
+    (all_in set_slots _ (λ s _. eq_same (ap (λ (q : List ℕ). get_or q s 0) (sym e))))
 
-pub returns-then-same_partition : goal.returns-then-same_partition
-returns-then-same_partition c = refined_still (site_of c.args.site.now) c.loop-rounds.rounds c.loop-rounds.p c.loop-rounds.invariant.1 c.loop-rounds.invariant.2 _ c.round-q.result c.loop-rounds.invariant.4 c.round-q.ensures
-    (sym c.same_partition.ensures ∙ c.if-same_partition.true)
-
-pub loop-rounds-preserved : goal.loop-rounds-preserved
+pub loop-round-preserved : goal.loop-round-preserved
 unfolding Refines
-loop-rounds-preserved c = let M = site_of c.args.site.now in
-    (omega arith, omega arith, c.round-q.ensures M c.loop-rounds.invariant.4 c.loop-rounds.rounds c.loop-rounds.invariant.2, c.loop-rounds.invariant.3, c.loop-rounds.invariant.4)
+loop-round-preserved c = let M = site_of c.args.site.now in (omega arith, c.round-q.ensures M c.of_site.ensures c.loop-round._round c.loop-round.invariant.1)
 
 pub returns : goal.returns
-returns c = refined_last (site_of c.args.site.now) c.loop-rounds.rounds c.loop-rounds.p c.loop-rounds.invariant.1 c.loop-rounds.invariant.2 (omega arith)
+returns c = refined_last (site_of c.args.site.now) c.loop-round._round c.loop-round.p c.loop-round.invariant.0 c.loop-round.invariant.1 (omega arith)
