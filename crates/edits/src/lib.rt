@@ -1,8 +1,7 @@
 // The edits on a site's bytes, in place: those of names, labels and slots, and the choice among all.
 #![tactic(auto)]
 
-ghost use Rattle.std.specs.Prelude.{◌≡◌, true, cond, ◌+◌, ◌*◌};
-ghost use Rattle.finite.specs.Tests.{same};
+ghost use Rattle.std.specs.Prelude.{◌≡◌, true, ◌+◌, ◌*◌};
 ghost use Rattle.semantics.specs.Edit.{CN1, CN2, AP, DP, AS, DS, legal, goes};
 ghost use Rattle.semantics.specs.Edit as effect;
 ghost use Rattle.site.specs.Layout.{label_at};
@@ -14,6 +13,7 @@ use bitset::SET_BYTES;
 use limits::{Below, GENERAL_LINKS, LABELS, NAMES};
 use sheet::Op;
 use site::{LABELS_AT, NAMES_AT, SITE_BYTES, Site};
+use site_changes::unless;
 
 // Name n is at slot s.
 fn put_name(site: &mut [u8; SITE_BYTES], n: Below<48>, s: u8)
@@ -66,14 +66,6 @@ fn take_labels(site: &mut [u8; SITE_BYTES], s: u8)
     }
 }
 
-// Slot p, or nil where that is slot s.
-#[tactic(auto, unfolding(finite::specs::Tests::same))]
-fn unless(p: u8, s: u8) -> u8
-    ensures { result ≡ cond (same p s) 0 p }
-{
-    if p == s { 0 } else { p }
-}
-
 // Name n is at nil where it was at slot s. Its byte is written in any case: without a branch the compiler takes many names at a time.
 fn take_name(site: &mut [u8; SITE_BYTES], n: Below<48>, s: u8)
     ensures { site_of site.new ≡ without_name (site_of site.old) n.number s }
@@ -92,7 +84,7 @@ fn take_names(site: &mut [u8; SITE_BYTES], s: u8)
 }
 
 // CN1: name n1 moves to where name n2 is.
-#[tactic(auto, using(going::proofs::Laws::Ranges::ranges, site_changes::proofs::Laws::Rows::edit_changes))]
+#[tactic(auto, using(site_changes::proofs::Laws::Rows::edit_changes))]
 fn move_to_name(site: &mut [u8; SITE_BYTES], n1: u8, n2: u8)
     requires { legal (CN1 n1 n2) ≡ true }
     ensures { site_of site.new ≡ effect.edit (CN1 n1 n2) (site_of site.old) }
@@ -102,7 +94,7 @@ fn move_to_name(site: &mut [u8; SITE_BYTES], n1: u8, n2: u8)
 }
 
 // CN2: name n1 moves to where the functional link f leads from name n2, and to nil where it leads nowhere.
-#[tactic(auto, using(going::proofs::Laws::Ranges::ranges, site_changes::proofs::Laws::Rows::edit_changes))]
+#[tactic(auto, using(site_changes::proofs::Laws::Rows::edit_changes))]
 fn move_to_target(site: &mut [u8; SITE_BYTES], n1: u8, n2: u8, f: u8)
     requires { legal (CN2 n1 n2 f) ≡ true }
     ensures { site_of site.new ≡ effect.edit (CN2 n1 n2 f) (site_of site.old) }
@@ -114,7 +106,7 @@ fn move_to_target(site: &mut [u8; SITE_BYTES], n1: u8, n2: u8, f: u8)
 }
 
 // AP: label p is put where name n is. Nil gets no label.
-#[tactic(auto, using(going::proofs::Laws::Ranges::ranges, site_changes::proofs::Laws::Rows::edit_changes))]
+#[tactic(auto, using(site_changes::proofs::Laws::Rows::edit_changes))]
 fn add_label(site: &mut [u8; SITE_BYTES], n: u8, p: u8)
     requires { legal (AP n p) ≡ true }
     ensures { site_of site.new ≡ effect.edit (AP n p) (site_of site.old) }
@@ -126,7 +118,7 @@ fn add_label(site: &mut [u8; SITE_BYTES], n: u8, p: u8)
 }
 
 // DP: label p is taken from where name n is.
-#[tactic(auto, using(going::proofs::Laws::Ranges::ranges, site_changes::proofs::Laws::Rows::edit_changes))]
+#[tactic(auto, using(site_changes::proofs::Laws::Rows::edit_changes))]
 fn delete_label(site: &mut [u8; SITE_BYTES], n: u8, p: u8)
     requires { legal (DP n p) ≡ true }
     ensures { site_of site.new ≡ effect.edit (DP n p) (site_of site.old) }
@@ -136,7 +128,7 @@ fn delete_label(site: &mut [u8; SITE_BYTES], n: u8, p: u8)
 }
 
 // AS: slot k is added, and name n moves there.
-#[tactic(auto, using(going::proofs::Laws::Ranges::ranges, site_changes::proofs::Laws::Rows::edit_changes))]
+#[tactic(auto, using(site_changes::proofs::Laws::Rows::edit_changes))]
 fn add_slot(site: &mut [u8; SITE_BYTES], n: u8, k: u8)
     requires { legal (AS n k) ≡ true }
     ensures { site_of site.new ≡ effect.edit (AS n k) (site_of site.old) }
@@ -146,7 +138,7 @@ fn add_slot(site: &mut [u8; SITE_BYTES], n: u8, k: u8)
 }
 
 // DS: the slot goes, with its labels, names and links.
-#[tactic(auto, using(going::proofs::Laws::Ranges::ranges, site_changes::proofs::Laws::Rows::edit_changes))]
+#[tactic(auto, using(site_changes::proofs::Laws::Rows::edit_changes))]
 fn delete_slot(site: &mut [u8; SITE_BYTES], n: u8)
     requires { legal (DS n) ≡ true }
     ensures { site_of site.new ≡ effect.edit (DS n) (site_of site.old) }

@@ -14,6 +14,7 @@ ghost use Rattle.site_changes.specs.Change.{with_link, without_link, without_tar
 use bitset::{SET_BYTES, SET_SLOTS};
 use limits::{Below, GENERAL_LINKS, LINKS};
 use site::{Link, ROWS_AT, ROWS_BYTES, SITE_BYTES, Site, TARGETS_AT};
+use site_changes::unless;
 
 // Where the target of slot s by the functional link f stands.
 fn target_at(f: Below<4>, s: u8) -> usize
@@ -40,7 +41,7 @@ fn put_link(site: &mut [u8; SITE_BYTES], link: Link, s: u8, t: u8)
     }
 }
 
-// The link does not lead from slot s to slot t.
+// The link does not lead from slot s to slot t. A target's byte is written in any case: without a branch the compiler takes many at a time.
 fn take_link(site: &mut [u8; SITE_BYTES], link: Link, s: u8, t: u8)
     ensures { site_of site.new ≡ without_link (site_of site.old) (link_number link) s t }
 {
@@ -48,9 +49,7 @@ fn take_link(site: &mut [u8; SITE_BYTES], link: Link, s: u8, t: u8)
         Link::General(m) => bitset::remove(site, row_at(m, s) * 8 + usize::from(t)),
         Link::Functional(f) => {
             let at = target_at(f, s);
-            if site[at] == t {
-                site[at] = 0;
-            }
+            site[at] = unless(site[at], t);
         }
     }
 }
@@ -95,7 +94,7 @@ pub fn take_links(site: &mut [u8; SITE_BYTES], s: u8)
 }
 
 // AT, where it goes through: link m is added from name n1 to name n2.
-#[tactic(auto, using(going::proofs::Laws::Ranges::ranges, going::proofs::Laws::Goes::tests, site_changes::proofs::Laws::Rows::edit_changes))]
+#[tactic(auto, using(going::proofs::Laws::Goes::tests, site_changes::proofs::Laws::Rows::edit_changes))]
 pub fn add_link(site: &mut [u8; SITE_BYTES], m: u8, n1: u8, n2: u8)
     requires legal { legal (AT m n1 n2) ≡ true }
     requires goes { goes (AT m n1 n2) (site_of site.old) ≡ true }
@@ -108,7 +107,7 @@ pub fn add_link(site: &mut [u8; SITE_BYTES], m: u8, n1: u8, n2: u8)
 }
 
 // DT1: link m is deleted from name n1 to name n2.
-#[tactic(auto, using(going::proofs::Laws::Ranges::ranges, going::proofs::Laws::Goes::tests, site_changes::proofs::Laws::Rows::edit_changes))]
+#[tactic(auto, using(site_changes::proofs::Laws::Rows::edit_changes))]
 pub fn delete_link(site: &mut [u8; SITE_BYTES], m: u8, n1: u8, n2: u8)
     requires { legal (DT1 m n1 n2) ≡ true }
     ensures { site_of site.new ≡ edit (DT1 m n1 n2) (site_of site.old) }
@@ -120,7 +119,7 @@ pub fn delete_link(site: &mut [u8; SITE_BYTES], m: u8, n1: u8, n2: u8)
 }
 
 // DT2: the functional link f is deleted from name n.
-#[tactic(auto, using(going::proofs::Laws::Ranges::ranges, going::proofs::Laws::Goes::tests, site_changes::proofs::Laws::Rows::edit_changes))]
+#[tactic(auto, using(site_changes::proofs::Laws::Rows::edit_changes))]
 pub fn delete_target(site: &mut [u8; SITE_BYTES], f: u8, n: u8)
     requires { legal (DT2 f n) ≡ true }
     ensures { site_of site.new ≡ edit (DT2 f n) (site_of site.old) }
@@ -130,7 +129,7 @@ pub fn delete_target(site: &mut [u8; SITE_BYTES], f: u8, n: u8)
 }
 
 // RT, where it goes through: the functional link f leads from name n1 to name n2, wherever it led before.
-#[tactic(auto, using(going::proofs::Laws::Ranges::ranges, going::proofs::Laws::Goes::tests, site_changes::proofs::Laws::Rows::edit_changes))]
+#[tactic(auto, using(site_changes::proofs::Laws::Rows::edit_changes))]
 pub fn replace_target(site: &mut [u8; SITE_BYTES], f: u8, n1: u8, n2: u8)
     requires legal { legal (RT f n1 n2) ≡ true }
     requires goes { goes (RT f n1 n2) (site_of site.old) ≡ true }

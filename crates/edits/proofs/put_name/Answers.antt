@@ -1,5 +1,5 @@
 -- A name's byte.
-use Rattle.std.proofs.Common.{◌∙◌, ◌+◌, ap, arith}
+use Rattle.std.proofs.Common.{◌∙◌, ap}
 use Rattle.site.specs.Site.{site_of}
 use Rattle.site_changes.specs.Change.{with_name}
 use Rattle.site_changes.proofs.Laws.Bytes.{name_put}

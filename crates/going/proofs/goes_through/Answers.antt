@@ -1,5 +1,5 @@
 -- DS has a test of its own; six edits always go through.
-use Rattle.std.proofs.Common.{◌∙◌, ap, arith}
+use Rattle.std.proofs.Common.{arith}
 use Rattle.finite.specs.Tests.{same}
 use Rattle.semantics.specs.Edit.{goes}
 use Rattle.site.specs.Site.{site_of}

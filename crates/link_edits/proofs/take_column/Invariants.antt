@@ -1,6 +1,5 @@
 -- The link does not lead from the slots below the loop's to the slot.
-use Rattle.std.proofs.Common.{◌≡◌, ◌≤◌, length}
-use Rattle.bitset.specs.Set.{set_slots}
+use Rattle.std.proofs.Common.{◌≡◌}
 use Rattle.site.specs.Site.{site_of}
 use Rattle.site.specs.Ways.{link_number}
 use Rattle.site_changes.specs.Change.{column_to}

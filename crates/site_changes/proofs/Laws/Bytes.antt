@@ -1,7 +1,7 @@
 -- The changes, byte by byte: what a site's bytes say after one was set, or one slot put in or taken out.
 use Rattle.std.specs.Prelude.{◌≡◌, refl, ◌⊎◌, ◌≢◌, ◌&&◌, List, length, replicate, get_or, set, Bool, true, false, not, ◌||◌, cond, ℕ, ◌+◌, ◌*◌, ◌/◌, ◌%◌, ◌≤◌, ◌<◌}
 use Rattle.std.proofs.Common.{◌∙◌, inl, inr, get_or-set_same, get_or-set_other, sym, ap, ap₂, arith}
-use Rattle.std.proofs.lemmas.List.{length-replicate, get_or-replicate}
+use Rattle.std.proofs.lemmas.List.{length-replicate, get_or-replicate, set-get_or}
 use Rattle.std.proofs.Math.Bool.{and-true, and-false}
 use Rattle.std.proofs.Math.Decide.{dec_lt}
 use Rattle.finite.specs.Tests.{same, bit}
@@ -325,6 +325,17 @@ module _ (S : List ℕ) (f x : ℕ) (len : length S ≡ site_bytes) (hg : genera
           let e : (site_of S).link f x t ≡ true = ap₂ (λ (a b : ℕ). (site_of S).link a b t) (sym (same_eq q)) (sym d) ∙ p in
           w ((leads t e).0 ∙ same_eq (and_r (same s x) (same t y) b)))))
           (λ q. cond_no ((site_of S).link l s t && not (same s x && same t y)) ((site_of S).link l s t) q ∙ p)
+
+  -- the target becomes nil where it is y
+  pub link_unless : (y : ℕ) {v : ℕ} → v ≡ cond (same (get_or S (target_at f x) 0) y) 0 (get_or S (target_at f x) 0) → {S' : List ℕ} → S' ≡ set S (target_at f x) v
+      → site_of S' ≡ without_link (site_of S) f x y
+  link_unless y e c =
+      let a : ℕ = target_at f x in
+      let b : ℕ = get_or S a 0 in
+      either
+      (equal? b y)
+      (λ q. link_taken y q (c ∙ ap (set S a) (e ∙ cond_yes 0 b (eq_same q))))
+      (λ n. ap site_of (c ∙ ap (set S a) (e ∙ cond_no 0 b (ne_same n)) ∙ set-get_or S a 0) ∙ link_other y n)
 
   -- there is no target, or it is y: it becomes y
   pub link_put : (y : ℕ) → y < slots → get_or S (target_at f x) 0 < slots → joins (site_of S) f x y ≡ true

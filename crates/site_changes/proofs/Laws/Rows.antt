@@ -7,6 +7,7 @@ use Rattle.finite.proofs.Laws.Bools.{either, look}
 use Rattle.finite.proofs.Laws.Below.{same_eq, ne_same}
 use Rattle.semantics.specs.Holds.{Model}
 use Rattle.semantics.specs.Edit.{CN1, CN2, AP, DP, AT, DT1, DT2, AS, DS, RT, target, edit}
+use Rattle.going.proofs.Laws.Ranges.{ranges}
 use Rattle.site_changes.specs.Change.{with_name, with_slot, without_slot, with_label, without_label, with_link, without_link, with_target, without_target, without_labels, without_names, without_links}
 use Rattle.site_changes.proofs.Laws.Cases.{cond_same}
 use Rattle.site_changes.proofs.Laws.Loops.{marked_only}
@@ -71,5 +72,5 @@ row_AP_nil M n p e nil =
 pub edit-AP_nil : (M : Model) (n p : ℕ) → M.place n ≡ 0 → edit (AP n p) M ≡ M
 edit-AP_nil M n p nil = sym (row_AP_nil M n p refl nil)
 
--- each edit as its changes
-pub ruleset edit_changes = (edit-CN1, edit-CN2, edit-AP, edit-AP_nil, edit-DP, edit-AT, edit-DT1, edit-DT2, edit-AS, edit-DS, edit-RT)
+-- each edit as its changes, and the ranges of its operands
+pub ruleset edit_changes = (ranges, edit-CN1, edit-CN2, edit-AP, edit-AP_nil, edit-DP, edit-AT, edit-DT1, edit-DT2, edit-AS, edit-DS, edit-RT)
