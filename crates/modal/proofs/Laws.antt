@@ -1,4 +1,3 @@
 -- Laws of diamonds and boxes on sets, by topic.
 pub mod Gather
-pub mod Links
 pub mod Modal

@@ -1,129 +1,85 @@
--- A loop over the slots that gathers a set: a slot is in the set exactly if some pass of the loop put it in.
-use Rattle.std.specs.Prelude.{◌≡◌, ◌≢◌, Bool, true, false, ◌&&◌, ◌||◌, List, ℕ, zero, suc, ◌+◌, ◌-◌, ◌*◌, ◌/◌, ◌^◌, ◌≤◌, ◌<◌, length, get_or, replicate}
-use Rattle.std.proofs.Common.{◌∙◌, add-one, sym, ap, arith}
-use Rattle.std.proofs.Math.Bool.{and-true, and-false, or-false, or_comm, or_assoc}
-use Rattle.std.proofs.Math.Nat.{pow-succ', div-div-eq-div-mul}
-use Rattle.std.proofs.Math.ListN.{length-replicate}
-use Rattle.finite.specs.Tests.{bit, same, below, any}
-use Rattle.finite.proofs.Laws.Bools.{either, look, clash, and_r, or_l, or_r, or_out, both}
-use Rattle.finite.proofs.Laws.Below.{equal?, same_refl, ne_same, below_out, not-below, any_in, any_out, none_any}
-use Rattle.finite.proofs.Laws.Bits.{bit-suc}
-use Rattle.finite.proofs.Laws.Weights.{bit-zero}
-use Rattle.bitset.specs.Set.{set_bytes, set_slots, has, Is}
-use Rattle.bitset.proofs.Laws.Bytes.{has_byte, has_empty}
+-- Loops that gather a set: over all slots in turn, or over the slots of a set.
+use Rattle.std.specs.Prelude.{◌≡◌, refl, Bool, true, false, not, ◌&&◌, ◌||◌, Some, List, ℕ, ◌+◌, ◌≤◌, ◌<◌}
+use Rattle.std.proofs.Common.{◌∙◌, sym, ap, arith}
+use Rattle.std.proofs.Math.Bool.{and-true, and-false, or-false, or_assoc}
+use Rattle.finite.specs.Tests.{same, below, any, first}
+use Rattle.finite.proofs.Laws.Bools.{either, look, and_in, and_l, and_r, or_l, or_r, or_out, both}
+use Rattle.finite.proofs.Laws.Below.{equal?, same_refl, ne_same, below_in, below_out, below-not, any_in, any_out, any_none, none_any}
+use Rattle.finite.proofs.Laws.First.{first-none, first_in}
+use Rattle.bitset.specs.Set.{set_slots, has, Is, Next}
 use Rattle.limits.specs.Limits.{slots}
 
--- R has the slots that the first i passes put in; pass k puts in those of f k
-pub record Gathered (f : ℕ → ℕ → Bool) (R : List ℕ) (i : ℕ) : Type 0 where
-  pub long : length R ≡ set_bytes
-  pub upto : i ≤ set_slots
-  pub holds : Is R (λ s. any i (λ k. f k s))
+-- R has those of the slots below i that p says
+pub record Chosen (p : ℕ → Bool) (R : List ℕ) (i : ℕ) : Type 0 where
+  pub holds : Is R (λ s. below s i && p s)
 
-module _ (f : ℕ → ℕ → Bool) where
-  pub gather_none : Gathered f (replicate set_bytes 0) 0
-  unfolding any
-  gather_none = record { long = length-replicate {A = ℕ} set_bytes 0; upto = omega arith; holds = has_empty }
+module _ {p : ℕ → Bool} where
+  pub chosen_none : {R : List ℕ} → Is R (λ s. false) → Chosen p R 0
+  chosen_none e = record { holds = λ s h. e s h ∙ sym (rw (below-not s 0 (omega arith)) refl) }
 
-  pub gather_more : (R R' : List ℕ) (i : ℕ) → Gathered f R i → i < set_slots → length R' ≡ set_bytes → Is R' (λ s. has R s || f i s)
-      → Gathered f R' (i + 1)
-  unfolding any
-  gather_more R R' i g h l e = record {
-    long = l;
-    upto = omega arith;
-    holds = λ s hs. rw (add-one i) (e s hs ∙ rw (g.holds s hs) (or_comm (any i (λ k. f k s)) (f i s)));
-  }
+  chosen_more : {R R' : List ℕ} {i : ℕ} → Chosen p R i → Is R' (λ s. has R s || (same s i && p i)) → Chosen p R' (i + 1)
+  chosen_more {R} {i = i} g m = record { holds = λ s h. m s h ∙ ap (λ (b : Bool). b || (same s i && p i)) (g.holds s h) ∙ more s }
+    where
+      more : (s : ℕ) → ((below s i && p s) || (same s i && p i)) ≡ (below s (i + 1) && p s)
+      more s = either (equal? s i)
+          (λ q. rw (q, same_refl i, below-not i i (omega arith), below_in i (i + 1) (omega arith)) refl)
+          (λ q. rw (ne_same q, or-false (below s i && p s)) (ap (λ (b : Bool). b && p s) (both
+          (λ b. let l = below_out s i b in below_in s (i + 1) (omega arith))
+          (λ b. let l = below_out s (i + 1) b in below_in s i (omega arith)))))
 
-  pub gather_done : (R : List ℕ) (i : ℕ) → Gathered f R i → set_slots ≤ i → Is R (λ s. any slots (λ k. f k s))
-  unfolding slots
-  gather_done R i g h s hs = rw (let e : set_slots ≡ i = omega arith in e) (g.holds s hs)
+  -- slot i, which is v in the call that puts it in
+  pub chosen_in : {R R' R'' : List ℕ} {i : ℕ} → Chosen p R i → {a : Bool} → a ≡ p i → a ≡ true → {v : ℕ} → v ≡ i → Is R' (λ s. has R s || same s v)
+      → R'' ≡ R' → Chosen p R'' (i + 1)
+  chosen_in {R} {i = i} g e y q m z = rw z (chosen_more g (λ s h. m s h ∙ rw (q, sym e ∙ y) (ap (◌||◌ (has R s)) (sym (and-true (same s i))))))
 
--- R' has the slots of R and those that the first i passes put in
-abbrev pub Adds : (ℕ → ℕ → Bool) → List ℕ → List ℕ → ℕ → Type 0
-Adds f R R' i = Is R' (λ s. has R s || any i (λ k. f k s))
+  pub chosen_out : {R R' : List ℕ} {i : ℕ} → Chosen p R i → {a : Bool} → a ≡ p i → a ≡ false → R' ≡ R → Chosen p R' (i + 1)
+  chosen_out {R} {i = i} g e y z = rw z (chosen_more g (λ s h. rw (sym e ∙ y, and-false (same s i)) (sym (or-false (has R s)))))
 
--- some number below i + n passes: one below i, or one of the n from there on
-any_parts : (i n : ℕ) (f : ℕ → Bool) → (any i f || any n (λ k. f (i + k))) ≡ any (i + n) f
-any_parts i n f = both
-    (λ e. either
-    (or_out (any i f) _ e)
-    (λ p. let t = any_out i f p in any_in (i + n) f t.0 (omega (arith, t.1)) t.2)
-    (λ p. let t = any_out n _ p in any_in (i + n) f (i + t.0) (omega (arith, t.1)) t.2))
-    (λ e.
-    let t = any_out (i + n) f e in
-    either
-    (look (below t.0 i))
-    (λ b. or_l _ _ (any_in i f t.0 (below_out t.0 i b) t.2))
-    (λ b.
-    let l = not-below t.0 i b in
-    let q : t.0 ≡ i + (t.0 - i) = omega arith in
-    or_r (any i f) _ (any_in n _ (t.0 - i) (omega (arith, t.1)) (rw (← q) t.2))))
+  pub chosen_done : {R : List ℕ} {i : ℕ} → Chosen p R i → set_slots ≤ i → Is R p
+  chosen_done {i = i} g l s h = g.holds s h ∙ rw (below_in s i (omega arith)) refl
 
-module _ (f : ℕ → ℕ → Bool) where
-  pub adds_none : (R : List ℕ) → Adds f R R 0
-  unfolding any
-  adds_none R s h = sym (or-false (has R s))
+-- the lowest number that passes does pass
+pub lowest_passes : (n : ℕ) (f : ℕ → Bool) (t : ℕ) → t < n → t ≡ first n f → f t ≡ true
+lowest_passes n f t h e =
+    let some : any n f ≡ true = either (look (any n f)) (λ q. q) (λ q. absurd (omega (arith, e, first-none n f q))) in
+    ap f e ∙ (first_in n f some).1
 
-  pub adds_more : (R R' R'' : List ℕ) (i : ℕ) → Adds f R R' i → Is R'' (λ s. has R' s || f i s) → Adds f R R'' (i + 1)
-  unfolding any
-  adds_more R R' R'' i a e s h =
-      rw (add-one i)
-      (e s h ∙ rw (a s h) (or_assoc (has R s) (any i (λ k. f k s)) (f i s) ∙ ap (λ (x : Bool). has R s || x) (or_comm (any i (λ k. f k s)) (f i s))))
+-- of what the slots t of T put in, f t each, R has all but what those of `left` do
+pub record Gathered (f : ℕ → ℕ → Bool) (T left R : List ℕ) : Type 0 where
+  pub rest : (s : ℕ) → s < set_slots → (has R s || any set_slots (λ t. f t s && has left t)) ≡ any set_slots (λ t. f t s && has T t)
 
-  -- the eight passes for the slots of byte i
-  pub gather_byte : (R R' : List ℕ) (i : ℕ) → Gathered f R (i * 8) → i < set_bytes → length R' ≡ set_bytes → Adds (λ k. f (i * 8 + k)) R R' 8
-      → Gathered f R' ((i + 1) * 8)
-  gather_byte R R' i g h l e = record {
-    long = l;
-    upto = omega arith;
-    holds = λ s hs.
-        let q : (i + 1) * 8 ≡ i * 8 + 8 = omega arith in
-        rw q (e s hs ∙ rw (g.holds s hs) (any_parts (i * 8) 8 (λ k. f k s)));
-  }
+module _ {f : ℕ → ℕ → Bool} {T : List ℕ} where
+  pub gathered_none : {R : List ℕ} → Is R (λ s. false) → Gathered f T T R
+  gathered_none e = record { rest = λ s h. rw (e s h) refl }
 
--- a byte that is 0 when it is shifted down by j has no slot from there on
-shifted_out : (j k v : ℕ) → v / 2 ^ j ≡ 0 → j ≤ k → bit v k ≡ false
-shifted_out zero k v e h = rw (let z : v ≡ 0 = omega arith in z) (bit-zero k)
-shifted_out (suc j) zero v e h = absurd (omega arith)
-shifted_out (suc j) (suc k) v e h =
-    bit-suc v k ∙ shifted_out j k (v / 2) (div-div-eq-div-mul v 2 (2 ^ j) ∙ rw (← (pow-succ' 2 j)) e) (omega arith)
+  module _ {left R : List ℕ} (g : Gathered f T left R) where
+    pub gathered_more : {left' R' : List ℕ} {t : ℕ} → Next set_slots left (Some t) left' → Is R' (λ s. has R s || f t s) → Gathered f T left' R'
+    gathered_more {left'} {R'} {t} n m = record {
+      rest = λ s h.
+          ap (λ (b : Bool). b || any set_slots (λ u. f u s && has left' u)) (m s h)
+          ∙ or_assoc (has R s) (f t s) _ ∙ ap (◌||◌ (has R s)) (parts s) ∙ g.rest s h;
+    }
+      where
+        parts : (s : ℕ) → (f t s || any set_slots (λ u. f u s && has left' u)) ≡ any set_slots (λ u. f u s && has left u)
+        parts s = both
+            (λ p. either (or_out (f t s) _ p)
+            (λ q. any_in set_slots _ t n.0 (and_in q (lowest_passes set_slots (has left) t n.0 n.1)))
+            (λ q.
+            let r = any_out set_slots _ q in
+            any_in set_slots _ r.0 r.1
+            (and_in (and_l (f r.0 s) (has left' r.0) r.2)
+            (and_l (has left r.0) (not (same r.0 t)) (sym (n.2 r.0 r.1) ∙ and_r (f r.0 s) (has left' r.0) r.2)))))
+            (λ p.
+            let r = any_out set_slots _ p in
+            let passes : f r.0 s ≡ true = and_l (f r.0 s) (has left r.0) r.2 in
+            either (equal? r.0 t)
+            (λ q. or_l (f t s) _ (rw q at passes))
+            (λ q.
+            or_r (f t s) _ (any_in set_slots _ r.0 r.1
+            (and_in passes (n.2 r.0 r.1 ∙ and_in (and_r (f r.0 s) (has left r.0) r.2) (ap not (ne_same q)))))))
 
--- a byte that is not 0 when it is shifted down by j has a slot from there on
-pub slot_left : (v j : ℕ) → v < 256 → j ≤ 8 → v / 2 ^ j ≢ 0 → j < 8
-slot_left v j h l n = either (equal? j 8) (λ q. absurd (n (rw q (let z : v / 256 ≡ 0 = omega arith in z)))) (λ q. omega arith)
-
--- where the byte i is v, and v shifted down by j is 0, the first j passes put in all that its eight slots do
-pub byte_done : (f : ℕ → ℕ → Bool) (T R R' : List ℕ) (i v j : ℕ) → v ≡ get_or T i 0 → Adds (λ k s. f (i * 8 + k) s && has T (i * 8 + k)) R R' j → j ≤ 8
-    → v / 2 ^ j ≡ 0 → Adds (λ k s. f (i * 8 + k) s && has T (i * 8 + k)) R R' 8
-byte_done f T R R' i v j q a l e s h = a s h ∙ ap (λ (x : Bool). has R s || x) (both
-    (λ p. let t = any_out j _ p in any_in 8 _ t.0 (omega (arith, t.1)) t.2)
-    (λ p.
-    let t = any_out 8 _ p in
-    either
-    (look (below t.0 j))
-    (λ b. any_in j _ t.0 (below_out t.0 j b) t.2)
-    (λ b.
-    let out : has T (i * 8 + t.0) ≡ false = has_byte T i t.0 t.1 ∙ rw (← q) (shifted_out j t.0 v e (not-below t.0 j b)) in
-    clash (and_r (f (i * 8 + t.0) s) _ t.2) out)))
-
--- a pass puts in the slots of f where a slot is in the set, and none where it is not
-pub puts_if_in : (R R' : List ℕ) (f : ℕ → Bool) (a : Bool) → a ≡ true → Is R' (λ s. has R s || f s) → Is R' (λ s. has R s || (f s && a))
-puts_if_in R R' f a e i s h = rw (e, and-true (f s)) (i s h)
-
-pub puts_none_if_out : (R : List ℕ) (f : ℕ → Bool) (a : Bool) → a ≡ false → Is R (λ s. has R s || (f s && a))
-puts_none_if_out R f a e s h = rw (e, and-false (f s)) (sym (or-false (has R s)))
-
--- where all numbers but v fail, v decides
-pub any_only : (n : ℕ) (f : ℕ → Bool) (v : ℕ) → v < n → ((t : ℕ) → t ≢ v → f t ≡ false) → any n f ≡ f v
-any_only n f v hv h =
-    either
-    (look (f v))
-    (λ e. any_in n f v hv e ∙ sym e)
-    (λ e. none_any n f (λ t l. either (equal? t v) (λ q. rw q e) (h t)) ∙ sym e)
-
--- where pass k puts in slot k alone, and only if k passes p
-pub gather_each : (p : ℕ → Bool) (R : List ℕ) (i : ℕ) → Gathered (λ k s. same s k && p k) R i → set_slots ≤ i → Is R p
-unfolding slots
-gather_each p R i g h s hs =
-    gather_done _ R i g h s hs
-    ∙ any_only slots (λ k. same s k && p k) s hs (λ k n. rw (ne_same (λ q. n (sym q))))
-    ∙ rw (same_refl s)
+    pub gathered_done : any set_slots (has left) ≡ false → Is R (λ s. any slots (λ t. f t s && has T t))
+    unfolding slots
+    gathered_done e s h =
+        let none : any set_slots (λ t. f t s && has left t) ≡ false = none_any set_slots _ (λ t l. rw (any_none set_slots (has left) e t l) (and-false (f t s))) in
+        sym (ap (◌||◌ (has R s)) none ∙ or-false (has R s)) ∙ g.rest s h

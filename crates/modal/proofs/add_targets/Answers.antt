@@ -1,14 +1,24 @@
--- A general link by the row of slot t, a functional one by its target.
-use Rattle.std.proofs.Common.{◌+◌, ◌-◌, arith}
-use Rattle.bitset.specs.Set.{set_bytes}
-use Rattle.modal.proofs.Laws.Links.{row_added, none_added, target_added}
+-- A functional link leads to its target, or nowhere.
+use Rattle.std.proofs.Common.{◌∙◌, sym, ap, ◌||◌, ◌+◌, arith}
+use Rattle.std.proofs.Math.Bool.{or-false}
+use Rattle.bitset.specs.Set.{has}
+use Rattle.finite.specs.Tests.{same}
+use Rattle.limits.specs.Limits.{general_links}
+use Rattle.site.proofs.Laws.Links.{target_nowhere, target_alone}
 use Rattle.modal.proofs.add_targets.Goals as goal
 
-pub returns-then-m-lt-GENERAL_LINKS : goal.returns-then-m-lt-GENERAL_LINKS
-returns-then-m-lt-GENERAL_LINKS c = row_added c.args.site.now _ _ c.requires.1.1.0 c.if-m-lt-GENERAL_LINKS.true c.row_at-b.result (c.row_at-b.result + set_bytes - c.row_at-b.result) c.row_at-b.ensures (omega arith) c.args.found.now _ c.union_with.ensures
+pub returns-in-Some : goal.returns-in-Some
+returns-in-Some c = λ s h.
+    rw c.in-Functional.is
+    (c.insert.ensures s h
+    ∙ ap (◌||◌ (has c.args.found.now s))
+    (ap (same s) c.from.ensures
+    ∙ sym (target_alone c.args.site.now (general_links + c.in-Functional.f.number) c.args.t c.ranges.t.fits (omega arith) (omega (arith, c.in-Functional.f.within)) c.in-Some.s c.in-Some.ensures.byte c.in-Some.ensures.some s h)))
 
-pub returns-then-s-eq0 : goal.returns-then-s-eq0
-returns-then-s-eq0 c = none_added c.args.site.now _ _ c.requires.1.1.0 c.if-m-lt-GENERAL_LINKS.false c.requires.1.0 _ c.target-s.ensures.1.0 c.args.found.now c.if-s-eq0.true
-
-pub returns : goal.returns
-returns c = target_added c.args.site.now _ _ c.requires.1.1.0 c.if-m-lt-GENERAL_LINKS.false c.requires.1.0 _ c.target-s.ensures.1.0 c.args.found.now _ c.requires.1.1.1 c.target-s.ensures.1.1 c.if-s-eq0.false c.insert.ensures
+pub returns-in-None : goal.returns-in-None
+returns-in-None c = λ s h.
+    rw c.in-Functional.is
+    (sym
+    (ap (◌||◌ (has c.args.found.now s))
+    (target_nowhere c.args.site.now (general_links + c.in-Functional.f.number) c.args.t c.ranges.t.fits (omega arith) (omega (arith, c.in-Functional.f.within)) 0 c.in-None.ensures.byte (λ i. 0) s h)
+    ∙ or-false (has c.args.found.now s)))

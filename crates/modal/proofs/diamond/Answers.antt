@@ -1,13 +1,21 @@
 -- By the way: along a link, against it, or everywhere.
-use Rattle.modal.proofs.Laws.Modal.{diamond_along, diamond_against, diamond_every}
-use Rattle.site.specs.Site.{site_of}
+use Rattle.std.proofs.Common.{◌∙◌, sym, true, false}
+use Rattle.semantics.specs.Holds.{step}
+use Rattle.modal.proofs.Laws.Modal.{from_everywhere}
 use Rattle.modal.proofs.diamond.Goals as goal
 
-pub returns-then-w-lt-LINKS : goal.returns-then-w-lt-LINKS
-returns-then-w-lt-LINKS c = diamond_along (site_of c.args.site.now) _ _ c.args.way c.if-w-lt-LINKS.true c.preimage.ensures
+pub returns-in-Along : goal.returns-in-Along
+unfolding step
+returns-in-Along c = rw c.in-Along.is c.preimage.ensures
 
-pub returns-then-w : goal.returns-then-w
-returns-then-w c = diamond_against (site_of c.args.site.now) _ _ c.args.way c.if-w-lt-LINKS.false c.if-w.true c.image.ensures
+pub returns-in-Against : goal.returns-in-Against
+unfolding step
+returns-in-Against c = rw c.in-Against.is c.image.ensures
 
-pub returns : goal.returns
-returns c = diamond_every (site_of c.args.site.now) _ _ c.args.way c.if-w.false c.everywhere.ensures
+pub returns-in-Everywhere : goal.returns-in-Everywhere
+unfolding step
+returns-in-Everywhere c = rw c.in-Everywhere.is (from_everywhere c.args.set.now _ true (sym c.if-is_empty.true ∙ c.is_empty.ensures) c.empty.ensures)
+
+pub returns-in-Everywhere-2 : goal.returns-in-Everywhere-2
+unfolding step
+returns-in-Everywhere-2 c = rw c.in-Everywhere-2.is (from_everywhere c.args.set.now _ false (sym c.if-is_empty.false ∙ c.is_empty.ensures) c.full.ensures)

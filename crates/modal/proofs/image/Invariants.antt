@@ -1,9 +1,8 @@
--- Pass i adds the targets of the slots of byte i that are in the set.
-use Rattle.std.proofs.Common.{◌&&◌, ◌*◌}
-use Rattle.bitset.specs.Set.{has}
-use Rattle.modal.proofs.Laws.Gather.{Gathered}
+-- The slots that those of the set lead to are put in, but for what those do that are left.
 use Rattle.site.specs.Site.{site_of}
+use Rattle.site.specs.Ways.{link_number}
+use Rattle.modal.proofs.Laws.Gather.{Gathered}
 use Rattle.modal.proofs.image.Given as goal
 
-abbrev pub invariant-loop-i : goal.invariant-loop-i
-invariant-loop-i l = Gathered (λ k s. (site_of l.site).link l.m k s && has l.set k) l.found (l.i * 8)
+abbrev pub invariant-loop-t : goal.invariant-loop-t
+invariant-loop-t l = Gathered ((site_of l.site).link (link_number l.link)) l.set l.t-iterator.left l.found

@@ -1,13 +1,22 @@
--- Pass k puts slot k in if link m leads from it into the set.
+-- A round puts slot s in if the link leads from it into the set.
 use Rattle.std.proofs.Common.{arith}
-use Rattle.modal.proofs.Laws.Gather.{gather_none, gather_more, gather_each}
+use Rattle.modal.proofs.Laws.Gather.{chosen_none, chosen_in, chosen_out, chosen_done}
+use Rattle.modal.proofs.preimage.Goals.{then-leads, else-leads}
 use Rattle.modal.proofs.preimage.Goals as goal
 
 pub loop-s-init : goal.loop-s-init
-loop-s-init c = gather_none _
+loop-s-init c = chosen_none c.empty-found.ensures
 
 pub loop-s-preserved : goal.loop-s-preserved
-loop-s-preserved c = gather_more _ c.loop-s.found _ c.loop-s.s c.loop-s.invariant c.loop-s-test.true (omega arith) (rw c.leads_into-leads.ensures at c.put_if.ensures)
+loop-s-preserved c =
+    elim c.if-leads.branch [
+      | then-leads w ↦ chosen_in c.loop-s.invariant c.leads.ensures w.if-leads.true w.from.ensures w.insert.ensures w.found-is
+      | else-leads w ↦ chosen_out c.loop-s.invariant c.leads.ensures w.if-leads.false w.found-is
+    ]
 
-pub returns : goal.returns
-returns c = gather_each _ _ _ c.loop-s.invariant c.loop-s-test.false
+pub returns-after-leads : goal.returns-after-leads
+returns-after-leads c =
+    elim c.if-leads.branch [
+      | then-leads w ↦ chosen_done (chosen_in c.loop-s.invariant c.leads.ensures w.if-leads.true w.from.ensures w.insert.ensures w.found-is) (omega arith)
+      | else-leads w ↦ chosen_done (chosen_out c.loop-s.invariant c.leads.ensures w.if-leads.false w.found-is) (omega arith)
+    ]

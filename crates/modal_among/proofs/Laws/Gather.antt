@@ -1,84 +1,49 @@
--- What one slot adds, what all slots of a set add, and the ways.
-use Rattle.std.specs.Prelude.{◌≡◌, ◌≢◌, Bool, true, false, ◌&&◌, ◌||◌, List, ℕ, ◌+◌, ◌-◌, ◌*◌, ◌≤◌, ◌<◌, drop, replicate}
-use Rattle.std.proofs.Common.{◌∙◌, sym, ap, arith}
-use Rattle.std.proofs.Math.Bool.{and_comm}
-use Rattle.finite.specs.Tests.{bit, same, any, first}
-use Rattle.finite.specs.Bytes.{Bytes}
-use Rattle.finite.proofs.Laws.Bools.{either, look}
-use Rattle.finite.proofs.Laws.Below.{same_refl, ne_same, below_in, below-not, any_cong}
-use Rattle.finite.proofs.Laws.First.{first-none, first_past}
-use Rattle.words.specs.Word.{word}
-use Rattle.bitset.specs.Set.{set_bytes, set_slots, has, Is}
-use Rattle.bitset.proofs.Laws.Bytes.{has_empty}
-use Rattle.bitset.proofs.Laws.Words.{has_word}
-use Rattle.limits.specs.Limits.{slots, links, every_way}
-use Rattle.semantics.specs.Holds.{Model, step}
-use Rattle.semantics.specs.Table.{way_of}
-use Rattle.semantics.proofs.Laws.Ways.{way_along, way_against}
-use Rattle.modal.proofs.Laws.Gather.{any_only}
-use Rattle.modal_among.specs.Among.{Among, passes}
+-- From slot to slot of a pool, those that lead on are put in; or they are found among all, and met with the pool.
+use Rattle.std.specs.Prelude.{◌≡◌, ◌≢◌, refl, Bool, true, false, ◌&&◌, ◌||◌, Some, List, ℕ, ◌<◌}
+use Rattle.std.proofs.Common.{◌∙◌, sym, ap}
+use Rattle.std.proofs.Math.Bool.{and_comm, and-true, and-false, or-true, or-false}
+use Rattle.finite.specs.Tests.{same, any}
+use Rattle.finite.proofs.Laws.Bools.{either}
+use Rattle.finite.proofs.Laws.Below.{equal?, same_refl, ne_same, any_none}
+use Rattle.bitset.specs.Set.{set_slots, has, Is, Next}
+use Rattle.modal.proofs.Laws.Gather.{lowest_passes}
 
--- put into no slots
-pub into-none : (f : ℕ → Bool) (R : List ℕ) → Is R (λ t. has (replicate set_bytes 0) t || f t) → Is R f
-into-none f R i t h = i t h ∙ ap (λ (x : Bool). x || f t) (has_empty t h)
+-- of the slots of the pool that p says, R has all but those that are left
+pub record Passed (p : ℕ → Bool) (pool left R : List ℕ) : Type 0 where
+  pub rest : (s : ℕ) → s < set_slots → (has R s || (has left s && p s)) ≡ (has pool s && p s)
 
--- `row` met with the set, and b its lowest slot
-module _ (row set both : List ℕ) (f : ℕ → Bool) (e : Is row f) (m : Is both (λ t. has row t && has set t)) {b : ℕ} (l : b ≡ first set_slots (has both)) where
-  met : any slots (has both) ≡ any slots (λ t. f t && has set t)
-  unfolding slots
-  met = any_cong slots _ _ (λ t h. m t h ∙ ap (λ (x : Bool). x && has set t) (e t h))
+module _ {p : ℕ → Bool} {pool : List ℕ} where
+  pub passed_none : {R : List ℕ} → Is R (λ s. false) → Passed p pool pool R
+  passed_none e = record { rest = λ s h. rw (e s h) refl }
 
-  pub meets-not : b ≡ set_slots → any slots (λ t. f t && has set t) ≡ false
-  unfolding slots
-  meets-not z = sym met ∙ first_past slots (has both) (omega (arith, l))
+  module _ {left R : List ℕ} (g : Passed p pool left R) where
+    module _ (left' : List ℕ) (t : ℕ) (n : Next set_slots left (Some t) left') {a : Bool} (e : a ≡ p t) where
+      is_left : has left t ≡ true
+      is_left = lowest_passes set_slots (has left) t n.0 n.1
 
-  pub meets : b ≢ set_slots → any slots (λ t. f t && has set t) ≡ true
-  unfolding slots
-  meets n = sym met ∙ either (look (any slots (has both))) (λ q. q) (λ q. absurd (n (l ∙ first-none slots (has both) q)))
+      taken : has left' t ≡ false
+      taken = n.2 t n.0 ∙ rw (same_refl t) (and-false (has left t))
 
--- what slot s adds, by the way
-module _ (M : Model) (way : ℕ) (set : List ℕ) (s : ℕ) (R R' : List ℕ) where
-  pub passes_along : way < links → Is R' (λ k. has R k || (same k s && any slots (λ t. M.link way s t && has set t)))
-      → Is R' (λ k. has R k || passes M way set s k)
-  unfolding passes
-  passes_along h i k d = rw (below_in way links h) (i k d)
+      others : (s : ℕ) → s < set_slots → s ≢ t → has left' s ≡ has left s
+      others s h q = n.2 s h ∙ rw (ne_same q) (and-true (has left s))
 
-  pub passes_against : links ≤ way → (row : List ℕ) → Is row (λ k. M.link (way - links) s k) → Is R' (λ k. has R k || has row k)
-      → Is R' (λ k. has R k || passes M way set s k)
-  unfolding passes
-  passes_against h row r i k d = rw (below-not way links h) (i k d ∙ ap (◌||◌ (has R k)) (r k d))
+      pub passed_in : a ≡ true → {R' : List ℕ} → Is R' (λ s. has R s || same s t) → Passed p pool left' R'
+      passed_in y m = record {
+        rest = λ s h. either (equal? s t)
+            (λ q. rw (q, m t n.0, same_refl t, or-true (has R t)) (sym (sym (g.rest t n.0) ∙ rw (is_left, sym e ∙ y) (or-true (has R t)))))
+            (λ q. rw (m s h, ne_same q, or-false (has R s), others s h q) (g.rest s h));
+      }
 
--- the slots of word g of `over`
-pub word-passes : (f : ℕ → ℕ → Bool) (over R R' : List ℕ) (g : ℕ) {w : ℕ} → Bytes over → w ≡ word 8 (drop (8 * g) over)
-    → Is R' (λ k. has R k || any 64 (λ j. bit w j && f (64 * g + j) k))
-    → Is R' (λ k. has R k || any 64 (λ j. has over (64 * g + j) && f (64 * g + j) k))
-word-passes f over R R' g {w} b e i k d =
-    i k d ∙ ap (◌||◌ (has R k)) (any_cong 64 _ _ (λ j h. ap (λ (x : Bool). x && f (64 * g + j) k) (at j h)))
-  where
-    at : (j : ℕ) → j < 64 → bit w j ≡ has over (64 * g + j)
-    at j h =
-        ap (λ (x : ℕ). bit x j) e ∙ sym (has_word over (8 * g) j b h)
-        ∙ ap (has over) (let q : 8 * g * 8 + j ≡ 64 * g + j = omega arith in q)
+      pub passed_out : a ≡ false → Passed p pool left' R
+      passed_out y = record {
+        rest = λ s h. either (equal? s t)
+            (λ q. rw (q, taken) (sym (sym (g.rest t n.0) ∙ rw (is_left, sym e ∙ y) refl)))
+            (λ q. rw (others s h q) (g.rest s h));
+      }
 
--- along a link, over the pool; and against one, over the set
-module _ (M : Model) (set : List ℕ) (way : ℕ) (r : List ℕ) where
-  pub among_along : way < links → (pool : List ℕ) → Is r (λ k. any slots (λ s. has pool s && passes M way set s k)) → Among M (way_of way) set pool r
-  unfolding step passes slots
-  among_along h pool i = record {
-    holds = rw (way_along way h) (λ k d.
-        i k d
-        ∙ any_only slots (λ s. has pool s && passes M way set s k) k d (λ s n. rw (below_in way links h, ne_same (λ q. n (sym q))) (and_comm (has pool s) false))
-        ∙ rw (below_in way links h, same_refl k));
-  }
+    pub passed_done : any set_slots (has left) ≡ false → Is R (λ s. has pool s && p s)
+    passed_done e s h = sym (rw (any_none set_slots (has left) e s h) (or-false (has R s))) ∙ g.rest s h
 
-  pub against_over : links ≤ way → way < every_way → Is r (λ k. any slots (λ s. has set s && passes M way set s k))
-      → Is r (λ k. any slots (λ t. step M (way_of way) k t && has set t))
-  unfolding step passes
-  against_over h l i =
-      let e : way ≡ (way - links) + links = omega arith in
-      rw (ap way_of e ∙ way_against (way - links) (omega arith)) (λ k d.
-      i k d ∙ any_cong slots _ _ (λ s m. rw (below-not way links h) (and_comm (has set s) (M.link (way - links) s k))))
-
-  pub among_met : (found pool : List ℕ) → Is found (λ s. any slots (λ t. step M (way_of way) s t && has set t)) → Is r (λ s. has found s && has pool s)
-      → Among M (way_of way) set pool r
-  among_met found pool d m = record { holds = λ s h. m s h ∙ and_comm (has found s) (has pool s) ∙ ap (◌&&◌ (has pool s)) (d s h) }
+-- found among all, and met with the pool
+pub met : {p : ℕ → Bool} (found pool r : List ℕ) → Is found p → Is r (λ s. has found s && has pool s) → Is r (λ s. has pool s && p s)
+met found pool r d m s h = m s h ∙ and_comm (has found s) (has pool s) ∙ ap (◌&&◌ (has pool s)) (d s h)
