@@ -1,6 +1,5 @@
 -- Laws of sets of slots, by topic.
 pub mod Bytes
-pub mod Update
 pub mod Words
 pub mod Test
 pub mod Slot

@@ -9,6 +9,7 @@ ghost use Rattle.job_run.specs.Steps.{Zeros, Tried, Ran};
 
 use listing::Found;
 use refusals::check_rounds;
+use site::Site;
 use verdict::Refusal;
 
 // The answer of a job that is done: how many slots are listed and how many rounds made on the site after, and today; how many nodes the
@@ -61,15 +62,18 @@ fn try_run(
     let mut free = even_rule::no_masks();
     job_steps::judge(site, cond, sheet, &mut free)?; // items 3 to 12
     let nodes = job_steps::change(site, cond, sheet, edition, changed, table)?; // 13 and 14
-    let listed_after = listing::list(changed, cond, &free, limit, after, work);
+    let (Some(site_after), Some(site)) = (Site::new(changed), Site::new(site)) else {
+        unreachable!()
+    };
+    let listed_after = listing::list(&site_after, cond, &free, limit, after, work);
     check_rounds(limit, listed_after.rounds)?; // 15
-    let listed_today = job_steps::list_first(site, table, nodes, limit, today, work);
+    let listed_today = job_steps::list_first(&site, table, nodes, limit, today, work);
     check_rounds(limit, listed_today.rounds)?;
     Ok(Report {
         after: listed_after,
         today: listed_today,
         nodes,
-        classes: classes_entry::number(changed, classes),
+        classes: classes_entry::number(&site_after, classes),
     })
 }
 

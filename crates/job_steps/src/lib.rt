@@ -19,7 +19,9 @@ ghost use Rattle.listing.specs.Listed.{work_bytes};
 ghost use Rattle.listing.specs.Limited.{Limited};
 ghost use Rattle.job_steps.specs.Steps.{Changed};
 
+use limits::NODE_BYTES;
 use listing::Found;
+use site::Site;
 use verdict::Refusal;
 
 // Items 3 to 12 of the three pieces. The free variables of an accepted condition's nodes are written to `free`.
@@ -50,8 +52,8 @@ pub fn change(
 }
 
 // What an accepted part of the rewritten table lists on a site, where it makes no more rounds than the limit.
-fn list(site: &[u8], part: &[u8], limit: u32, today: &mut [u8], work: &mut [u8]) -> Found
-    requires site_len { (length site.now ≡ site_bytes) × (condition_verdict part.now ≡ Accepted) }
+fn list(site: &Site, part: &[u8], limit: u32, today: &mut [u8], work: &mut [u8]) -> Found
+    requires part { condition_verdict part.now ≡ Accepted }
     requires limit_le_highest_limit { limit ≤ highest_limit }
     requires today_len { (length today.old ≡ set_bytes) × (length work.old ≡ work_bytes) }
     ensures limited { Limited limit (site_of site.now) (form_of (table_of part.now)) today.new result }
@@ -64,19 +66,25 @@ fn list(site: &[u8], part: &[u8], limit: u32, today: &mut [u8], work: &mut [u8])
 
 // What the first n nodes of the rewritten table list on a site, where they make no more rounds than the limit.
 pub fn list_first(
-    site: &[u8],
+    site: &Site,
     table: &[u8],
     n: u32,
     limit: u32,
     today: &mut [u8],
     work: &mut [u8],
 ) -> Found
-    requires site_len { (length site.now ≡ site_bytes) × ((6 * n ≤ length table.now) × (condition_verdict (take (6 * n) table.now) ≡ Accepted)) }
+    requires room { 6 * n ≤ length table.now }
+    requires part { condition_verdict (take (6 * n) table.now) ≡ Accepted }
     requires limit_le_highest_limit { limit ≤ highest_limit }
     requires today_len { (length today.old ≡ set_bytes) × (length work.old ≡ work_bytes) }
     ensures limited { Limited limit (site_of site.now) (form_of (table_of (take (6 * n) table.now))) today.new result }
     ensures work_after { work.new ≡ replicate work_bytes 0 }
 {
-    let end = 6 * (n as usize);
-    list(site, &table[..end], limit, today, work)
+    list(
+        site,
+        &table[..NODE_BYTES * n as usize],
+        limit,
+        today,
+        work,
+    )
 }

@@ -1,6 +1,6 @@
 -- One slot put in or taken out: `inserted` and `removed`, slot by slot.
 use Rattle.std.specs.Prelude.{◌≡◌, Bool, false, not, ◌&&◌, ◌||◌, List, ℕ, ◌-◌, ◌*◌, ◌/◌, ◌%◌, ◌^◌, ◌<◌, length, get_or, set}
-use Rattle.std.proofs.Common.{sym, ◌∙◌, ap, mod-lt, zero-lt-suc, one-mul, mod-eq_of_lt, arith, length-set, get_or-set_same, get_or-set_other}
+use Rattle.std.proofs.Common.{sym, ◌∙◌, ap, mod-lt, zero-lt-suc, one-mul, mod-eq_of_lt, arith, get_or-set_same, get_or-set_other}
 use Rattle.std.proofs.Math.Bool.{and-true, or-false}
 use Rattle.std.proofs.Math.Pow.{pow-lt}
 use Rattle.finite.specs.Tests.{bit, same}
@@ -47,7 +47,3 @@ byte_inserted S s j h = get_or-set_other S (s / 8) j _ 0 h
 pub byte_removed : (S : List ℕ) (s j : ℕ) → (j ≡ s / 8 → ⊥) → get_or (removed S s) j 0 ≡ get_or S j 0
 unfolding removed
 byte_removed S s j h = get_or-set_other S (s / 8) j _ 0 h
-
-pub length_inserted : (S : List ℕ) (s : ℕ) → length (inserted S s) ≡ length S
-unfolding inserted
-length_inserted S s = length-set S (s / 8) _

@@ -1,6 +1,6 @@
 -- Sets a word at a time: eight bytes are written, compared or counted at once.
-use Rattle.std.specs.Prelude.{◌≡◌, refl, ◌≢◌, Bool, true, false, not, ◌&&◌, ◌||◌, List, [], ◌∷◌, ℕ, zero, suc, ◌+◌, ◌-◌, ◌*◌, ◌^◌, ◌≤◌, ◌<◌, length, get_or, set, take, drop}
-use Rattle.std.proofs.Common.{sym, ◌∙◌, ap, ap₂, subst, add-zero, add-suc, suc-add, le_of_suc-le-suc, add-one, arith, length-drop, drop-cons, get_or-take, get_or-drop, get_or-set_other, length-take-le}
+use Rattle.std.specs.Prelude.{◌≡◌, refl, ◌≢◌, Bool, true, false, not, ◌&&◌, ◌||◌, List, [], ◌∷◌, ℕ, zero, suc, ◌+◌, ◌-◌, ◌*◌, ◌^◌, ◌≤◌, ◌<◌, length, get_or, take, drop}
+use Rattle.std.proofs.Common.{sym, ◌∙◌, ap, ap₂, subst, add-zero, add-suc, suc-add, le_of_suc-le-suc, arith, length-drop, drop-cons, get_or-take, get_or-drop, length-take-le}
 use Rattle.std.specs.Int.Bits.{bit_and, bit_or}
 use Rattle.std.specs.Int.Count.{ones, count_trailing_zeros}
 use Rattle.std.proofs.lemmas.Nat.{ones_cat, ones-le}
@@ -13,14 +13,13 @@ use Rattle.finite.proofs.Laws.Bools.{either, look}
 use Rattle.finite.proofs.Laws.Below.{same_refl, below_out, not-below, any_none, none_any}
 use Rattle.finite.proofs.Laws.First.{first_is}
 use Rattle.finite.proofs.Laws.Count.{count_le}
-use Rattle.words.specs.Word.{word, bytes, put_at, pairwise}
+use Rattle.words.specs.Word.{word, bytes, pairwise}
 use Rattle.words.proofs.Laws.Bytes.{drop-bytes, word_lt, bytes_of-word}
 use Rattle.words.proofs.Laws.Eight.{eight}
 use Rattle.words.proofs.Laws.Bits.{word_bits_lem}
 use Rattle.words.proofs.Laws.Lowest.{lowest, none_lower}
-use Rattle.bitset.specs.Set.{set_bytes, has}
+use Rattle.bitset.specs.Set.{has}
 use Rattle.bitset.proofs.Laws.Count.{count_byte}
-use Rattle.bitset.proofs.Laws.Update.{Updated, update_more}
 
 ones-zero : ones 0 ≡ 0
 unfolding ones
@@ -65,60 +64,6 @@ meet_slots = record { f = bit_and; of_bytes = λ w v hw hv. (eight w v hw hv).me
 -- the second operand is not looked at
 pub complement_slots : Slotwise (λ x y. not x) (λ w v. 2 ^ 64 - 1 - w)
 complement_slots = record { f = λ x y. 255 - x; of_bytes = λ w v hw hv. (eight w v hw hv).complement; of_bits = λ x y k hx hk. bit_not 8 x k hx hk }
-
--- eight bytes are written as one word
-module _ (g : Bool → Bool → Bool) (d s : List ℕ) where
-  update_list : (vs e : List ℕ) (i : ℕ) → Updated g d s e i → i + length vs ≤ set_bytes
-      → ((k j : ℕ) → k < length vs → j < 8 → bit (get_or vs k 0) j ≡ g (bit (get_or e (i + k) 0) j) (bit (get_or s (i + k) 0) j))
-      → Updated g d s (put_at e i vs) (i + length vs)
-  update_list [] e i u h law = rw (add-zero i) u
-  update_list (v ∷ vs) e i u h law =
-      let first : Updated g d s (set e i v) (i + 1) = update_more g d s e i v u (omega arith) (λ j l. rw (← (add-zero i)) (law 0 j (omega arith) l)) in
-      rw (add-suc i (length vs), ← (suc-add i (length vs)))
-      (update_list vs (set e i v) (suc i) (rw (← (add-one i)) first) (omega arith) (λ k j hk hj.
-      rw (get_or-set_other e i (suc i + k) v 0 (λ q. omega arith), suc-add i k, ← (add-suc i k)) (law (suc k) j (omega arith) hj)))
-
-  pub update_word : {F : ℕ → ℕ → ℕ} → Slotwise g F → (e : List ℕ) (i j : ℕ) {w v : ℕ} {e' : List ℕ} → Bytes d → Bytes s → Updated g d s e i
-      → w ≡ word 8 (drop i e) → v ≡ word 8 (drop i s) → e' ≡ put_at e i (bytes 8 (F w v)) → j ≡ i + 8 → j ≤ set_bytes → j ≤ length s → Updated g d s e' j
-  update_word {F} W e i j {w} {v} {e'} bd bs u hw hv he hj top long =
-      let a = take 8 (drop i e) in
-      let b = take 8 (drop i s) in
-      let fe : i + 8 ≤ length e = omega (arith, u.long) in
-      let fs : i + 8 ≤ length s = omega arith in
-      let be : Bytes (drop i e) = λ k. rw (get_or-drop i e k 0, u.rest (i + k) (omega arith)) (bd (i + k)) in
-      let la : length a ≡ 8 = at_length e i fe in
-      let lb : length b ≡ 8 = at_length s i fs in
-      let vs = pairwise W.f a b in
-      let lv : length vs ≡ 8 = pair_length W.f a b (la ∙ sym lb) ∙ la in
-      let words : bytes 8 (F w v) ≡ pairwise W.f (bytes 8 (word 8 (drop i e))) (bytes 8 (word 8 (drop i s)))
-      = rw (hw, hv) (W.of_bytes (word 8 (drop i e)) (word 8 (drop i s)) (word_lt 8 (drop i e) be) (word_lt 8 (drop i s) (drop-bytes i s bs))) in
-      let same : bytes 8 (F w v) ≡ vs = words ∙ ap₂ (pairwise W.f) (at-word e i fe be) (at-word s i fs (drop-bytes i s bs)) in
-      let bits : (k m : ℕ) → k < length vs → m < 8 → bit (get_or vs k 0) m ≡ g (bit (get_or e (i + k) 0) m) (bit (get_or s (i + k) 0) m)
-      = λ k m hk hm.
-      rw (pair_at W.f a b k (omega arith) (omega arith), at_byte e i fe k (omega arith), at_byte s i fs k (omega arith))
-      (W.of_bits (get_or e (i + k) 0) (get_or s (i + k) 0) m (rw (u.rest (i + k) (omega arith)) (bd (i + k))) hm) in
-      let end : i + length vs ≡ j = omega arith in
-      rw (he, same) (subst (λ (n : ℕ). Updated g d s (put_at e i vs) n) end (update_list vs e i u (omega arith) bits))
-
--- the bytes of two equal words are equal, pair by pair
-pub word_same : (a b : List ℕ) (i j : ℕ) {w v : ℕ} → Bytes a → Bytes b → i + 8 ≤ length a → i + 8 ≤ length b
-    → w ≡ word 8 (drop i a) → v ≡ word 8 (drop i b) → w ≡ v → ((k : ℕ) → k < i → get_or a k 0 ≡ get_or b k 0) → j ≡ i + 8
-    → (k : ℕ) → k < j → get_or a k 0 ≡ get_or b k 0
-word_same a b i j ba bb fa fb hw hv same below hj k h =
-    either
-    (look (tests.below k i))
-    (λ q. below k (below_out k i q))
-    (λ q.
-    let l = not-below k i q in
-    let e : i + (k - i) ≡ k = omega arith in
-    subst (λ (n : ℕ). get_or a n 0 ≡ get_or b n 0) e
-    (sym (at_byte a i fa (k - i) (omega arith)) ∙ ap (λ (r : List ℕ). get_or r (k - i) 0) eight_same ∙ at_byte b i fb (k - i) (omega arith)))
-  where
-    eight_same : take 8 (drop i a) ≡ take 8 (drop i b)
-    eight_same =
-        sym (at-word a i fa (drop-bytes i a ba))
-        ∙ (eight (word 8 (drop i a)) (word 8 (drop i b)) (word_lt 8 (drop i a) (drop-bytes i a ba)) (word_lt 8 (drop i b) (drop-bytes i b bb))).equal.0 (sym hw ∙ same ∙ hv)
-        ∙ at-word b i fb (drop-bytes i b bb)
 
 -- the slots of a word
 pub has_word : (S : List ℕ) (i k : ℕ) → Bytes S → k < 64 → has S (i * 8 + k) ≡ bit (word 8 (drop i S)) k
