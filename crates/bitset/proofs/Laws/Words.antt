@@ -1,6 +1,6 @@
 -- Sets a word at a time: eight bytes are written, compared or counted at once.
-use Rattle.std.specs.Prelude.{◌≡◌, refl, ◌≢◌, Bool, true, false, not, ◌&&◌, ◌||◌, List, [], ◌∷◌, ℕ, zero, suc, ◌+◌, ◌-◌, ◌*◌, ◌^◌, ◌≤◌, ◌<◌, length, get_or, take, drop}
-use Rattle.std.proofs.Common.{sym, ◌∙◌, ap, ap₂, subst, add-zero, add-suc, suc-add, le_of_suc-le-suc, arith, length-drop, drop-cons, get_or-take, get_or-drop, length-take-le}
+use Rattle.std.specs.Prelude.{◌≡◌, refl, ◌≢◌, Bool, true, false, not, ◌&&◌, ◌||◌, List, [], ◌∷◌, ℕ, zero, suc, ◌+◌, ◌-◌, ◌*◌, ◌^◌, ◌≤◌, ◌<◌, length, get_or, drop}
+use Rattle.std.proofs.Common.{sym, ◌∙◌, ap, ap₂, subst, add-zero, add-suc, suc-add, le_of_suc-le-suc, arith, drop-cons}
 use Rattle.std.specs.Int.Bits.{bit_and, bit_or}
 use Rattle.std.specs.Int.Count.{ones, count_trailing_zeros}
 use Rattle.std.proofs.lemmas.Nat.{ones_cat, ones-le}
@@ -14,7 +14,7 @@ use Rattle.finite.proofs.Laws.Below.{same_refl, below_out, not-below, any_none, 
 use Rattle.finite.proofs.Laws.First.{first_is}
 use Rattle.finite.proofs.Laws.Count.{count_le}
 use Rattle.words.specs.Word.{word, bytes, pairwise}
-use Rattle.words.proofs.Laws.Bytes.{drop-bytes, word_lt, bytes_of-word}
+use Rattle.words.proofs.Laws.Bytes.{drop-bytes, word_lt}
 use Rattle.words.proofs.Laws.Eight.{eight}
 use Rattle.words.proofs.Laws.Bits.{word_bits_lem}
 use Rattle.words.proofs.Laws.Lowest.{lowest, none_lower}
@@ -31,23 +31,6 @@ pair_at f [] b k ha hb = absurd (omega arith)
 pair_at f (x ∷ a) [] k ha hb = absurd (omega arith)
 pair_at f (x ∷ a) (y ∷ b) zero ha hb = refl
 pair_at f (x ∷ a) (y ∷ b) (suc k) ha hb = pair_at f a b k (le_of_suc-le-suc ha) (le_of_suc-le-suc hb)
-
-pair_length : (f : ℕ → ℕ → ℕ) (a b : List ℕ) → length a ≡ length b → length (pairwise f a b) ≡ length a
-unfolding pairwise
-pair_length f [] b h = refl
-pair_length f (x ∷ a) [] h = absurd (omega arith)
-pair_length f (x ∷ a) (y ∷ b) h = ap suc (pair_length f a b (omega arith))
-
--- the eight bytes of the word at byte i
-module _ (S : List ℕ) (i : ℕ) (fits : i + 8 ≤ length S) where
-  at-word : Bytes (drop i S) → bytes 8 (word 8 (drop i S)) ≡ take 8 (drop i S)
-  at-word small = bytes_of-word 8 (drop i S) (simp length-drop (omega arith)) small
-
-  at_length : length (take 8 (drop i S)) ≡ 8
-  at_length = length-take-le 8 (drop i S) (simp length-drop (omega arith))
-
-  at_byte : (k : ℕ) → k < 8 → get_or (take 8 (drop i S)) k 0 ≡ get_or S (i + k) 0
-  at_byte k h = get_or-take 8 (drop i S) k 0 h ∙ get_or-drop i S k 0
 
 -- F of two words is f of each pair of their bytes, and g of each pair of their slots
 pub record Slotwise (g : Bool → Bool → Bool) (F : ℕ → ℕ → ℕ) : Type 0 where
