@@ -19,7 +19,10 @@ use Rattle.condition.proofs.Laws.Bytes.{length-nodes, length-bytes}
 use Rattle.sheet.specs.Bytes.{edit_at, edits_of}
 use Rattle.sheet.proofs.Laws.Read.{edits-length, edits-at, edits-drop}
 use Rattle.limits.specs.Limits.{table_nodes, node_size, table_bytes}
-use Rattle.blocks.specs.Write.{puts, TableWritten}
+use Rattle.blocks.specs.declared.TooLong.{TooLong}
+use Rattle.rewriting.specs.declared.Purpose.{Purpose}
+use Rattle.rewriting.specs.declared.Purpose.TheVariants.{Rewrite, GoThrough}
+use Rattle.blocks.specs.Write.{puts, Made}
 use Rattle.blocks.proofs.Laws.Write.{length-puts}
 use Rattle.emitting.proofs.Laws.Puts.{puts_low, puts_in, bytes_append}
 use Rattle.own_conditions.specs.Behind.{PutBehind}
@@ -51,27 +54,6 @@ short_drop pass (e ∷ es) xs (suc k) h = short_drop pass es xs k (or_none (is_t
 
 -- ---- one pass
 
--- a table that is made has as many nodes as r counts, or both are too many
-module _ {xs : List Node} {o : List ℕ} {r : ℕ} (m : TableMade xs o r) where
-  made_short : r ≤ table_nodes → (r ≡ length xs) × (take (6 * length xs) o ≡ bytes_of xs)
-  made_short h =
-      either
-      (look (below table_nodes (length xs)))
-      (λ q. absurd (omega (arith, m.long (below_out table_nodes (length xs) q))))
-      (λ q. m.right (not-below table_nodes (length xs) q))
-
-  made_long : table_nodes < r → table_nodes < length xs
-  made_long h =
-      either
-      (look (below table_nodes (length xs)))
-      (λ q. below_out table_nodes (length xs) q)
-      (λ q. let l = not-below table_nodes (length xs) q in absurd (omega (arith, (m.right l).0)))
-
--- a table that is rewritten
-pub made_table : {o : List ℕ} {r : ℕ} (ys : List Node) → r ≡ length ys → TableWritten o ys → length o ≡ table_bytes → TableMade ys o r
-unfolding TableWritten
-made_table ys e w l = record { right = λ h. (e, w (omega arith)); long = λ h. omega arith }
-
 -- nodes written behind a table
 written_behind : (xs zs : List Node) (o : List ℕ) → take (6 * length xs) o ≡ bytes_of xs → 6 * (length xs + length zs) ≤ length o
     → take (6 * length (xs ++ zs)) (puts o (length xs) 0 zs) ≡ bytes_of (xs ++ zs)
@@ -96,25 +78,34 @@ written_behind xs zs o e room =
     ∙ ap (λ (j : ℕ). get_or (bytes_of xs ++ bytes_of zs) j 0) w)
     ∙ ap (λ (l : List ℕ). get_or l p 0) (sym (bytes_append xs zs)))
 
--- a table that is rewritten, with an edit's own condition behind it
-pub made_behind : (e : Edit) (xs : List Node) {o o' : List ℕ} {n r : ℕ} → n ≡ length (rewrite_table e xs) → TableWritten o (rewrite_table e xs)
-    → length o ≡ table_bytes → PutBehind (closing n (own e)) n o o' r → TableMade (through_edit e xs) o' r
-unfolding TableWritten through_edit behind
-made_behind e xs {o} {n = n} en w l p =
-    let ys = rewrite_table e xs in let zs = closing (length ys) (own e) in let all = length-append ys zs in let q = rw en at p in
-    record {
-      right = λ h. let f = q.fits (omega (arith, all)) in
-          (f.0 ∙ sym all, rw f.1 (written_behind ys zs o (w (omega (arith, all))) (omega (arith, all))));
-      long = λ h. q.long (omega (arith, all));
-    }
+-- an edit's own condition is put behind a table that is rewritten
+module _ (e : Edit) (xs : List Node) {n : ℕ} (en : n ≡ length (rewrite_table e xs)) where
+  pub made_behind : (o o' : List ℕ) (r : Result ℕ TooLong) → take (6 * n) o ≡ bytes_of (rewrite_table e xs) → length o ≡ table_bytes
+      → PutBehind (closing n (own e)) n o o' r → TableMade (through_edit e xs) o' r
+  unfolding through_edit behind
+  made_behind o o' (Ok r) w l p =
+      let ys = rewrite_table e xs in let zs = closing (length ys) (own e) in let all = length-append ys zs in let q = rw en at p in
+      (q.0 ∙ sym all, q.1, rw q.2 (written_behind ys zs o (rw en at w) (omega (arith, all))))
+  made_behind o o' (Err m) w l p =
+      let ys = rewrite_table e xs in let all = length-append ys (closing (length ys) (own e)) in let q = rw en at p in (omega (arith, all), q.1)
+
+  pub made_long : (o : List ℕ) {l : TooLong} → table_nodes < length (rewrite_table e xs) → l.0 ≡ length (rewrite_table e xs) → TableMade (through_edit e xs) o (Err l)
+  unfolding through_edit behind
+  made_long o h el = let ys = rewrite_table e xs in (omega (arith, length-append ys (closing (length ys) (own e))), omega arith)
+
+-- as the code has it, for both purposes
+pub pass_long : (purpose : Purpose) (e : Edit) (xs : List Node) (o o' : List ℕ) {l : TooLong} → Made (rewrite_table e xs) o (Err l)
+    → TableMade (pass_of purpose e xs) o' (Err l)
+pass_long Rewrite e xs o o' m = (m.1, omega (arith, m.0))
+pass_long GoThrough e xs o o' m = made_long e xs refl o' m.1 m.0
 
 -- a pass keeps nodes that fit, and leaves at least one
 abbrev pub Keeps : Pass → Type 0
 Keeps pass = (e : Edit) → legal e ≡ true → (xs : List Node) → 0 < length xs → nodes_fit 0 xs ≡ true → (0 < length (pass e xs)) × (nodes_fit 0 (pass e xs) ≡ true)
 
-pub keeps : (own : Bool) → Keeps (pass_of own)
-keeps false e l xs h f = (table_some_lem e l xs f h, table_fits e l xs f)
-keeps true e l xs h f = (omega (arith, through_grows e xs), edit_fits_lem e l xs h f)
+pub keeps : (purpose : Purpose) → Keeps (pass_of purpose)
+keeps Rewrite e l xs h f = (table_some_lem e l xs f h, table_fits e l xs f)
+keeps GoThrough e l xs h f = (omega (arith, through_grows e xs), edit_fits_lem e l xs h f)
 
 -- ---- the passes
 
@@ -170,46 +161,32 @@ module _ {pass : Pass} {edition : ℕ} {sheet : List ℕ} {xs : List Node} {o : 
   unfolding is_too_long
   next_long = rw (edits-drop edition sheet k in_sheet) (rw (rw d at P.short) refl)
 
-  pub passing_more : Keeps pass → (spare : List ℕ) {made : ℕ} {o' : List ℕ} → TableMade (pass e (nodes o count)) spare made → made ≤ table_nodes
+  pub passing_more : Keeps pass → (spare : List ℕ) {made : ℕ} {o' : List ℕ} → TableMade (pass e (nodes o count)) spare (Ok made)
       → length spare ≡ table_bytes → o' ≡ take (6 * made) spare ++ drop (6 * made) o → legal e ≡ true → Passing pass edition sheet xs o' made k
-  passing_more keeps spare {made} {o'} m f l eo lg =
-      let w = made_short m f in
-      let n : made ≡ length next = w.0 ∙ ap length next_table in
-      let b : take (6 * made) spare ≡ bytes_of next = ap (λ (c : ℕ). take (6 * c) spare) w.0 ∙ w.1 ∙ ap bytes_of next_table in
+  passing_more keeps spare {made} {o'} m l eo lg =
+      let n : made ≡ length next = m.0 ∙ ap length next_table in
+      let b : take (6 * made) spare ≡ bytes_of next = ap (λ (c : ℕ). take (6 * c) spare) m.0 ∙ m.2 ∙ ap bytes_of next_table in
       let kept = keeps e lg (nodes o count) (omega (arith, P.some, length-nodes o count)) (passing_fits P) in
       record {
         most = omega (arith, P.most);
-        few = f;
-        some = omega (arith, w.0, kept.0);
-        short = next_long ∙ below-not table_nodes _ (let le : length next ≤ table_nodes = omega arith in le);
+        few = m.1;
+        some = omega (arith, m.0, kept.0);
+        short = next_long ∙ below-not table_nodes _ (let le : length next ≤ table_nodes = omega (arith, m.1) in le);
         counts = n;
-        bytes = rw (← n, eo) (take_at (take (6 * made) spare) (drop (6 * made) o) (6 * made) (length-take-le (6 * made) spare (omega arith)) ∙ b);
+        bytes = rw (← n, eo) (take_at (take (6 * made) spare) (drop (6 * made) o) (6 * made) (length-take-le (6 * made) spare (omega (arith, m.1))) ∙ b);
         fits = rw (← next_table) kept.1;
       }
 
-  pub passing_long : {made : ℕ} (o' : List ℕ) {s : List ℕ} → TableMade (pass e (nodes o count)) s made → table_nodes < made
-      → Passed pass (edits_of edition sheet) xs o' made
-  passing_long {made} o' m h =
-      let lt : table_nodes < length next = omega (arith, made_long m h, ap length next_table) in
-      record {
-        right = λ t. clash (next_long ∙ below_in table_nodes _ lt) (short_drop pass (edits_of edition sheet) xs k t);
-        long = λ _. h;
-      }
+  pub passing_long : (o' spare : List ℕ) {l : TooLong} → TableMade (pass e (nodes o count)) spare (Err l) → Passed pass (edits_of edition sheet) xs o' (Err l)
+  passing_long o' spare m =
+      let lt : table_nodes < length next = omega (arith, m.0, ap length next_table) in
+      (either (look (is_too_long pass (edits_of edition sheet) xs)) (λ t. t) (λ f. clash (next_long ∙ below_in table_nodes _ lt) (short_drop pass (edits_of edition sheet) xs k f)), m.1)
 
 pub passing_done : {pass : Pass} {edition : ℕ} {sheet : List ℕ} {xs : List Node} {o : List ℕ} {count k : ℕ} → k ≡ 0 → Passing pass edition sheet xs o count k
-    → Passed pass (edits_of edition sheet) xs o count
-passing_done {o = o} e P =
-    let z = rw e at P in
-    record { right = λ _. (z.counts, z.few, z.bytes); long = λ t. clash t z.short }
+    → Passed pass (edits_of edition sheet) xs o (Ok count)
+passing_done e P = let z = rw e at P in (z.short, z.counts, z.few, z.bytes)
 
 -- ---- the answer
-
-module _ {pass : Pass} {es : List Edit} {xs : List Node} {o : List ℕ} {r : ℕ} (P : Passed pass es xs o r) where
-  is_long : table_nodes < r → is_too_long pass es xs ≡ true
-  is_long h = either (look (is_too_long pass es xs)) (λ t. t) (λ f. let g = (P.right f).1 in absurd (omega arith))
-
-  is_short : r ≤ table_nodes → is_too_long pass es xs ≡ false
-  is_short h = either (look (is_too_long pass es xs)) (λ t. let g = P.long t in absurd (omega arith)) (λ f. f)
 
 -- zeros, where the table is too long
 pub finished_long : {o result result' : List ℕ} {r : ℕ} → table_nodes < r → result' ≡ replicate (length result) 0 → Finished o r result result' (Err TableFull) 0
@@ -222,23 +199,19 @@ finished_short {o} {result} {result'} {r} o₁ h l l₁ e₁ e =
     let c : take (6 * r) o₁ ≡ take (6 * r) o = ap (take (6 * r)) e₁ ∙ take_at (take (6 * r) o) (drop (6 * r) result) (6 * r) (length-take-le (6 * r) o (omega arith)) in
     record { long = λ g. absurd (omega arith); short = λ _. (refl, refl, e ∙ rw (l₁, c) refl) }
 
-module _ {pass : Pass} {es : List Edit} {xs : List Node} {o result result' : List ℕ} {r n : ℕ} {v : Verdict} (P : Passed pass es xs o r)
-    (F : Finished o r result result' v n) where
-  too_long : table_nodes < r → Rewrote pass es xs result result' v n
+module _ {pass : Pass} {es : List Edit} {xs : List Node} {o result result' : List ℕ} {n : ℕ} {v : Verdict} where
+  pub rewrote_long : {l : TooLong} → Passed pass es xs o (Err l) → Finished o l.0 result result' v n → Rewrote pass es xs result result' v n
   unfolding length_verdict TableAfter
-  too_long h = let x = F.long h in rw (x.0, x.1) (record { verdict = rw (is_long P h); table_after = (refl, x.2) })
+  rewrote_long P F = let x = F.long P.1 in rw (x.0, x.1) (record { verdict = rw P.0 refl; table_after = (refl, x.2) })
 
-  a_table : r ≤ table_nodes → Rewrote pass es xs result result' v n
+  pub rewrote : {r : ℕ} → Passed pass es xs o (Ok r) → Finished o r result result' v n → Rewrote pass es xs result result' v n
   unfolding length_verdict TableAfter
-  a_table h =
-      let x = F.short h in let t = is_short P h in let p = P.right t in
+  rewrote P F =
+      let x = F.short P.2 in
       rw (x.0, x.1) (record {
-        verdict = rw t;
-        table_after = (p.0, x.2 ∙ rw p.0 (ap (λ (s : List ℕ). s ++ replicate (table_bytes - 6 * length (passed pass es xs)) 0) p.2));
+        verdict = rw P.0 refl;
+        table_after = (P.1, x.2 ∙ rw P.1 (ap (λ (s : List ℕ). s ++ replicate (table_bytes - 6 * length (passed pass es xs)) 0) P.3));
       })
-
-  pub rewrote : Rewrote pass es xs result result' v n
-  rewrote = either (look (below table_nodes r)) (λ q. too_long (below_out table_nodes r q)) (λ q. a_table (not-below table_nodes r q))
 
 -- ---- what it starts as
 
