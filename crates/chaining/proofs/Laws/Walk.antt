@@ -1,25 +1,24 @@
 -- The walk from the start.
-use Rattle.std.specs.Prelude.{◌≡◌, refl, ◌↔◌, List, true, ◌&&◌, set, replicate, ℕ, zero, suc, ◌+◌, ◌-◌, ◌≤◌, ◌<◌, length, get_or}
+use Rattle.std.specs.Prelude.{◌≡◌, refl, ◌↔◌, List, [], true, false, ◌&&◌, set, replicate, ℕ, zero, suc, ◌+◌, ◌-◌, ◌≤◌, ◌<◌, length, get_or}
 use Rattle.std.proofs.Common.{◌∙◌, ap, subst, sym, add-one, arith, length-set, get_or-set_same, get_or-set_other}
 use Rattle.std.proofs.lemmas.List.{length-replicate}
 use Rattle.finite.specs.Tests.{same, any, first}
 use Rattle.finite.proofs.Laws.Bools.{either}
+use Rattle.finite.proofs.Laws.First.{first-none}
 use Rattle.finite.proofs.Laws.Below.{equal?, same_refl}
 use Rattle.bitset.specs.Set.{set_slots, has}
-use Rattle.limits.specs.Limits.{slots, every_way}
+use Rattle.limits.specs.Limits.{slots}
 use Rattle.semantics.specs.Form.{Way}
 use Rattle.semantics.specs.Holds.{Set, Model, step}
-use Rattle.semantics.specs.Table.{way_of}
-use Rattle.semantics.specs.Agree.{◌≐◌}
 use Rattle.chains.specs.Given.{chain_bytes, ChainGiven}
 use Rattle.chains.specs.Shortest.{Away, next}
 use Rattle.chains.proofs.Laws.Shortest.{next_is, Descends, descends_shortest}
 use Rattle.chains.proofs.Laws.Layers.{within_here}
-use Rattle.chains.specs.Reached.{onward}
+use Rattle.chains.specs.Reached.{reverse, onward}
 use Rattle.chains.specs.Directed.{Layered}
 use Rattle.chains.proofs.Laws.Directed.{onward-step}
-use Rattle.chains.specs.Loops.{reverse_no}
-use Rattle.chains.proofs.Laws.Loops.{way_reverse, next_lowest}
+use Rattle.chains.proofs.Laws.Loops.{next_lowest}
+use Rattle.chaining.specs.Rounds.{set_no}
 use Rattle.chaining.specs.Walk.{Walking, Walked}
 
 zero-at : (n j : ℕ) → ◌≡◌ {A = ℕ} (get_or (replicate n 0) j 0) 0
@@ -85,23 +84,28 @@ module _ {M : Model} {w : Way} {S : Set} {s n : ℕ} {chain : List ℕ} {i : ℕ
           zeros = λ j q. get_or-set_other chain (i + 1) j t 0 (λ z. omega arith) ∙ k.zeros j (omega arith);
         }
 
--- the slot that the code finds is the next one: `other` is the way back, and D the set of the steps that are left
-pub walk_next : {M : Model} {S : Set} {s n : ℕ} {T : ℕ → Set} (way other i x : ℕ) (D chain : List ℕ) → way < every_way → other ≡ reverse_no way
-    → Layered M (way_of way) S s n T → Walking M (way_of way) S s n chain i → i < n → has D ≐ T (n - 1 - i) → x ≡ get_or chain i 0 → x < set_slots
-    → {t : ℕ} → t ≡ first slots (λ y. has D y && any slots (λ u. step M (way_of other) y u && same u x))
-    → t ≡ next M (way_of way) S (n - suc i) (get_or chain i 0)
-unfolding slots
-walk_next {M} {S} {s} {n} {T = T} way other i x D chain h o layers k l d g b f =
-    let w = ap way_of o ∙ way_reverse way h in
-    let index : n - 1 - i ≡ n - suc i = omega arith in
-    let back : n - suc (n - suc i) ≡ i = omega arith in
-    (rw w at f)
-    ∙ next_lowest M (way_of way) S (n - suc i) x (has D) b
-    (λ y q p.
-    d y q
-    ∙ ap (λ (j : ℕ). T j y) index
-    ∙ layers.agrees (n - suc i) x y (omega arith) b q (rw (back, g) k.on_track) p)
-    ∙ ap (next M (way_of way) S (n - suc i)) g
+-- the slot that the code finds is the next one: `back` is the way back, and D the set of the steps that are left
+module _ {M : Model} {w back : Way} {S : Set} {s n i x : ℕ} (layers : List (List ℕ)) {D chain : List ℕ} (r : back ≡ reverse w) (t : Layered M w S s n (set_no layers))
+    (k : Walking M w S s n chain i) (l : i < n) (d : D ≡ get_or layers (n - 1 - i) []) (g : x ≡ get_or chain i 0) (b : x < set_slots) where
+  lowest_next : first slots (λ y. has D y && any slots (λ u. step M back y u && same u x)) ≡ next M w S (n - suc i) (get_or chain i 0)
+  unfolding slots set_no
+  lowest_next =
+      let index : n - 1 - i ≡ n - suc i = omega arith in
+      let at : n - suc (n - suc i) ≡ i = omega arith in
+      rw r
+      (next_lowest M w S (n - suc i) x (has D) b
+      (λ y q p.
+      ap (λ (T : List ℕ). has T y) (d ∙ ap (λ (j : ℕ). get_or layers j []) index)
+      ∙ t.agrees (n - suc i) x y (omega arith) b q (rw (at, g) k.on_track) p)
+      ∙ ap (next M w S (n - suc i)) g)
+
+  pub walk_next : {y : ℕ} → y ≡ first slots (λ y. has D y && any slots (λ u. step M back y u && same u x)) → y ≡ next M w S (n - suc i) (get_or chain i 0)
+  walk_next e = e ∙ lowest_next
+
+  -- and there is one
+  pub walk_on : any slots (λ y. has D y && any slots (λ u. step M back y u && same u x)) ≡ false → ⊥
+  unfolding slots
+  walk_on e = let small = walk_small k l (lowest_next) in omega (arith, small, first-none slots _ e)
 
 pub walk_done : {M : Model} {w : Way} {S : Set} {s n : ℕ} {chain : List ℕ} {i : ℕ} → Walking M w S s n chain i → i ≤ n → n ≤ i
     → Walked M w S s n chain

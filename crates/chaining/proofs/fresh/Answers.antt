@@ -3,4 +3,4 @@ use Rattle.chaining.proofs.Laws.Sets.{fresh_is}
 use Rattle.chaining.proofs.fresh.Goals as goal
 
 pub returns : goal.returns
-returns c = fresh_is _ c.complement.ensures c.among.ensures
+returns c = fresh_is _ c.not-unseen.ensures c.among.ensures

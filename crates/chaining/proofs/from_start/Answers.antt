@@ -1,24 +1,14 @@
 -- The rounds on meet the goal, and of their slots those that lead on are kept; or they tell what can be reached.
-use Rattle.std.proofs.Common.{arith}
-use Rattle.std.proofs.lemmas.Grind.{common_steps}
+use Rattle.std.proofs.Common.{◌∙◌, ap}
+use Rattle.finite.specs.Tests.{same}
+use Rattle.site.specs.Ways.{meant}
 use Rattle.chaining.proofs.Laws.Searched.{start_none, start_found}
 use Rattle.chaining.proofs.from_start.Goals as goal
 
-pub spread-on-requires-clause-site_len : goal.spread-on-requires-clause-site_len
-spread-on-requires-clause-site_len c = grind (arith, common_steps)
+pub returns-in-Steps : goal.returns-in-Steps
+returns-in-Steps c = start_found (meant c.args.way) c.reverse.ensures c.ranges.start.fits (λ t h. c.single-one.ensures t h ∙ ap (same t) c.from.ensures)
+    c.in-Steps.ensures c.prune.ensures
 
-pub spread-on-requires-clause-at_le_set_slots : goal.spread-on-requires-clause-at_le_set_slots
-spread-on-requires-clause-at_le_set_slots c = grind (arith, common_steps)
-
-pub returns-then-n-ge-SET_SLOTS : goal.returns-then-n-ge-SET_SLOTS
-returns-then-n-ge-SET_SLOTS c = start_none c.args.way (omega arith) c.reverse-other.ensures (omega arith) c.single-one.ensures c.spread-on.ensures (omega arith)
-
-pub prune-requires-clause-site_len : goal.prune-requires-clause-site_len
-prune-requires-clause-site_len c = grind (arith, common_steps)
-
-pub prune-requires-clause-n_lt_set_slots : goal.prune-requires-clause-n_lt_set_slots
-prune-requires-clause-n_lt_set_slots c = grind (arith, common_steps)
-
-pub returns : goal.returns
-returns c = start_found c.args.way (omega arith) c.reverse-other.ensures (omega arith) c.single-one.ensures c.spread-on.ensures (omega arith)
-    c.prune.ensures
+pub returns-in-Reached : goal.returns-in-Reached
+returns-in-Reached c = start_none (meant c.args.way) c.reverse.ensures c.ranges.start.fits (λ t h. c.single-one.ensures t h ∙ ap (same t) c.from.ensures)
+    c.in-Reached.ensures

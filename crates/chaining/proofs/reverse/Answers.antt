@@ -1,10 +1,16 @@
--- By the half that the way is in.
-use Rattle.std.proofs.Common.{arith}
-use Rattle.chaining.proofs.Laws.Sets.{reverse_low, reverse_high}
+-- Along becomes against, and against along.
+use Rattle.std.proofs.Common.{refl}
+use Rattle.chains.specs.Reached.{reverse}
 use Rattle.chaining.proofs.reverse.Goals as goal
 
-pub returns-then-way-lt-LINKS : goal.returns-then-way-lt-LINKS
-returns-then-way-lt-LINKS c = reverse_low c.args.way (omega arith)
+pub returns-in-Along : goal.returns-in-Along
+unfolding reverse
+returns-in-Along c = rw c.in-Along.is refl
 
-pub returns : goal.returns
-returns c = reverse_high c.args.way (omega arith)
+pub returns-in-Against : goal.returns-in-Against
+unfolding reverse
+returns-in-Against c = rw c.in-Against.is refl
+
+pub returns-in-Everywhere : goal.returns-in-Everywhere
+unfolding reverse
+returns-in-Everywhere c = rw c.in-Everywhere.is refl

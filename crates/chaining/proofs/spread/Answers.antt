@@ -1,26 +1,23 @@
--- After k rounds: the set, the slots of the last round, and those of the rounds before in the work buffer.
-use Rattle.std.proofs.Common.{arith}
+-- A round writes the slots that the round before has added, and looks for those that lead to them.
+use Rattle.std.proofs.Common.{refl, ◌∙◌, arith, length-set}
 use Rattle.chaining.proofs.Laws.Rounds.{spreading_start, spread_found, spread_rest, spread_more, spread_done}
 use Rattle.chaining.proofs.spread.Goals as goal
 
 pub loop-k-init : goal.loop-k-init
-loop-k-init c = (omega arith, omega arith, omega arith, spreading_start)
+loop-k-init c = (refl, spreading_start)
 
-pub returns-then-lowest_of_both-lt-SET_SLOTS : goal.returns-then-lowest_of_both-lt-SET_SLOTS
-returns-then-lowest_of_both-lt-SET_SLOTS c = spread_found c.loop-k.invariant.3 c.store.ensures c.lowest_of_both.ensures (omega arith) (omega arith)
+pub returns-then-meets : goal.returns-then-meets
+returns-then-meets c = spread_found c.loop-k.invariant.1 c.write.ensures (omega arith) c.meets.ensures c.if-meets.true
 
-pub returns-then-lowest-eq-SET_SLOTS : goal.returns-then-lowest-eq-SET_SLOTS
-returns-then-lowest-eq-SET_SLOTS c = spread_rest c.loop-k.invariant.3 c.store.ensures c.lowest_of_both.ensures c.fresh-next.ensures (omega arith)
-    c.lowest.ensures (omega arith)
+pub returns-then-is_empty : goal.returns-then-is_empty
+returns-then-is_empty c = spread_rest c.loop-k.invariant.1 c.write.ensures (omega arith) c.meets.ensures c.fresh-front.ensures c.if-meets.false
+    c.is_empty.ensures c.if-is_empty.true
 
 pub loop-k-preserved : goal.loop-k-preserved
 loop-k-preserved c = (
-  omega arith,
-  omega arith,
-  omega arith,
-  spread_more c.loop-k.invariant.3 c.store.ensures c.lowest_of_both.ensures c.fresh-next.ensures (omega arith)
-      c.union_with.ensures,
+  length-set c.loop-k.fronts c.loop-k.k c.write.new.part ∙ c.loop-k.invariant.0,
+  spread_more c.loop-k.invariant.1 c.write.ensures (omega arith) c.meets.ensures c.fresh-front.ensures c.if-meets.false c.bitor-found.ensures,
 )
 
 pub returns : goal.returns
-returns c = spread_done c.loop-k.invariant.3 (omega arith) (omega arith)
+returns c = spread_done c.loop-k.invariant.1 (omega arith) (omega arith)
