@@ -1,6 +1,6 @@
 -- The answers of the chain, case by case.
 use Rattle.std.specs.Prelude.{◌≡◌, List, Bool, true, false, ℕ, ◌≤◌, ◌<◌, length, refl, replicate, IsOk, IfOk, Option, Some, None, Result, Ok, Err}
-use Rattle.std.proofs.Common.{◌∙◌, inl, inr, sym, ap}
+use Rattle.std.proofs.Common.{◌∙◌, inl, inr, sym, ap, subst}
 use Rattle.finite.proofs.Laws.Below.{below_in, below-not}
 use Rattle.bitset.specs.Set.{set_bytes, set_slots, has}
 use Rattle.limits.specs.Limits.{slots, every_way}
@@ -13,8 +13,13 @@ use Rattle.condition.specs.Bytes.{table_of}
 use Rattle.listing.specs.Listed.{work_bytes, Listed}
 use Rattle.refusals.specs.Refusal.{start_is_fit}
 use Rattle.refusals.proofs.Laws.Items.{StartFits}
-use Rattle.chaining.specs.Answer.{Answer}
-use Rattle.chaining.proofs.Laws.Answer.{answer_goal}
+use Rattle.finite.specs.Bytes.{Bytes}
+use Rattle.semantics.specs.Form.{Way}
+use Rattle.chains.specs.Chain.{SomeChain}
+use Rattle.chains.specs.Given.{ChainGiven}
+use Rattle.chaining.specs.Answer.{Answer, SetGiven}
+use Rattle.chaining.specs.declared.Ending.TheVariants.{Steps, Reached}
+use Rattle.chaining.proofs.Laws.Answer.{answer_goal, set_given}
 use Rattle.chain_entry.specs.Refusal.{chain_verdict}
 use Rattle.chain_entry.specs.Answer.{found_of, steps_of}
 use Rattle.chain_entry.specs.Chaining.{Goal, Gives}
@@ -43,21 +48,20 @@ start_slot k = k.start_fits
 
 -- ---- the search, for the condition that lists the goal
 
-module _ {site table : List ℕ} {way start n k : ℕ} {goal chain' set' : List ℕ} (l : Listed (site_of site) (form_of (table_of table)) goal k)
-    (a : Answer (site_of site) (way_of way) (λ t. has goal t ≡ true) start n chain' set') where
-  pub searched_given : n < set_slots → Searched site table way start chain' set' (Some n)
-  searched_given h = inl (record {
+module _ {site table : List ℕ} {w : Way} {way start k : ℕ} {goal chain' set' : List ℕ} (l : Listed (site_of site) (form_of (table_of table)) goal k) (e : w ≡ way_of way) where
+  pub searched_given : {n : ℕ} → Answer (site_of site) w (λ t. has goal t ≡ true) start (Steps n) chain' → set' ≡ replicate set_bytes 0 → Searched site table way start chain' set' (Some n)
+  searched_given {n} a z = inl (record {
     is_found = refl;
-    chain = λ ρ. ((answer_goal (Goal site table ρ) (l.listed ρ) a).found h).0;
-    no_set = (a.found h).1;
+    chain = λ ρ. subst (λ v. ChainGiven (site_of site) v (Goal site table ρ) start n chain') e (answer_goal (site_of site) w start chain' (Goal site table ρ) (l.listed ρ) (Steps n) a);
+    no_set = z;
   })
 
-  pub searched_reached : set_slots ≤ n → Searched site table way start chain' set' None
-  searched_reached h = inr (record {
+  pub searched_reached : {set : List ℕ} → Answer (site_of site) w (λ t. has goal t ≡ true) start (Reached set) chain' → set' ≡ set → length set' ≡ set_bytes → Bytes set' → Searched site table way start chain' set' None
+  searched_reached {set} a x y z = inr (record {
     not_found = (refl, refl);
-    none = λ ρ. ((answer_goal (Goal site table ρ) (l.listed ρ) a).none h).0;
-    set = (a.none h).1;
-    no_chain = (a.none h).2;
+    none = λ ρ. subst (λ v. ¬ SomeChain (site_of site) v (Goal site table ρ) start) e (answer_goal (site_of site) w start chain' (Goal site table ρ) (l.listed ρ) (Reached set) a).none;
+    set = subst (λ v. SetGiven (site_of site) v start set') e (set_given a.reached x y z);
+    no_chain = a.zeros;
   })
 
 -- ---- the answer

@@ -6,18 +6,8 @@ use Rattle.refusals.proofs.Laws.Items.{buffer_out, start_out}
 use Rattle.chain_entry.proofs.Laws.Chaining.{start_slot}
 use Rattle.chain_entry.proofs.try_chain.Goals as goal
 
-pub check_start-requires : goal.check_start-requires
-check_start-requires c = (accepted_out _ (sym c.in_ok-check.ensures)).0
-
-pub search-requires-clause-site_len : goal.search-requires-clause-site_len
-search-requires-clause-site_len c = (accepted_out _ (sym c.in_ok-check.ensures)).0
-
 pub search-requires-clause-free_len : goal.search-requires-clause-free_len
-search-requires-clause-free_len c = (omega arith, checked_rows c.check-2.ensures c.in_ok-check-2.was)
-
-pub search-requires-clause-way_lt_every_way : goal.search-requires-clause-way_lt_every_way
-search-requires-clause-way_lt_every_way c = let k = start_out _ _ _ (sym c.in_ok-check_start.ensures) in
-    (k.way_fits, start_slot k)
+search-requires-clause-free_len c = (omega arith, checked_rows c.check.ensures c.in_ok-check.was)
 
 pub search-requires-clause-chain_len : goal.search-requires-clause-chain_len
 search-requires-clause-chain_len c =

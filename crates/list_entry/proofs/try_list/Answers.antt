@@ -65,7 +65,7 @@ returns-in_err-check_rounds c =
       ← c.in_ok-site.ensures.verdict,
       ← c.in_ok-check.ensures.verdict,
     ))
-    c.list-found.ensures.limited c.list-found.ensures.work_after c.in_err-check_rounds.ensures)
+    (rw c.in_ok-site.ensures.site at c.list-found.ensures.limited) c.list-found.ensures.work_after c.in_err-check_rounds.ensures)
 
 pub returns : goal.returns
 unfolding list_inputs
@@ -78,4 +78,4 @@ returns c =
       ← c.in_ok-site.ensures.verdict,
       ← c.in_ok-check.ensures.verdict,
     ))
-    c.list-found.ensures.limited c.list-found.ensures.work_after c.in_ok-check_rounds.ensures
+    (rw c.in_ok-site.ensures.site at c.list-found.ensures.limited) c.list-found.ensures.work_after c.in_ok-check_rounds.ensures
