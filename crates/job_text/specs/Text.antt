@@ -1,9 +1,10 @@
 -- The print of a job. docs/SPEC.md, "The print": text as its bytes in ASCII, 10 for the end of a line.
-use Rattle.std.specs.Prelude.{List, [], ◌∷◌, ◌++◌, ℕ, suc, ◌/◌, ◌%◌, ◌^◌}
+use Rattle.std.specs.Prelude.{List, [], ◌∷◌, ◌++◌, ℕ, suc, ◌/◌, ◌%◌, ◌^◌, Result, Ok, Err}
 use Rattle.finite.specs.Tests.{below, first}
 use Rattle.io.specs.Digits.{hex_digit_ascii, last_digits}
-use Rattle.job_run.specs.declared.Job.{Job}
-use Rattle.job_run.specs.declared.Job.TheVariants.{Done, Refused}
+use Rattle.verdict.specs.Verdict.{number_of, fault_of}
+use Rattle.verdict.specs.declared.Refusal.{Refusal}
+use Rattle.job_run.specs.declared.Report.{Report}
 
 -- the fewest decimal digits that hold a number below 10 ^ 20, one at least; and the number in decimal
 unfoldable pub digit_count : ℕ → ℕ
@@ -37,6 +38,6 @@ unfoldable pub refused_text : (item w : ℕ) → List ℕ
 refused_text item w = (114 ∷ 101 ∷ 102 ∷ 117 ∷ 115 ∷ 101 ∷ 100 ∷ 32 ∷ []) ++ decimal item ++ count_line (32 ∷ []) w
 
 -- the print of an answer with its two sets; rounds are not printed
-abbrev pub job_text : Job → (after today : List ℕ) → List ℕ
-job_text (Done a t n c) after today = done_text a.count t.count n c after today
-job_text (Refused item w) after today = refused_text item w
+abbrev pub job_text : Result Report Refusal → (after today : List ℕ) → List ℕ
+job_text (Ok r) after today = done_text r.after.count r.today.count r.nodes r.classes after today
+job_text (Err q) after today = refused_text (number_of q) (fault_of q)
