@@ -5,7 +5,7 @@
 
 ghost use Rattle.std.specs.Prelude.{◌≡◌, true, false, ◌&&◌, ◌*◌, ◌≤◌, ◌<◌, length, replicate, IfSome, IsNone};
 ghost use Rattle.finite.specs.Tests.{same, any, first};
-ghost use Rattle.bitset.specs.Set.{set_bytes, set_slots, has};
+ghost use Rattle.bitset.specs.Set.{set_slots, has};
 ghost use Rattle.limits.specs.Limits.{slots};
 ghost use Rattle.semantics.specs.Holds.{step};
 ghost use Rattle.site.specs.Site.{site_of};
