@@ -23,10 +23,11 @@ pub fn any_slot(rows: &Rows) -> bool
 }
 
 // Have the sets the same slots?
-fn same(a: &SlotSet, b: &SlotSet) -> bool
-    ensures { result ≡ same_set a.now b.now }
+fn same(a: SlotSet, b: SlotSet) -> bool
+    ensures { result ≡ same_set a b }
 {
-    a.is_subset(b) & b.is_subset(a)
+    let apart = (a - b) | (b - a);
+    apart.is_empty()
 }
 
 // Are s and t in one class, with the same row?
@@ -35,7 +36,7 @@ fn alike(q: &[u8; SET_SLOTS], rows: &Rows, s: usize, t: usize) -> bool
     requires t { t < set_slots }
     ensures { result ≡ by_row_of q.now rows.now s t }
 {
-    q[s] == q[t] && same(&rows[s], &rows[t])
+    q[s] == q[t] && same(rows[s], rows[t])
 }
 
 // The lowest slot that is in the class of s and has its row. The search starts at the lowest slot of the class.

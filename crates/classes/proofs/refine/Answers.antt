@@ -1,12 +1,19 @@
 -- p is the partition after as many rounds as were made.
-use Rattle.std.proofs.Common.{◌≡◌, ℕ, List, get_or, sym, ◌∙◌, ap, arith}
+use Rattle.std.proofs.Common.{◌≡◌, ℕ, List, [], replicate, get_or, sym, ◌∙◌, ap, arith}
 use Rattle.std.specs.Cmp.Lexicographic.{same_text}
 use Rattle.finite.proofs.Laws.Below.{eq_same, all_in}
 use Rattle.bitset.specs.Set.{set_slots}
+use Rattle.std.proofs.lemmas.List.{get_or-replicate}
+use Rattle.limits.specs.Limits.{every_way}
+use Rattle.partition.specs.Rows.{in_row}
 use Rattle.partition.specs.Partition.{Refines}
+use Rattle.partition.proofs.Laws.Gains.{empty_rows}
 use Rattle.site.specs.Site.{site_of}
 use Rattle.classes.proofs.Laws.Refined.{refined_still, refined_last}
 use Rattle.classes.proofs.refine.Goals as goal
+
+pub of_site-requires : goal.of_site-requires
+of_site-requires c = λ w s t h i j. ap (λ (R : List (List ℕ)). in_row R s t) (get_or-replicate every_way w (replicate set_slots c.empty.result) [] h) ∙ empty_rows c.empty.result c.empty.ensures s t i j
 
 pub loop-round-init : goal.loop-round-init
 loop-round-init c = (omega arith, c.start-p.ensures)

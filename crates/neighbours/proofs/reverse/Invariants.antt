@@ -1,9 +1,6 @@
--- The slots below s are in the rows of their targets.
-use Rattle.std.proofs.Common.{◌&&◌}
-use Rattle.finite.specs.Tests.{same, any}
-use Rattle.partition.specs.Gains.{Gains}
-use Rattle.partition.specs.Rows.{in_row}
+-- The rows below t are as they shall be, and the others as they came.
+use Rattle.neighbours.proofs.Laws.Steps.{Mended}
 use Rattle.neighbours.proofs.reverse.Given as goal
 
-abbrev pub invariant-loop-s : goal.invariant-loop-s
-invariant-loop-s l = Gains (λ x y. any l.s (λ k. in_row l.rows k x && same y k)) l.initial.back l.back
+abbrev pub invariant-loop-t : goal.invariant-loop-t
+invariant-loop-t l = Mended l.rows l.dense l.t l.back

@@ -55,9 +55,12 @@ pub gains_done : (f : ℕ → ℕ → ℕ → Bool) {B A : List (List ℕ)} (n i
     → Gains (λ s t. any n (λ k. f k s t)) B A
 gains_done f n i h l m = rw (let e : n ≡ i = omega arith in e) h
 
--- rows that start empty have the slots that they gain
+-- rows that are all one empty set are empty, and have then the slots that they gain
+pub empty_rows : (S : List ℕ) → ((t : ℕ) → t < set_slots → has S t ≡ false) → RowsOf (λ s t. false) (replicate set_slots S)
+empty_rows S e s t i j = rw (get_or-replicate set_slots s S [] i, e t j)
+
 pub gains_empty : {f : ℕ → ℕ → Bool} {S : List ℕ} {A : List (List ℕ)} → ((t : ℕ) → t < set_slots → has S t ≡ false) → Gains f (replicate set_slots S) A → RowsOf f A
-gains_empty {f} {S} e h s t i j = h.holds s t i j ∙ rw (get_or-replicate set_slots s S [] i, e t j)
+gains_empty {f} {S} e h s t i j = h.holds s t i j ∙ ap (λ (z : Bool). z || f s t) (empty_rows S e s t i j)
 
 -- A is B with the slots put in that f says, but for those that g says, which are still to come
 pub record Lacks (f g : ℕ → ℕ → Bool) (B A : List (List ℕ)) : Type 0 where

@@ -7,15 +7,12 @@ use Rattle.partition.proofs.Laws.Partitions.{put_more}
 use Rattle.signatures.proofs.of_rows.Goals as goal
 
 pub loop-s-init : goal.loop-s-init
-loop-s-init c = (omega arith, below_none _)
+loop-s-init c = below_none _
 
 pub loop-s-preserved : goal.loop-s-preserved
-loop-s-preserved c = (
-  simp length-set c.loop-s.invariant.0,
-  put_more [] (λ (k : ℕ) (x : List ℕ). Is x (sees (row c.args.rows.now k) c.args.members.now.numbers)) c.loop-s.signatures c.loop-s.s _ (omega arith) c.loop-s.invariant.1
-      (rw (row_at c.args.rows.now c.loop-s.s _ (omega arith)) at c.seen.ensures),
-)
+loop-s-preserved c = put_more [] (λ (k : ℕ) (x : List ℕ). Is x (sees (row c.args.rows.now k) c.args.members.now.numbers)) c.loop-s.signatures c.loop-s.s _ (omega arith) c.loop-s.invariant
+    (rw (row_at c.args.rows.now c.loop-s.s _ (omega arith)) at c.seen.ensures)
 
 pub returns : goal.returns
 unfolding Signed
-returns c = λ s t i j. c.loop-s.invariant.1 s (omega arith) t j
+returns c = λ s t i j. c.loop-s.invariant s (omega arith) t j

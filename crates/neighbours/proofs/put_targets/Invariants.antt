@@ -4,7 +4,7 @@ use Rattle.bitset.specs.Set.{set_slots, Is}
 use Rattle.site.specs.Site.{site_of}
 use Rattle.site.specs.Ways.{link_number}
 use Rattle.partition.specs.Rows.{row}
-use Rattle.neighbours.proofs.targets.Given as goal
+use Rattle.neighbours.proofs.put_targets.Given as goal
 
 abbrev pub invariant-loop-s : goal.invariant-loop-s
-invariant-loop-s l = (length l.rows ≡ set_slots) × ((k : ℕ) → k < l.s → Is (row l.rows k) ((site_of l.site).link (link_number l.link) k))
+invariant-loop-s l = (k : ℕ) → k < l.s → Is (row l.rows k) ((site_of l.site).link (link_number l.link) k)
