@@ -80,11 +80,5 @@ pub fn list_first(
     ensures limited { Limited limit (site_of site.now) (form_of (table_of (take (6 * n) table.now))) today.new result }
     ensures work_after { work.new ≡ replicate work_bytes 0 }
 {
-    list(
-        site,
-        &table[..NODE_BYTES * n as usize],
-        limit,
-        today,
-        work,
-    )
+    list(site, &table[..NODE_BYTES * n as usize], limit, today, work)
 }

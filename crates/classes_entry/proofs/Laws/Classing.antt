@@ -1,7 +1,6 @@
 -- The answers, case by case.
 use Rattle.std.specs.Prelude.{◌≡◌, refl, List, ◌++◌, ℕ, length, take, drop, replicate, IfOk, Result, Ok, Err}
 use Rattle.std.proofs.Common.{◌∙◌, subst, arith}
-use Rattle.buffer.proofs.Laws.{copied_whole}
 use Rattle.verdict.specs.Verdict.{outcome}
 use Rattle.verdict.specs.declared.Refusal.{Refusal}
 use Rattle.semantics.specs.Holds.{Model}
@@ -11,16 +10,6 @@ use Rattle.classes_entry.specs.Refusal.{classes_bytes, classes_verdict}
 use Rattle.classes_entry.specs.Answer.{count_of}
 use Rattle.classes_entry.specs.Classing.{ClassesAfter}
 use Rattle.classes_entry.specs.Answered.{ClassesAnswered}
-
--- ---- the numbers are written, and counted
-
-pub numbered : {M : Model} {numbers : List ℕ} → Classes M numbers → (classes : List ℕ) → length classes ≡ classes_bytes
-    → {classes' : List ℕ} → classes' ≡ take classes_bytes numbers ++ drop classes_bytes classes → {n : ℕ} → n ≡ different numbers
-    → Classes M classes' × (n ≡ different classes')
-numbered {numbers = numbers} k classes h {classes' = classes'} c f =
-    let e : classes' ≡ numbers =
-    c ∙ subst (λ (i : ℕ). take i numbers ++ drop i classes ≡ numbers) k.long (copied_whole numbers classes (omega (arith, k.long))) in
-    (rw e k, rw e f)
 
 -- ---- the answers
 

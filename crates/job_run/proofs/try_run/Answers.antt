@@ -18,11 +18,11 @@ returns-in_err-check_rounds c =
     let m = made c.in_ok-judge.ensures size c.in_ok-nodes.ensures in
     rw (passed_on c.from_residual-in_err-check_rounds.ensures.1) (over_after m c.list-listed_after.ensures.limited c.in_err-check_rounds.ensures)
 
-pub list_first-listed_today-requires-clause-site_len : goal.list_first-listed_today-requires-clause-site_len
-list_first-listed_today-requires-clause-site_len c =
+pub list_first-listed_today-requires-clause-part : goal.list_first-listed_today-requires-clause-part
+list_first-listed_today-requires-clause-part c =
     let size : length c.judge.new.free ≡ table_nodes = omega arith in
     let m = made c.in_ok-judge.ensures size c.in_ok-nodes.ensures in
-    (m.site_size, (m.room, m.part_accepted))
+    m.part_accepted
 
 pub returns-in_err-check_rounds-2 : goal.returns-in_err-check_rounds-2
 returns-in_err-check_rounds-2 c =
