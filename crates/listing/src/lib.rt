@@ -3,7 +3,9 @@
 // variable that is free in the node has moved. Rounds are counted as if nothing were kept: a node that is known adds those that were made for it.
 #![tactic(auto)]
 
-ghost use Rattle.std.specs.Prelude.{◌≡◌, ◌⊎◌, ◌+◌, ◌-◌, ◌*◌, ◌≤◌, true, length, replicate};
+mod limit;
+
+ghost use Rattle.std.specs.Prelude.{◌≡◌, ◌⊎◌, ◌+◌, ◌*◌, ◌≤◌, true, length, replicate, MatchResult};
 ghost use Rattle.bitset.specs.Set.{set_bytes, has};
 ghost use Rattle.finite.specs.Bytes.{Bytes};
 ghost use Rattle.semantics.specs.Table.{form_of, nodes_fit};
@@ -18,10 +20,12 @@ ghost use Rattle.listing_memo.specs.Memo.{valuation};
 ghost use Rattle.listing_sets.specs.Nodes.{start_of};
 ghost use Rattle.listing_sets.specs.Offsets.{SetWritten};
 ghost use Rattle.listing.specs.Listed.{work_bytes, Listed};
-ghost use Rattle.listing.specs.Limited.{Capped, Limited};
-ghost use Rattle.listing.specs.State.{node_set, Budgeted, Evaluable, Evaluated};
+ghost use Rattle.listing.specs.Limited.{Limited, Answered};
+ghost use Rattle.listing.specs.Counting.{Usual};
+ghost use Rattle.listing.specs.State.{node_set, Evaluable, Evaluated, Over};
 
 use bitset::{SET_BYTES, SET_SLOTS, SlotSet};
+use limit::{OverLimit, count, remaining};
 use limits::{AND, BOX, DIA, MU, NODE_BYTES, NOT, NU, OR, TABLE_NODES};
 use listing_memo::{Memo, Variable};
 use site::Site;
@@ -39,27 +43,6 @@ pub struct Found {
     pub rounds: u32,
 }
 
-// What a call may count: its number goes as far as the cap, and it stops where its rounds are over the limit. The cap is one above the limit, so
-// that a number over the limit shows; or it is the limit itself, and then nothing stops.
-#[derive(Clone, Copy)]
-struct Budget {
-    limit: u32,
-    cap: u32,
-}
-
-impl Budget {
-    // What remains once some rounds were made.
-    fn after(self, made: u32) -> Budget
-        requires { (made ≤ self.limit) × (made ≤ self.cap) }
-        ensures { (result.limit ≡ self.limit - made) × (result.cap ≡ self.cap - made) }
-    {
-        Budget {
-            limit: self.limit - made,
-            cap: self.cap - made,
-        }
-    }
-}
-
 // The rounds of node i, whose set is written to the work buffer if it is not there already.
 #[cycle(binary_compute_eval_fixpoint_fixpoint_from_unary)]
 fn eval(
@@ -68,18 +51,19 @@ fn eval(
     memo: &mut Memo,
     work: &mut [u8],
     i: usize,
-    budget: Budget,
-) -> u32
-    requires evaluable { Evaluable site.now table.now budget.limit budget.cap memo.old work.old }
+    limit: Option<u32>,
+) -> Result<u32, OverLimit>
+    requires evaluable { Evaluable site.now table.now limit memo.old work.old }
     requires i_in_bounds { 6 * i + 6 ≤ length table.now }
-    ensures { Evaluated site.now table.now budget.limit budget.cap memo.old memo.new work.new i result }
+    ensures work_size { length work.new ≡ work_bytes }
+    ensures answer { MatchResult result (λ n. Evaluated site.now table.now limit memo.old memo.new work.new i n) (λ _. Over site.now table.now limit memo.old i) }
 {
     if memo.knows(i) {
-        return memo.rounds(i).min(budget.cap);
+        return count(limit, memo.rounds(i));
     }
-    let r = compute(site, table, memo, work, i, budget);
-    memo.keep(i, r);
-    r
+    let made = compute(site, table, memo, work, i, limit)?;
+    memo.keep(i, made);
+    Ok(made)
 }
 
 // The rounds of node i, whose set is written to the work buffer, known or not.
@@ -90,17 +74,18 @@ fn compute(
     memo: &mut Memo,
     work: &mut [u8],
     i: usize,
-    budget: Budget,
-) -> u32
-    requires evaluable { Evaluable site.now table.now budget.limit budget.cap memo.old work.old }
+    limit: Option<u32>,
+) -> Result<u32, OverLimit>
+    requires evaluable { Evaluable site.now table.now limit memo.old work.old }
     requires i_in_bounds { 6 * i + 6 ≤ length table.now }
-    ensures { Evaluated site.now table.now budget.limit budget.cap memo.old memo.new work.new i result }
+    ensures work_size { length work.new ≡ work_bytes }
+    ensures answer { MatchResult result (λ n. Evaluated site.now table.now limit memo.old memo.new work.new i n) (λ _. Over site.now table.now limit memo.old i) }
 {
     match condition::kind(table, i) {
-        NOT | DIA | BOX => unary(site, table, memo, work, i, budget),
-        OR | AND => binary(site, table, memo, work, i, budget),
-        MU | NU => fixpoint(site, table, memo, work, i, budget),
-        _ => leaf(site, table, memo, work, i),
+        NOT | DIA | BOX => unary(site, table, memo, work, i, limit),
+        OR | AND => binary(site, table, memo, work, i, limit),
+        MU | NU => fixpoint(site, table, memo, work, i, limit),
+        _ => Ok(leaf(site, table, memo, work, i)),
     }
 }
 
@@ -125,18 +110,19 @@ fn unary(
     memo: &mut Memo,
     work: &mut [u8],
     i: usize,
-    budget: Budget,
-) -> u32
-    requires evaluable { Evaluable site.now table.now budget.limit budget.cap memo.old work.old }
+    limit: Option<u32>,
+) -> Result<u32, OverLimit>
+    requires evaluable { Evaluable site.now table.now limit memo.old work.old }
     requires i_in_bounds { 6 * i + 6 ≤ length table.now }
     requires fact { ((node_at table.now i).kind ≡ not_no) ⊎ (((node_at table.now i).kind ≡ dia_no) ⊎ ((node_at table.now i).kind ≡ box_no)) }
-    ensures { Evaluated site.now table.now budget.limit budget.cap memo.old memo.new work.new i result }
+    ensures work_size { length work.new ≡ work_bytes }
+    ensures answer { MatchResult result (λ n. Evaluated site.now table.now limit memo.old memo.new work.new i n) (λ _. Over site.now table.now limit memo.old i) }
 {
-    let l = condition::left_child(table, i);
-    let r = eval(site, table, memo, work, l, budget);
-    let set = listing_sets::load(work, l);
+    let child = condition::left_child(table, i);
+    let made = eval(site, table, memo, work, child, limit)?;
+    let set = listing_sets::load(work, child);
     listing_sets::put_unary(site, table, work, i, set);
-    r
+    Ok(made)
 }
 
 // Node i is an `or` or an `and`: both children are evaluated, and their rounds add up. The left set is taken out before the right child is
@@ -148,25 +134,22 @@ fn binary(
     memo: &mut Memo,
     work: &mut [u8],
     i: usize,
-    budget: Budget,
-) -> u32
-    requires evaluable { Evaluable site.now table.now budget.limit budget.cap memo.old work.old }
+    limit: Option<u32>,
+) -> Result<u32, OverLimit>
+    requires evaluable { Evaluable site.now table.now limit memo.old work.old }
     requires i_in_bounds { 6 * i + 6 ≤ length table.now }
     requires or_no_bound { (or_no ≤ (node_at table.now i).kind) × ((node_at table.now i).kind ≤ and_no) }
-    ensures { Evaluated site.now table.now budget.limit budget.cap memo.old memo.new work.new i result }
+    ensures work_size { length work.new ≡ work_bytes }
+    ensures answer { MatchResult result (λ n. Evaluated site.now table.now limit memo.old memo.new work.new i n) (λ _. Over site.now table.now limit memo.old i) }
 {
-    let l = condition::left_child(table, i);
-    let a = eval(site, table, memo, work, l, budget);
-    if budget.limit < a {
-        return a;
-    }
-    let first = listing_sets::load(work, l);
-    let r = condition::right_child(table, i);
-    let rest = budget.after(a);
-    let b = eval(site, table, memo, work, r, rest);
-    let second = listing_sets::load(work, r);
-    listing_sets::put_binary(table, work, i, first, second);
-    a + b
+    let left = condition::left_child(table, i);
+    let made_left = eval(site, table, memo, work, left, limit)?;
+    let left_set = listing_sets::load(work, left);
+    let right = condition::right_child(table, i);
+    let made_right = eval(site, table, memo, work, right, remaining(limit, made_left))?;
+    let right_set = listing_sets::load(work, right);
+    listing_sets::put_binary(table, work, i, left_set, right_set);
+    Ok(made_left + made_right)
 }
 
 // Node i is a mu or nu. Since there are two calls of `fixpoint_from`, the compiler leaves it a function of its own; put in place, it would
@@ -178,21 +161,22 @@ fn fixpoint(
     memo: &mut Memo,
     work: &mut [u8],
     i: usize,
-    budget: Budget,
-) -> u32
-    requires evaluable { Evaluable site.now table.now budget.limit budget.cap memo.old work.old }
+    limit: Option<u32>,
+) -> Result<u32, OverLimit>
+    requires evaluable { Evaluable site.now table.now limit memo.old work.old }
     requires i_in_bounds { 6 * i + 6 ≤ length table.now }
     requires mu_no_bound { (mu_no ≤ (node_at table.now i).kind) × ((node_at table.now i).kind ≤ nu_no) }
-    ensures { Evaluated site.now table.now budget.limit budget.cap memo.old memo.new work.new i result }
+    ensures work_size { length work.new ≡ work_bytes }
+    ensures answer { MatchResult result (λ n. Evaluated site.now table.now limit memo.old memo.new work.new i n) (λ _. Over site.now table.now limit memo.old i) }
 {
     if condition::kind(table, i) == MU {
-        fixpoint_from(site, table, memo, work, i, budget, listing_sets::start(MU))
+        fixpoint_from(site, table, memo, work, i, limit, listing_sets::start(MU))
     } else {
-        fixpoint_from(site, table, memo, work, i, budget, listing_sets::start(NU))
+        fixpoint_from(site, table, memo, work, i, limit, listing_sets::start(NU))
     }
 }
 
-// Node i is a mu or nu: rounds from the set `start` until one gives back its set, or they are over the limit. Each round counts, with those
+// Node i is a mu or nu: rounds from the set `start` until one gives back its set, as long as they are within the limit. Each round counts, with those
 // inside the body. The variable then has its old set again.
 #[cycle(binary_compute_eval_fixpoint_fixpoint_from_unary)]
 fn fixpoint_from(
@@ -201,66 +185,67 @@ fn fixpoint_from(
     memo: &mut Memo,
     work: &mut [u8],
     i: usize,
-    budget: Budget,
+    limit: Option<u32>,
     start: SlotSet,
-) -> u32
-    requires evaluable { Evaluable site.now table.now budget.limit budget.cap memo.old work.old }
+) -> Result<u32, OverLimit>
+    requires evaluable { Evaluable site.now table.now limit memo.old work.old }
     requires i_in_bounds { 6 * i + 6 ≤ length table.now }
     requires mu_no_bound { (mu_no ≤ (node_at table.now i).kind) × ((node_at table.now i).kind ≤ nu_no) }
     requires has { has start ≐ start_of (node_at table.now i).kind }
     requires whole { (length start ≡ set_bytes) × Bytes start }
-    ensures { Evaluated site.now table.now budget.limit budget.cap memo.old memo.new work.new i result }
+    ensures work_size { length work.new ≡ work_bytes }
+    ensures answer { MatchResult result (λ n. Evaluated site.now table.now limit memo.old memo.new work.new i n) (λ _. Over site.now table.now limit memo.old i) }
 {
-    let x = Variable::at(condition::param(table, i));
-    let b = condition::left_child(table, i);
-    let old = memo.variable(x);
+    let variable = Variable::at(condition::param(table, i));
+    let body = condition::left_child(table, i);
+    let old = memo.variable(variable);
     let mut set = start;
     let mut total = 0;
     for _round in 0..ENOUGH {
-        memo.assign(x, set);
-        let rest = budget.after(total);
-        let inside = eval(site, table, memo, work, b, rest);
-        let next = listing_sets::load(work, b);
-        total = (total + 1 + inside).min(budget.cap);
+        memo.assign(variable, set);
+        let inside = eval(site, table, memo, work, body, remaining(limit, total))?;
+        total = count(limit, total + 1 + inside)?;
+        let next = listing_sets::load(work, body);
         let rests = next == set;
         set = next;
-        if rests | (budget.limit < total) {
+        if rests {
             break;
         }
     }
-    memo.assign(x, old);
+    memo.assign(variable, old);
     listing_sets::store(work, i, set);
-    total
+    Ok(total)
 }
 
-// The condition's set, how many slots it holds and how many rounds were made, within the budget. Its last node is not known yet, so `compute`
+// The condition's set, how many slots it holds and how many rounds were made, within the limit. Its last node is not known yet, so `compute`
 // is called for it: with a second call the compiler leaves `compute` a function of its own, and puts the small `eval` in place.
 fn evaluate(
     site: &Site,
     table: &[u8],
     free: &[u16],
-    budget: Budget,
+    limit: Option<u32>,
     set: &mut [u8],
     work: &mut [u8],
-) -> Found
+) -> Result<Found, OverLimit>
     requires table_value { condition_verdict table.now ≡ Accepted }
     requires free_len { (length free.now ≡ table_nodes) × FreeRows table.now free.now }
-    requires budgeted { Budgeted budget.limit budget.cap }
+    requires usual { Usual limit }
     requires set_len { (length set.old ≡ set_bytes) × (length work.old ≡ work_bytes) }
-    ensures capped { Capped budget.limit budget.cap (site_of site.now) (form_of (table_of table.now)) set.new result }
+    ensures answered { Answered limit (site_of site.now) (form_of (table_of table.now)) set.new result }
     ensures work_after { work.new ≡ replicate work_bytes 0 }
 {
-    let n = table.len() / NODE_BYTES;
-    let mut memo = Memo::new(&free[..n]);
-    let i = n - 1;
-    let rounds = compute(site, table, &mut memo, work, i, budget);
-    let last = listing_sets::load(work, i);
-    last.write(set);
+    let nodes = table.len() / NODE_BYTES;
+    let mut memo = Memo::new(&free[..nodes]);
+    let top = nodes - 1;
+    let made = compute(site, table, &mut memo, work, top, limit);
+    let last = listing_sets::load(work, top);
     work.fill(0);
-    Found {
+    let rounds = made?;
+    last.write(set);
+    Ok(Found {
         count: last.len(),
         rounds,
-    }
+    })
 }
 
 // Lists the condition as long as its rounds are within the limit: one round over it shows that they are not.
@@ -279,15 +264,17 @@ pub fn list(
     ensures limited { Limited limit (site_of site.now) (form_of (table_of table.now)) set.new result }
     ensures work_after { work.new ≡ replicate work_bytes 0 }
 {
-    let budget = Budget {
-        limit,
-        cap: limit + 1,
-    };
-    evaluate(site, table, free, budget, set, work)
+    match evaluate(site, table, free, Some(limit), set, work) {
+        Ok(found) => found,
+        Err(OverLimit) => Found {
+            count: 0,
+            rounds: limit + 1,
+        },
+    }
 }
 
-// Lists the condition however many rounds it makes, and answers how many slots the set holds. With a cap of 0 no round is counted, so that none is
-// over the limit.
+// Lists the condition however many rounds it makes, and answers how many slots the set holds. Without a limit no round is
+// counted, since nothing bounds their number.
 pub fn list_all(site: &Site, table: &[u8], free: &[u16], set: &mut [u8], work: &mut [u8]) -> u32
     requires table_value { condition_verdict table.now ≡ Accepted }
     requires free_len { (length free.now ≡ table_nodes) × FreeRows table.now free.now }
@@ -295,6 +282,8 @@ pub fn list_all(site: &Site, table: &[u8], free: &[u16], set: &mut [u8], work: &
     ensures listed { Listed (site_of site.now) (form_of (table_of table.now)) set.new result }
     ensures work_after { work.new ≡ replicate work_bytes 0 }
 {
-    let budget = Budget { limit: 0, cap: 0 };
-    evaluate(site, table, free, budget, set, work).count
+    match evaluate(site, table, free, None, set, work) {
+        Ok(found) => found.count,
+        Err(OverLimit) => unreachable!(),
+    }
 }

@@ -1,13 +1,13 @@
 -- The answer: the last node's set is that of the slots where the condition holds, and its rounds are those that listing makes, whatever sets
 -- the variables have.
-use Rattle.std.specs.Prelude.{◌≡◌, refl, ◌↔◌, List, Bool, true, false, not, ℕ, ◌+◌, ◌*◌, ◌-◌, ◌/◌, ◌<◌, length, take}
+use Rattle.std.specs.Prelude.{◌≡◌, refl, ◌↔◌, List, Option, Bool, true, false, not, ℕ, ◌-◌, ◌/◌, ◌<◌, length, take}
 use Rattle.std.proofs.Common.{◌∙◌, subst, arith, sym, ap, get_or-take}
 use Rattle.std.proofs.Math.Logic.Iff
 use Rattle.finite.specs.Tests.{same}
 use Rattle.finite.proofs.Laws.Bools.{either, clash, no_true, and_l, and_r, or_out, not_out}
 use Rattle.finite.proofs.Laws.Below.{same_eq, below_in, below_out, all_out}
-use Rattle.bitset.specs.Set.{set_slots, has}
-use Rattle.limits.specs.Limits.{slots, variables, table_nodes}
+use Rattle.bitset.specs.Set.{has}
+use Rattle.limits.specs.Limits.{slots, variables}
 use Rattle.semantics.specs.Form.{Form, occ, free, closed}
 use Rattle.semantics.specs.Holds.{Env, Model, Holds}
 use Rattle.semantics.specs.Table.{k_true, k_here, k_label, k_name, k_var, k_slot, k_not, k_dia, k_box, k_mu, k_nu, k_or, k_and, Kind, leaf, unary, binary, Node, atom, one, two, build, tree_at, form_of, leaf_fits, kind_fits, nodes_fit}
@@ -20,7 +20,6 @@ use Rattle.rounds.specs.Makes.{Makes}
 use Rattle.rounds.specs.Count.{rounds}
 use Rattle.rounds.proofs.Laws.Count.{rounds-closed}
 use Rattle.rounds.proofs.Laws.Exact.{rounds_table}
-use Rattle.site.specs.Layout.{site_bytes}
 use Rattle.site.specs.Site.{site_of}
 use Rattle.condition.specs.Bytes.{table_of}
 use Rattle.condition.proofs.Laws.Bytes.{length_table}
@@ -32,7 +31,8 @@ use Rattle.listing_sets.specs.Offsets.{set_at}
 use Rattle.listing_memo.specs.declared.memo.Memo.{Memo}
 use Rattle.listing_memo.specs.Memo.{valuation, Started}
 use Rattle.listing.specs.Listed.{work_bytes}
-use Rattle.listing.specs.State.{Budgeted, Evaluable, Done}
+use Rattle.listing.specs.Counting.{Usual}
+use Rattle.listing.specs.State.{Evaluable, Done}
 
 -- each variable of a table's trees is one of the sixteen
 FewVariables : Form → Type 0
@@ -63,15 +63,15 @@ unfolding FewVariables closed free
 none_free φ k c v = no_true (λ o. not_out _ (all_out variables _ c v (either (or_out (occ true v φ) _ o) (k true v) (k false v))) o)
 
 -- at the start no node is known
-pub none-known : {site S masks work : List ℕ} {memo : Memo} {limit cap n : ℕ} → Sound S → FreeRows S masks → Started (take n masks) memo n
-    → n ≡ length S / 6 → length work ≡ work_bytes → Budgeted limit cap → Evaluable site S limit cap memo work
+pub none-known : {site S masks work : List ℕ} {memo : Memo} {limit : Option ℕ} {n : ℕ} → Sound S → FreeRows S masks → Started (take n masks) memo n
+    → n ≡ length S / 6 → length work ≡ work_bytes → Usual limit → Evaluable site S limit memo work
 none-known {S = S} {masks} {n = n} sound f start hn hw g =
     let len = length_table S in
     record {
       short = sound.few;
       fits = sound.fits;
       even_rule = sound.even_rule;
-      budget = g;
+      usual = g;
       work_size = hw;
       right = record {
         free_right = λ x j hx h.
@@ -111,7 +111,7 @@ module _ {S : List ℕ} {i : ℕ} (sound : Sound S) (e : i ≡ length S / 6 - 1)
       (ap (λ (j : ℕ). rounds M σ (tree_at xs j)) is_last ∙ rounds-closed M (tree_at xs last) unbound σ ρ)
 
 -- the set that was read from the work buffer after the last node's call
-pub answer : {cap i : ℕ} {site S work' : List ℕ} {memo memo' : Memo} (set' : List ℕ) → Sound S → i ≡ length S / 6 - 1 → Done site S cap memo memo' work' i
+pub answer : {limit : Option ℕ} {i : ℕ} {site S work' : List ℕ} {memo memo' : Memo} (set' : List ℕ) → Sound S → i ≡ length S / 6 - 1 → Done site S limit memo memo' work' i
     → has set' ≐ set_at work' i → (ρ : Env) (s : ℕ) → s < slots → (has set' s ≡ true) ↔ Holds (site_of site) ρ (form_of (table_of S)) s
 answer {site = site} {memo = memo} set' sound e d found ρ s h =
     let value = found s h ∙ d.here s h in
