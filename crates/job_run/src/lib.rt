@@ -62,11 +62,14 @@ fn try_run(
     let mut free = even_rule::no_masks();
     job_steps::judge(site, cond, sheet, &mut free)?; // items 3 to 12
     let nodes = job_steps::change(site, cond, sheet, edition, changed, table)?; // 13 and 14
-    let (Some(site_after), Some(site)) = (Site::new(changed), Site::new(site)) else {
+    let Some(site_after) = Site::new(changed) else {
         unreachable!()
     };
     let listed_after = listing::list(&site_after, cond, &free, limit, after, work);
     check_rounds(limit, listed_after.rounds)?; // 15
+    let Some(site) = Site::new(site) else {
+        unreachable!()
+    };
     let listed_today = job_steps::list_first(&site, table, nodes, limit, today, work);
     check_rounds(limit, listed_today.rounds)?;
     Ok(Report {

@@ -16,7 +16,7 @@ pub returns-in_err-check_rounds : goal.returns-in_err-check_rounds
 returns-in_err-check_rounds c =
     let size : length c.judge.new.free ≡ table_nodes = omega arith in
     let m = made c.in_ok-judge.ensures size c.in_ok-nodes.ensures in
-    rw (passed_on c.from_residual-in_err-check_rounds.ensures.1) (over_after m c.list-listed_after.ensures.limited c.in_err-check_rounds.ensures)
+    rw (passed_on c.from_residual-in_err-check_rounds.ensures.1) (over_after m (rw c.in-Some.ensures.some at c.list-listed_after.ensures.limited) c.in_err-check_rounds.ensures)
 
 pub list_first-listed_today-requires-clause-part : goal.list_first-listed_today-requires-clause-part
 list_first-listed_today-requires-clause-part c =
@@ -29,12 +29,12 @@ returns-in_err-check_rounds-2 c =
     let size : length c.judge.new.free ≡ table_nodes = omega arith in
     let m = made c.in_ok-judge.ensures size c.in_ok-nodes.ensures in
     rw (passed_on c.from_residual-in_err-check_rounds-2.ensures.1)
-    (over_today m c.list-listed_after.ensures.limited c.in_ok-check_rounds.ensures c.list_first-listed_today.ensures.limited
+    (over_today m (rw c.in-Some.ensures.some at c.list-listed_after.ensures.limited) c.in_ok-check_rounds.ensures (rw c.in-Some-new.ensures.some at c.list_first-listed_today.ensures.limited)
     c.in_err-check_rounds-2.ensures)
 
 pub returns : goal.returns
 returns c =
     let size : length c.judge.new.free ≡ table_nodes = omega arith in
     let m = made c.in_ok-judge.ensures size c.in_ok-nodes.ensures in
-    done m c.list-listed_after.ensures.limited c.in_ok-check_rounds.ensures c.list_first-listed_today.ensures.limited
-    c.in_ok-check_rounds-2.ensures c.list_first-listed_today.ensures.work_after c.requires.sized.work_size c.number.ensures.classes c.number.ensures.value
+    done m (rw c.in-Some.ensures.some at c.list-listed_after.ensures.limited) c.in_ok-check_rounds.ensures (rw c.in-Some-new.ensures.some at c.list_first-listed_today.ensures.limited)
+    c.in_ok-check_rounds-2.ensures c.list_first-listed_today.ensures.work_after c.requires.sized.work_size (rw c.in-Some.ensures.some at c.number.ensures.classes) c.number.ensures.value
