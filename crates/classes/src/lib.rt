@@ -6,9 +6,9 @@ ghost use Rattle.finite.specs.Tests.{any};
 ghost use Rattle.bitset.specs.Set.{set_slots};
 ghost use Rattle.semantics.specs.Refine.{bisimilar_in};
 ghost use Rattle.site.specs.Site.{site_of};
-ghost use Rattle.partition.specs.Rows.{in_row};
+ghost use Rattle.partition.specs.Rows.{in_row, Used};
 ghost use Rattle.partition.specs.Partition.{Partition, Partitions, by_seen, Refines};
-ghost use Rattle.classes.specs.Classes.{Classes, different, Used};
+ghost use Rattle.classes.specs.Classes.{Classes, different};
 ghost use Rattle.classes.specs.Features.{FeatureRows};
 
 use bitset::{SET_SLOTS, SlotSet};
@@ -47,17 +47,6 @@ fn start(site: &Site) -> [u8; SET_SLOTS]
     splitting::by_rows(&[0; SET_SLOTS], &features_of(site))
 }
 
-// Which ways lead anywhere.
-fn used_ways(ways: &Ways) -> [bool; WAYS]
-    ensures { Used ways.now result }
-{
-    let mut used = [false; WAYS];
-    for w in 0..WAYS {
-        used[w] = splitting::any_slot(&ways[w]);
-    }
-    used
-}
-
 // The classes of q, split by the classes of p that their slots reach by a way. One that is not used splits none.
 fn split(q: &[u8; SET_SLOTS], rows: &Rows, used: bool, p: &Members) -> [u8; SET_SLOTS]
     requires partition { Partition q.now }
@@ -90,8 +79,7 @@ pub fn refine(site: &Site) -> [u8; SET_SLOTS]
     ensures { Classes (site_of site.now) result }
 {
     let mut ways = [[SlotSet::empty(); SET_SLOTS]; WAYS];
-    neighbours::of_site(site, &mut ways);
-    let used = used_ways(&ways);
+    let used = neighbours::of_site(site, &mut ways);
     let mut p = start(site);
     for _round in 0..SET_SLOTS {
         let q = round(&ways, &used, p);

@@ -1,5 +1,5 @@
 -- Rows: a set for each of the 256 slots. A slot's signature is the row of the classes that its neighbours are in.
-use Rattle.std.specs.Prelude.{◌≡◌, Bool, ◌&&◌, List, [], ℕ, ◌<◌, get_or}
+use Rattle.std.specs.Prelude.{◌≡◌, Bool, false, ◌&&◌, List, [], ℕ, ◌<◌, get_or}
 use Rattle.std.specs.Bool.{beq}
 use Rattle.limits.specs.Limits.{every_way}
 use Rattle.finite.specs.Tests.{same, any, all}
@@ -49,3 +49,7 @@ by_way W w s t = in_row (way_rows W w) s t
 
 unfoldable pub Neighbours : Model → List (List (List ℕ)) → Type 0
 Neighbours M W = (w s t : ℕ) → w < every_way → s < set_slots → t < set_slots → by_way W w s t ≡ step M (way_of w) s t
+
+-- u says of each way whether some slot of some row of it is there
+abbrev pub Used : List (List (List ℕ)) → List Bool → Type 0
+Used W u = (w : ℕ) → w < every_way → get_or u w false ≡ any set_slots (λ s. any set_slots (by_way W w s))

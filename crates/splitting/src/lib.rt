@@ -2,25 +2,14 @@
 #![tactic(auto)]
 
 ghost use Rattle.std.specs.Prelude.{◌≡◌, ◌<◌};
-ghost use Rattle.finite.specs.Tests.{any, first};
+ghost use Rattle.finite.specs.Tests.{first};
 ghost use Rattle.bitset.specs.Set.{set_slots};
-ghost use Rattle.partition.specs.Rows.{in_row, same_set};
+ghost use Rattle.partition.specs.Rows.{same_set};
 ghost use Rattle.partition.specs.Partition.{Partition, Partitions, by_row_of, by_seen};
 
 use bitset::{SET_SLOTS, SlotSet};
 use partition::Rows;
 use signatures::Members;
-
-// Has some row a slot?
-pub fn any_slot(rows: &Rows) -> bool
-    ensures { result ≡ any set_slots (λ s. any set_slots (in_row rows.now s)) }
-{
-    let mut all = SlotSet::empty();
-    for s in 0..SET_SLOTS {
-        all = all | rows[s];
-    }
-    !all.is_empty()
-}
 
 // Have the sets the same slots?
 fn same(a: SlotSet, b: SlotSet) -> bool

@@ -4,4 +4,4 @@ use Rattle.neighbours.proofs.Laws.Steps.{Upto}
 use Rattle.neighbours.proofs.of_site.Given as goal
 
 abbrev pub invariant-loop-m : goal.invariant-loop-m
-invariant-loop-m l = Upto (site_of l.site) l.m l.ahead l.back
+invariant-loop-m l = Upto (site_of l.site) l.m l.ahead l.back l.used

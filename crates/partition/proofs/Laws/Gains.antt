@@ -66,6 +66,12 @@ gains_empty {f} {S} e h s t i j = h.holds s t i j ∙ ap (λ (z : Bool). z || f 
 pub record Lacks (f g : ℕ → ℕ → Bool) (B A : List (List ℕ)) : Type 0 where
   pub holds : (s t : ℕ) → s < set_slots → t < set_slots → (in_row A s t || g s t) ≡ (in_row B s t || f s t)
 
+-- the lowest slot of a set is in it
+pub lowest_in : (x : ℕ) (L : List ℕ) → x < set_slots → x ≡ first set_slots (has L) → has L x ≡ true
+lowest_in x L k q =
+    let some : any set_slots (has L) ≡ true = either (look (any set_slots (has L))) (λ z. z) (λ z. absurd (omega (arith, q, k, first-none set_slots (has L) z))) in
+    rw q (first_in set_slots (has L) some).1
+
 -- slot c is put into the rows of the slots of a set, from the lowest on; those of L are to come
 module _ (c : ℕ) where
   pub lacks_start : (S L : List ℕ) (B : List (List ℕ)) → L ≡ S → Lacks (λ s t. has S s && same t c) (λ s t. has L s && same t c) B B
@@ -80,11 +86,6 @@ module _ (c : ℕ) where
         ∙ h.holds s t i j;
   }
     where
-      lowest_in : (y : ℕ) (S : List ℕ) → y < set_slots → y ≡ first set_slots (has S) → has S y ≡ true
-      lowest_in y S k q =
-          let some : any set_slots (has S) ≡ true = either (look (any set_slots (has S))) (λ z. z) (λ z. absurd (omega (arith, q, first-none set_slots (has S) z))) in
-          rw q (first_in set_slots (has S) some).1
-
       moved : (a y z w : Bool) → (z ≡ true → y ≡ true) → ((a || (z && w)) || ((y && not z) && w)) ≡ (a || (y && w))
       moved true y z w h = refl
       moved false y true w h = rw (h refl) (or-false w)

@@ -1,5 +1,5 @@
 -- The slots below s have their signatures.
-use Rattle.std.proofs.Common.{ℕ, List, [], length-set, below_none, arith}
+use Rattle.std.proofs.Common.{ℕ, List, [], below_none, arith}
 use Rattle.bitset.specs.Set.{Is}
 use Rattle.partition.specs.Rows.{row, sees, Signed}
 use Rattle.partition.proofs.Laws.Gains.{row_at}

@@ -1,6 +1,6 @@
 -- The slots below s have their signatures.
-use Rattle.std.proofs.Common.{◌≡◌, ℕ, ◌<◌, length}
-use Rattle.bitset.specs.Set.{set_slots, Is}
+use Rattle.std.proofs.Common.{ℕ, ◌<◌}
+use Rattle.bitset.specs.Set.{Is}
 use Rattle.partition.specs.Rows.{row, sees}
 use Rattle.signatures.proofs.of_rows.Given as goal
 
