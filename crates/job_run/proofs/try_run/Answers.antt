@@ -1,5 +1,5 @@
 -- The pieces are judged and changed, then both lists are made, and the classes numbered.
-use Rattle.std.proofs.Common.{arith, length, ◌≡◌}
+use Rattle.std.proofs.Common.{arith, sym, true≢false, length, ◌≡◌}
 use Rattle.verdict.proofs.Laws.{passed_on}
 use Rattle.limits.specs.Limits.{table_nodes}
 use Rattle.job_run.proofs.Laws.Job.{tried_refused, judge_refused, change_refused, made, over_after, over_today, done}
@@ -38,3 +38,15 @@ returns c =
     let m = made c.in_ok-judge.ensures size c.in_ok-nodes.ensures in
     done m (rw c.in-Some.ensures.some at c.list-listed_after.ensures.limited) c.in_ok-check_rounds.ensures (rw c.in-Some-new.ensures.some at c.list_first-listed_today.ensures.limited)
     c.in_ok-check_rounds-2.ensures c.list_first-listed_today.ensures.work_after c.requires.sized.work_size (rw c.in-Some.ensures.some at c.number.ensures.classes) c.number.ensures.value
+
+pub unreachable-requires-in_default-new : goal.unreachable-requires-in_default-new
+unreachable-requires-in_default-new c =
+    let size : length c.judge.new.free ≡ table_nodes = omega arith in
+    let m = made c.in_ok-judge.ensures size c.in_ok-nodes.ensures in
+    true≢false (sym (c.in_default-new.ensures.sized.1 m.site_size))
+
+pub list_first-listed_today-requires-clause-room : goal.list_first-listed_today-requires-clause-room
+list_first-listed_today-requires-clause-room c =
+    let size : length c.judge.new.free ≡ table_nodes = omega arith in
+    let m = made c.in_ok-judge.ensures size c.in_ok-nodes.ensures in
+    m.room
