@@ -1,4 +1,4 @@
-// For the test programs: pieces of jobs, read from an input; bytes, checksums and refusals, shown. A piece is written as its kind, its length, how
+// For the test programs: pieces of jobs, read from an input; bytes and checksums, shown. A piece is written as its kind, its length, how
 // many of its bytes are not 0, and each of these behind its offset (tests/pieces.py).
 #![tactic(auto)]
 
@@ -116,11 +116,6 @@ pub fn checksum(bytes: &[u8]) -> u64 {
         h = mixed(h, *x);
     }
     h
-}
-
-// The item that is met and its W, as `refused N W`.
-pub fn print_refusal<W: Write>(output: &mut W, item: u8, w: u16) -> io::Result<()> {
-    write!(output, "refused {item} {w}")
 }
 
 // How many limits stand behind a pair or a job.

@@ -11,13 +11,13 @@ ghost use Rattle.limits.specs.Limits.{every_way};
 ghost use Rattle.site.specs.Layout.{site_bytes};
 
 use bitset::{SET_BYTES, SET_SLOTS};
-use chain_entry::Chaining;
 use chaining::CHAIN_BYTES;
 use listing::WORK_BYTES;
 use pieces::ROOM;
 use site::SITE_BYTES;
 use std::io;
 use std::io::{BufReader, BufWriter, Read, Write};
+use verdict::Refusal;
 
 const EVERY: u32 = limits::EVERY as u32;
 
@@ -56,38 +56,35 @@ fn print_set<W: Write>(output: &mut W, set: &[u8]) -> io::Result<()> {
 }
 
 // Says which result buffer that is not given is not left as zeros.
-fn show<W: Write>(output: &mut W, answer: Chaining, chain: &[u8], set: &[u8]) -> io::Result<()> {
+fn show<W: Write>(
+    output: &mut W,
+    answer: Result<Option<u32>, Refusal>,
+    chain: &[u8],
+    set: &[u8],
+) -> io::Result<()> {
     match answer {
-        Chaining::Given(steps) => {
+        Ok(Some(steps)) => {
             print_chain(output, steps, chain)?;
             pieces::say_left(output, set, b" set left")
         }
-        Chaining::Reached => {
+        Ok(None) => {
             print_set(output, set)?;
             pieces::say_left(output, chain, b" chain left")
         }
-        Chaining::Refused(item, w) => {
-            pieces::print_refusal(output, item, w)?;
+        Err(refusal) => {
+            write!(output, "{refusal}")?;
             pieces::say_left(output, chain, b" chain left")?;
             pieces::say_left(output, set, b" set left")
         }
     }
 }
 
-fn is_item(answer: Chaining, n: u8) -> bool {
-    match answer {
-        Chaining::Given(_) => false,
-        Chaining::Reached => false,
-        Chaining::Refused(item, w) => (item == n) & (w == 0),
-    }
-}
-
 // What the search answers, as the entry has it: it has 256 for no chain.
-fn found(n: usize) -> Chaining {
+fn found(n: usize) -> Option<u32> {
     if n < SET_SLOTS {
-        return Chaining::Given(n as u32);
+        return Some(n as u32);
     }
-    Chaining::Reached
+    None
 }
 
 // Prints what the search gives, behind the refusal. The last slot is the goal.
@@ -99,14 +96,14 @@ fn search<W: Write>(output: &mut W, site: &[u8], way: u8, start: usize) -> io::R
     let mut work = [170u8; WORK_BYTES];
     let n = chaining::search(site, way, start, &mut chain, &mut set, &mut work);
     write!(output, "; ")?;
-    show(output, found(n), &chain, &set)?;
+    show(output, Ok(found(n)), &chain, &set)?;
     pieces::say_left(output, &work, b" work left")
 }
 
 // An accepted site has no link at slot 0, and so no chain of 255 steps. The search asks only for the length, the way and the start.
 fn search_refused<W: Write>(
     output: &mut W,
-    answer: Chaining,
+    answer: Result<Option<u32>, Refusal>,
     site: &[u8],
     way: u32,
     start: u32,
@@ -120,7 +117,7 @@ fn search_refused<W: Write>(
     if start >= SLOTS {
         return Ok(());
     }
-    if is_item(answer, 6) {
+    if matches!(answer, Err(Refusal::Links)) {
         search(output, site, way as u8, start as usize)?;
     }
     Ok(())
@@ -154,7 +151,11 @@ fn expect_item_1<W: Write>(
     work: &mut [u8],
 ) -> io::Result<()> {
     let r = chain_entry::chain(site, cond, way, start, chain, set, work);
-    pieces::say(output, !is_item(r, 1), b" other lengths taken")?;
+    pieces::say(
+        output,
+        !matches!(r, Err(Refusal::BufferLength)),
+        b" other lengths taken",
+    )?;
     pieces::say_left(output, chain, b" chain of another length left")?;
     pieces::say_left(output, set, b" set of another length left")?;
     pieces::say_left(output, work, b" work of another length left")

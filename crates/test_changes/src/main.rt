@@ -6,14 +6,12 @@
 
 use bitset::SET_BYTES;
 use limits::{HIGHEST_LIMIT, NODE_BYTES, TABLE_BYTES};
-use list_entry::Listing;
-use listing::WORK_BYTES;
+use listing::{Found, WORK_BYTES};
 use pieces::ROOM;
-use rewriting::Rewriting;
 use site::SITE_BYTES;
 use std::io;
 use std::io::{BufReader, BufWriter, Read, Write};
-use verdict::Verdict;
+use verdict::Refusal;
 
 // A longer table is printed as its checksum.
 const SHOWN_BYTES: usize = 256 * NODE_BYTES;
@@ -32,35 +30,34 @@ fn print_changes<W: Write>(output: &mut W, before: &[u8], after: &[u8]) -> io::R
     Ok(())
 }
 
-fn is_item_1(v: Verdict) -> bool {
-    match v {
-        Verdict::Accepted => false,
-        Verdict::Refused(item, w) => (item == 1) & (w == 0),
-    }
-}
-
 // A result buffer that is a byte too short.
 fn short_site_is_refused(site: &[u8], sheet: &[u8], edition: u32) -> bool {
     let mut result = [170u8; SITE_BYTES - 1];
-    is_item_1(apply_entry::apply(site, sheet, edition, &mut result)) & pieces::all_zero(&result)
+    let answer = apply_entry::apply(site, sheet, edition, &mut result);
+    matches!(answer, Err(Refusal::BufferLength)) & pieces::all_zero(&result)
 }
 
 fn short_table_is_refused(cond: &[u8], sheet: &[u8], edition: u32) -> bool {
     let mut result = [170u8; TABLE_BYTES - 1];
-    let r = rewrite_entry::rewrite(cond, sheet, edition, &mut result);
-    is_item_1(rewriting::verdict(r)) & (rewriting::nodes(r) == 0) & pieces::all_zero(&result)
+    let answer = rewrite_entry::rewrite(cond, sheet, edition, &mut result);
+    matches!(answer, Err(Refusal::BufferLength)) & pieces::all_zero(&result)
 }
 
 // True where the sheet is applied.
-fn show_applied<W: Write>(output: &mut W, v: Verdict, site: &[u8], res: &[u8]) -> io::Result<bool> {
-    match v {
-        Verdict::Accepted => {
+fn show_applied<W: Write>(
+    output: &mut W,
+    answer: Result<(), Refusal>,
+    site: &[u8],
+    res: &[u8],
+) -> io::Result<bool> {
+    match answer {
+        Ok(()) => {
             write!(output, "applied")?;
             print_changes(output, site, res)?;
             Ok(true)
         }
-        Verdict::Refused(item, w) => {
-            pieces::print_refusal(output, item, w)?;
+        Err(refusal) => {
+            write!(output, "{refusal}")?;
             pieces::say_left(output, res, b" site left")?;
             Ok(false)
         }
@@ -75,8 +72,8 @@ fn apply<W: Write>(
     edition: u32,
     res: &mut [u8],
 ) -> io::Result<bool> {
-    let v = apply_entry::apply(site, sheet, edition, res);
-    let applied = show_applied(output, v, site, res)?;
+    let answer = apply_entry::apply(site, sheet, edition, res);
+    let applied = show_applied(output, answer, site, res)?;
     pieces::say(
         output,
         !short_site_is_refused(site, sheet, edition),
@@ -104,11 +101,15 @@ fn print_table<W: Write>(output: &mut W, nodes: u32, res: &[u8]) -> io::Result<(
     Ok(())
 }
 
-fn show_rewritten<W: Write>(output: &mut W, r: Rewriting, res: &[u8]) -> io::Result<()> {
-    match r {
-        Rewriting::Rewritten(n) => print_table(output, n, res),
-        Rewriting::Refused(item, w) => {
-            pieces::print_refusal(output, item, w)?;
+fn show_rewritten<W: Write>(
+    output: &mut W,
+    answer: Result<u32, Refusal>,
+    res: &[u8],
+) -> io::Result<()> {
+    match answer {
+        Ok(nodes) => print_table(output, nodes, res),
+        Err(refusal) => {
+            write!(output, "{refusal}")?;
             pieces::say_left(output, res, b" table left")
         }
     }
@@ -122,25 +123,29 @@ fn rewrite<W: Write>(
     edition: u32,
     res: &mut [u8],
 ) -> io::Result<usize> {
-    let r = rewrite_entry::rewrite(cond, sheet, edition, res);
-    show_rewritten(output, r, res)?;
+    let answer = rewrite_entry::rewrite(cond, sheet, edition, res);
+    show_rewritten(output, answer, res)?;
     pieces::say(
         output,
         !short_table_is_refused(cond, sheet, edition),
         b" short buffer taken",
     )?;
     writeln!(output)?;
-    Ok(NODE_BYTES * rewriting::nodes(r) as usize)
+    Ok(NODE_BYTES * answer.unwrap_or(0) as usize)
 }
 
-fn show_list<W: Write>(output: &mut W, answer: Listing, set: &[u8]) -> io::Result<()> {
+fn show_list<W: Write>(
+    output: &mut W,
+    answer: Result<Found, Refusal>,
+    set: &[u8],
+) -> io::Result<()> {
     match answer {
-        Listing::Listed(found) => {
+        Ok(found) => {
             let count = found.count;
             write!(output, "{count} ")?;
             pieces::print_bytes(output, set)
         }
-        Listing::Refused(item, w) => pieces::print_refusal(output, item, w),
+        Err(refusal) => write!(output, "{refusal}"),
     }
 }
 
@@ -187,8 +192,8 @@ fn print_lists<W: Write>(
 
 fn short_through_is_refused(sheet: &[u8], edition: u32) -> bool {
     let mut result = [170u8; TABLE_BYTES - 1];
-    let r = rewrite_entry::through(sheet, edition, &mut result);
-    is_item_1(rewriting::verdict(r)) & (rewriting::nodes(r) == 0) & pieces::all_zero(&result)
+    let answer = rewrite_entry::through(sheet, edition, &mut result);
+    matches!(answer, Err(Refusal::BufferLength)) & pieces::all_zero(&result)
 }
 
 // Makes the condition for going through and prints it; its length, 0 where it is refused.
@@ -199,15 +204,15 @@ fn through<W: Write>(
     res: &mut [u8],
 ) -> io::Result<usize> {
     write!(output, "through ")?;
-    let r = rewrite_entry::through(sheet, edition, res);
-    show_rewritten(output, r, res)?;
+    let answer = rewrite_entry::through(sheet, edition, res);
+    show_rewritten(output, answer, res)?;
     pieces::say(
         output,
         !short_through_is_refused(sheet, edition),
         b" short buffer taken",
     )?;
     writeln!(output)?;
-    Ok(NODE_BYTES * rewriting::nodes(r) as usize)
+    Ok(NODE_BYTES * answer.unwrap_or(0) as usize)
 }
 
 // The list of the condition for going through on the site, where there is one.

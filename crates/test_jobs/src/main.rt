@@ -8,13 +8,14 @@ ghost use Rattle.std.specs.Prelude.{◌≡◌, ◌+◌, length};
 ghost use Rattle.pieces.specs.Room.{room};
 
 use bitset::{SET_BYTES, SET_SLOTS};
-use job_run::Job;
+use job_run::Report;
 use limits::TABLE_BYTES;
 use listing::{Found, WORK_BYTES};
 use pieces::ROOM;
 use site::SITE_BYTES;
 use std::io;
 use std::io::{BufReader, BufWriter, Read, Write};
+use verdict::Refusal;
 
 fn print_word<W: Write>(output: &mut W, word: &[u8], n: u64) -> io::Result<()> {
     output.write_all(word)?;
@@ -39,21 +40,18 @@ fn print_left<W: Write>(
     writeln!(output)
 }
 
-fn is_item_1(answer: Job) -> bool {
-    match answer {
-        Job::Done(_, _, _, _) => false,
-        Job::Refused(item, w) => (item == 1) & (w == 0),
-    }
-}
-
 // In buffers of other lengths a job has to be refused with 1.
-fn say_taken<W: Write>(output: &mut W, answer: Job) -> io::Result<()> {
-    pieces::say(output, !is_item_1(answer), b"short buffers taken\n")
+fn say_taken<W: Write>(output: &mut W, answer: Result<Report, Refusal>) -> io::Result<()> {
+    pieces::say(
+        output,
+        !matches!(answer, Err(Refusal::BufferLength)),
+        b"short buffers taken\n",
+    )
 }
 
 fn print_answer<W: Write>(
     output: &mut W,
-    answer: Job,
+    answer: Result<Report, Refusal>,
     after: &[u8],
     today: &[u8],
 ) -> io::Result<()> {
@@ -85,7 +83,7 @@ fn say_results_left<W: Write>(
 // Prints an answer and what the job has left.
 fn show<W: Write>(
     output: &mut W,
-    answer: Job,
+    answer: Result<Report, Refusal>,
     changed: &[u8],
     table: &[u8],
     after: &[u8],
@@ -94,11 +92,11 @@ fn show<W: Write>(
 ) -> io::Result<()> {
     print_answer(output, answer, after, today)?;
     match answer {
-        Job::Done(a, t, _, _) => {
-            print_rounds(output, a, t)?;
+        Ok(report) => {
+            print_rounds(output, report.after, report.today)?;
             print_left(output, changed, table, classes)
         }
-        Job::Refused(_, _) => say_results_left(output, changed, table, after, today, classes),
+        Err(_) => say_results_left(output, changed, table, after, today, classes),
     }
 }
 

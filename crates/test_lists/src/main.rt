@@ -7,19 +7,18 @@
 ghost use Rattle.std.specs.Prelude.{◌≡◌, length};
 ghost use Rattle.bitset.specs.Set.{set_bytes};
 ghost use Rattle.limits.specs.Limits.{table_nodes};
-ghost use Rattle.verdict.specs.declared.Verdict.TheVariants.{Accepted};
+ghost use Rattle.verdict.specs.Verdict.{Accepted};
 ghost use Rattle.site.specs.Layout.{site_bytes};
 ghost use Rattle.condition.specs.Refusal.{condition_verdict};
 ghost use Rattle.even_rule.specs.Free.{FreeRows};
 
 use bitset::SET_BYTES;
-use list_entry::Listing;
 use listing::{Found, WORK_BYTES};
 use pieces::ROOM;
 use site::SITE_BYTES;
 use std::io;
 use std::io::{BufReader, BufWriter, Read, Write};
-use verdict::Verdict;
+use verdict::Refusal;
 
 fn print_found<W: Write>(output: &mut W, found: Found, set: &[u8]) -> io::Result<()> {
     let count = found.count;
@@ -29,26 +28,27 @@ fn print_found<W: Write>(output: &mut W, found: Found, set: &[u8]) -> io::Result
     write!(output, " rounds {rounds}")
 }
 
-fn print_answer<W: Write>(output: &mut W, answer: Listing, set: &[u8]) -> io::Result<()> {
+fn print_answer<W: Write>(
+    output: &mut W,
+    answer: Result<Found, Refusal>,
+    set: &[u8],
+) -> io::Result<()> {
     match answer {
-        Listing::Listed(found) => print_found(output, found, set),
-        Listing::Refused(item, w) => pieces::print_refusal(output, item, w),
-    }
-}
-
-fn is_item_1(answer: Listing) -> bool {
-    match answer {
-        Listing::Listed(_) => false,
-        Listing::Refused(item, w) => (item == 1) & (w == 0),
+        Ok(found) => print_found(output, found, set),
+        Err(refusal) => write!(output, "{refusal}"),
     }
 }
 
 // In buffers of other lengths listing has to be refused with 1.
-fn show<W: Write>(output: &mut W, answer: Listing, set: &[u8]) -> io::Result<()> {
+fn show<W: Write>(output: &mut W, answer: Result<Found, Refusal>, set: &[u8]) -> io::Result<()> {
     if set.len() == SET_BYTES {
         print_answer(output, answer, set)
     } else {
-        pieces::say(output, !is_item_1(answer), b" short buffers taken")
+        pieces::say(
+            output,
+            !matches!(answer, Err(Refusal::BufferLength)),
+            b" short buffers taken",
+        )
     }
 }
 
@@ -92,10 +92,9 @@ fn try_without_limit<W: Write>(
         return Ok(());
     }
     let mut free = even_rule::no_masks();
-    let v = even_rule::check(cond, &mut free);
-    match v {
-        Verdict::Accepted => compare(output, site, cond, &free, found, set),
-        Verdict::Refused(_, _) => pieces::say(output, true, b" listed, and refused"),
+    match even_rule::check(cond, &mut free) {
+        Ok(()) => compare(output, site, cond, &free, found, set),
+        Err(_) => pieces::say(output, true, b" listed, and refused"),
     }
 }
 
@@ -108,12 +107,12 @@ fn list<W: Write>(
     set: &mut [u8],
     work: &mut [u8],
 ) -> io::Result<()> {
-    let r = list_entry::list(site, cond, limit, set, work);
-    show(output, r, set)?;
+    let answer = list_entry::list(site, cond, limit, set, work);
+    show(output, answer, set)?;
     pieces::say_left(output, work, b" work left")?;
-    match r {
-        Listing::Listed(found) => try_without_limit(output, site, cond, found, set),
-        Listing::Refused(_, _) => pieces::say_left(output, set, b" set left"),
+    match answer {
+        Ok(found) => try_without_limit(output, site, cond, found, set),
+        Err(_) => pieces::say_left(output, set, b" set left"),
     }
 }
 

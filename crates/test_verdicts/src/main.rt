@@ -4,9 +4,9 @@
 use pieces::ROOM;
 use std::io;
 use std::io::{BufReader, BufWriter, Read, Write};
-use verdict::Verdict;
+use verdict::Refusal;
 
-fn judge(kind: u8, piece: &[u8]) -> Verdict {
+fn judge(kind: u8, piece: &[u8]) -> Result<(), Refusal> {
     if kind == pieces::SITE {
         return site::check(piece);
     }
@@ -25,13 +25,10 @@ fn print_kind<W: Write>(output: &mut W, kind: u8) -> io::Result<()> {
     }
 }
 
-fn print_verdict<W: Write>(output: &mut W, v: Verdict) -> io::Result<()> {
+fn print_verdict<W: Write>(output: &mut W, v: Result<(), Refusal>) -> io::Result<()> {
     match v {
-        Verdict::Accepted => writeln!(output, "accepted"),
-        Verdict::Refused(item, w) => {
-            pieces::print_refusal(output, item, w)?;
-            writeln!(output)
-        }
+        Ok(()) => writeln!(output, "accepted"),
+        Err(refusal) => writeln!(output, "{refusal}"),
     }
 }
 

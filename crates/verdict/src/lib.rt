@@ -62,9 +62,11 @@ impl Refusal {
         ensures { result ≡ fault_of self }
     {
         match self {
-            Refusal::MalformedNode(node) | Refusal::EvenRule(node) | Refusal::FreeVariable(node) =>
-                node,
-            Refusal::MalformedEdit(edit) | Refusal::NotThrough(edit) => edit,
+            Refusal::MalformedNode(w)
+            | Refusal::EvenRule(w)
+            | Refusal::FreeVariable(w)
+            | Refusal::MalformedEdit(w)
+            | Refusal::NotThrough(w) => w,
             _ => 0,
         }
     }

@@ -5,4 +5,4 @@ use Rattle.test_lists.proofs.try_without_limit.Goals as goal
 
 pub compare-requires-clause-free_len : goal.compare-requires-clause-free_len
 unfolding FreeAfter
-compare-requires-clause-free_len g c = (search rules, rw c.in-Accepted.is at c.check-v.ensures.masks)
+compare-requires-clause-free_len g c = (search rules, c.in-Ok.ensures.masks)
