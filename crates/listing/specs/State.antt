@@ -3,13 +3,13 @@
 use Rattle.std.specs.Prelude.{◌≡◌, List, true, Option, ℕ, ◌+◌, ◌*◌, ◌≤◌, ◌<◌, length}
 use Rattle.semantics.specs.Form.{free}
 use Rattle.semantics.specs.Holds.{Set, Env}
-use Rattle.semantics.specs.Table.{tree_at, nodes_fit, even_table}
+use Rattle.semantics.specs.Table.{tree_at}
 use Rattle.semantics.specs.Eval.{eval}
 use Rattle.semantics.specs.Agree.{◌≐◌}
 use Rattle.rounds.specs.Count.{rounds}
 use Rattle.site.specs.Site.{site_of}
 use Rattle.condition.specs.Bytes.{table_of}
-use Rattle.limits.specs.Limits.{variables, table_bytes}
+use Rattle.limits.specs.Limits.{variables}
 use Rattle.listing_memo.specs.declared.memo.Memo.{Memo}
 use Rattle.listing_memo.specs.Memo.{valuation, known, made, free_in}
 use Rattle.listing_sets.specs.Offsets.{set_at}
@@ -33,11 +33,8 @@ pub record RightMemo (site S : List ℕ) (limit : Option ℕ) (memo : Memo) (wor
   pub free_right : (x j : ℕ) → x < variables → 6 * j + 6 ≤ length S → free_in memo x j ≡ free x (tree_at (table_of S) j)
   pub known_right : (j : ℕ) → 6 * j + 6 ≤ length S → known memo j ≡ true → Right site S limit (valuation memo) work j (made memo j)
 
--- what a call asks: a table that is accepted, a limit, and a memo that is right
+-- what a call asks: a limit, and a memo that is right
 pub record Evaluable (site S : List ℕ) (limit : Option ℕ) (memo : Memo) (work : List ℕ) : Type 0 where
-  pub short : length S ≤ table_bytes
-  pub fits : nodes_fit 0 (table_of S) ≡ true
-  pub even_rule : even_table (table_of S) ≡ true
   pub usual : Usual limit
   pub work_size : length work ≡ work_bytes
   pub right : RightMemo site S limit memo work

@@ -4,18 +4,19 @@
 #![tactic(auto)]
 
 mod limit;
+mod question;
 
 ghost use Rattle.std.specs.Prelude.{◌≡◌, ◌⊎◌, ◌+◌, ◌*◌, ◌≤◌, true, length, replicate, MatchResult};
 ghost use Rattle.bitset.specs.Set.{set_bytes, has};
 ghost use Rattle.finite.specs.Bytes.{Bytes};
-ghost use Rattle.semantics.specs.Table.{form_of, nodes_fit};
+ghost use Rattle.semantics.specs.Table.{form_of};
 ghost use Rattle.semantics.specs.Agree.{◌≐◌};
 ghost use Rattle.site.specs.Site.{site_of};
 ghost use Rattle.verdict.specs.Verdict.{Accepted};
 ghost use Rattle.condition.specs.Bytes.{node_at, table_of};
 ghost use Rattle.condition.specs.Refusal.{condition_verdict};
 ghost use Rattle.even_rule.specs.Free.{FreeRows};
-ghost use Rattle.limits.specs.Limits.{table_nodes, table_bytes, highest_limit, not_no, or_no, and_no, dia_no, box_no, mu_no, nu_no};
+ghost use Rattle.limits.specs.Limits.{table_nodes, highest_limit, not_no, or_no, and_no, dia_no, box_no, mu_no, nu_no};
 ghost use Rattle.listing_memo.specs.Memo.{valuation};
 ghost use Rattle.listing_sets.specs.Nodes.{start_of};
 ghost use Rattle.listing_sets.specs.Offsets.{SetWritten};
@@ -28,6 +29,7 @@ use bitset::{SET_BYTES, SET_SLOTS, SlotSet};
 use limit::{OverLimit, count, remaining};
 use limits::{AND, BOX, DIA, MU, NODE_BYTES, NOT, NU, OR, TABLE_NODES};
 use listing_memo::{Memo, Variable};
+use question::Question;
 use site::Site;
 
 // The work buffer has a set for each node of a table.
@@ -46,22 +48,21 @@ pub struct Found {
 // The rounds of node i, whose set is written to the work buffer if it is not there already.
 #[cycle(binary_compute_eval_fixpoint_fixpoint_from_unary)]
 fn eval(
-    site: &Site,
-    table: &[u8],
+    question: &Question,
     memo: &mut Memo,
     work: &mut [u8],
     i: usize,
     limit: Option<u32>,
 ) -> Result<u32, OverLimit>
-    requires evaluable { Evaluable site.now table.now limit memo.old work.old }
-    requires i_in_bounds { 6 * i + 6 ≤ length table.now }
+    requires evaluable { Evaluable question.now.site.now question.now.table.now limit memo.old work.old }
+    requires i_in_bounds { 6 * i + 6 ≤ length question.now.table.now }
     ensures work_size { length work.new ≡ work_bytes }
-    ensures answer { MatchResult result (λ n. Evaluated site.now table.now limit memo.old memo.new work.new i n) (λ _. Over site.now table.now limit memo.old i) }
+    ensures answer { MatchResult result (λ n. Evaluated question.now.site.now question.now.table.now limit memo.old memo.new work.new i n) (λ _. Over question.now.site.now question.now.table.now limit memo.old i) }
 {
     if memo.knows(i) {
         return count(limit, memo.rounds(i));
     }
-    let made = compute(site, table, memo, work, i, limit)?;
+    let made = compute(question, memo, work, i, limit)?;
     memo.keep(i, made);
     Ok(made)
 }
@@ -69,59 +70,56 @@ fn eval(
 // The rounds of node i, whose set is written to the work buffer, known or not.
 #[cycle(binary_compute_eval_fixpoint_fixpoint_from_unary)]
 fn compute(
-    site: &Site,
-    table: &[u8],
+    question: &Question,
     memo: &mut Memo,
     work: &mut [u8],
     i: usize,
     limit: Option<u32>,
 ) -> Result<u32, OverLimit>
-    requires evaluable { Evaluable site.now table.now limit memo.old work.old }
-    requires i_in_bounds { 6 * i + 6 ≤ length table.now }
+    requires evaluable { Evaluable question.now.site.now question.now.table.now limit memo.old work.old }
+    requires i_in_bounds { 6 * i + 6 ≤ length question.now.table.now }
     ensures work_size { length work.new ≡ work_bytes }
-    ensures answer { MatchResult result (λ n. Evaluated site.now table.now limit memo.old memo.new work.new i n) (λ _. Over site.now table.now limit memo.old i) }
+    ensures answer { MatchResult result (λ n. Evaluated question.now.site.now question.now.table.now limit memo.old memo.new work.new i n) (λ _. Over question.now.site.now question.now.table.now limit memo.old i) }
 {
-    match condition::kind(table, i) {
-        NOT | DIA | BOX => unary(site, table, memo, work, i, limit),
-        OR | AND => binary(site, table, memo, work, i, limit),
-        MU | NU => fixpoint(site, table, memo, work, i, limit),
-        _ => Ok(leaf(site, table, memo, work, i)),
+    match condition::kind(question.table, i) {
+        NOT | DIA | BOX => unary(question, memo, work, i, limit),
+        OR | AND => binary(question, memo, work, i, limit),
+        MU | NU => fixpoint(question, memo, work, i, limit),
+        _ => Ok(leaf(question, memo, work, i)),
     }
 }
 
 // Node i has no child: its set is written, and no round is made.
-fn leaf(site: &Site, table: &[u8], memo: &Memo, work: &mut [u8], i: usize) -> u32
+fn leaf(question: &Question, memo: &Memo, work: &mut [u8], i: usize) -> u32
     requires work_size { length work.old ≡ work_bytes }
-    requires table_len_bound { (length table.now ≤ table_bytes) × (nodes_fit 0 (table_of table.now) ≡ true) }
-    requires i_in_bounds { 6 * i + 6 ≤ length table.now }
-    requires fact { not_no ≤ (node_at table.now i).kind → (node_at table.now i).kind ≤ nu_no → ⊥ }
-    ensures set_written { SetWritten work.old work.new i (node_set site.now table.now (valuation memo.now) i) }
+    requires i_in_bounds { 6 * i + 6 ≤ length question.now.table.now }
+    requires fact { not_no ≤ (node_at question.now.table.now i).kind → (node_at question.now.table.now i).kind ≤ nu_no → ⊥ }
+    ensures set_written { SetWritten work.old work.new i (node_set question.now.site.now question.now.table.now (valuation memo.now) i) }
     ensures value { result ≡ 0 }
 {
-    listing_sets::put_leaf(site, table, memo, work, i);
+    listing_sets::put_leaf(question.site, question.table, memo, work, i);
     0
 }
 
 // Node i is a not, diamond or box: its rounds are its child's.
 #[cycle(binary_compute_eval_fixpoint_fixpoint_from_unary)]
 fn unary(
-    site: &Site,
-    table: &[u8],
+    question: &Question,
     memo: &mut Memo,
     work: &mut [u8],
     i: usize,
     limit: Option<u32>,
 ) -> Result<u32, OverLimit>
-    requires evaluable { Evaluable site.now table.now limit memo.old work.old }
-    requires i_in_bounds { 6 * i + 6 ≤ length table.now }
-    requires fact { ((node_at table.now i).kind ≡ not_no) ⊎ (((node_at table.now i).kind ≡ dia_no) ⊎ ((node_at table.now i).kind ≡ box_no)) }
+    requires evaluable { Evaluable question.now.site.now question.now.table.now limit memo.old work.old }
+    requires i_in_bounds { 6 * i + 6 ≤ length question.now.table.now }
+    requires fact { ((node_at question.now.table.now i).kind ≡ not_no) ⊎ (((node_at question.now.table.now i).kind ≡ dia_no) ⊎ ((node_at question.now.table.now i).kind ≡ box_no)) }
     ensures work_size { length work.new ≡ work_bytes }
-    ensures answer { MatchResult result (λ n. Evaluated site.now table.now limit memo.old memo.new work.new i n) (λ _. Over site.now table.now limit memo.old i) }
+    ensures answer { MatchResult result (λ n. Evaluated question.now.site.now question.now.table.now limit memo.old memo.new work.new i n) (λ _. Over question.now.site.now question.now.table.now limit memo.old i) }
 {
-    let child = condition::left_child(table, i);
-    let made = eval(site, table, memo, work, child, limit)?;
+    let child = condition::left_child(question.table, i);
+    let made = eval(question, memo, work, child, limit)?;
     let set = listing_sets::load(work, child);
-    listing_sets::put_unary(site, table, work, i, set);
+    listing_sets::put_unary(question.site, question.table, work, i, set);
     Ok(made)
 }
 
@@ -129,26 +127,25 @@ fn unary(
 // evaluated, since a loop below the right child may give a shared node another set.
 #[cycle(binary_compute_eval_fixpoint_fixpoint_from_unary)]
 fn binary(
-    site: &Site,
-    table: &[u8],
+    question: &Question,
     memo: &mut Memo,
     work: &mut [u8],
     i: usize,
     limit: Option<u32>,
 ) -> Result<u32, OverLimit>
-    requires evaluable { Evaluable site.now table.now limit memo.old work.old }
-    requires i_in_bounds { 6 * i + 6 ≤ length table.now }
-    requires or_no_bound { (or_no ≤ (node_at table.now i).kind) × ((node_at table.now i).kind ≤ and_no) }
+    requires evaluable { Evaluable question.now.site.now question.now.table.now limit memo.old work.old }
+    requires i_in_bounds { 6 * i + 6 ≤ length question.now.table.now }
+    requires or_no_bound { (or_no ≤ (node_at question.now.table.now i).kind) × ((node_at question.now.table.now i).kind ≤ and_no) }
     ensures work_size { length work.new ≡ work_bytes }
-    ensures answer { MatchResult result (λ n. Evaluated site.now table.now limit memo.old memo.new work.new i n) (λ _. Over site.now table.now limit memo.old i) }
+    ensures answer { MatchResult result (λ n. Evaluated question.now.site.now question.now.table.now limit memo.old memo.new work.new i n) (λ _. Over question.now.site.now question.now.table.now limit memo.old i) }
 {
-    let left = condition::left_child(table, i);
-    let made_left = eval(site, table, memo, work, left, limit)?;
+    let left = condition::left_child(question.table, i);
+    let made_left = eval(question, memo, work, left, limit)?;
     let left_set = listing_sets::load(work, left);
-    let right = condition::right_child(table, i);
-    let made_right = eval(site, table, memo, work, right, remaining(limit, made_left))?;
+    let right = condition::right_child(question.table, i);
+    let made_right = eval(question, memo, work, right, remaining(limit, made_left))?;
     let right_set = listing_sets::load(work, right);
-    listing_sets::put_binary(table, work, i, left_set, right_set);
+    listing_sets::put_binary(question.table, work, i, left_set, right_set);
     Ok(made_left + made_right)
 }
 
@@ -156,23 +153,22 @@ fn binary(
 // lengthen the frame of every node.
 #[cycle(binary_compute_eval_fixpoint_fixpoint_from_unary)]
 fn fixpoint(
-    site: &Site,
-    table: &[u8],
+    question: &Question,
     memo: &mut Memo,
     work: &mut [u8],
     i: usize,
     limit: Option<u32>,
 ) -> Result<u32, OverLimit>
-    requires evaluable { Evaluable site.now table.now limit memo.old work.old }
-    requires i_in_bounds { 6 * i + 6 ≤ length table.now }
-    requires mu_no_bound { (mu_no ≤ (node_at table.now i).kind) × ((node_at table.now i).kind ≤ nu_no) }
+    requires evaluable { Evaluable question.now.site.now question.now.table.now limit memo.old work.old }
+    requires i_in_bounds { 6 * i + 6 ≤ length question.now.table.now }
+    requires mu_no_bound { (mu_no ≤ (node_at question.now.table.now i).kind) × ((node_at question.now.table.now i).kind ≤ nu_no) }
     ensures work_size { length work.new ≡ work_bytes }
-    ensures answer { MatchResult result (λ n. Evaluated site.now table.now limit memo.old memo.new work.new i n) (λ _. Over site.now table.now limit memo.old i) }
+    ensures answer { MatchResult result (λ n. Evaluated question.now.site.now question.now.table.now limit memo.old memo.new work.new i n) (λ _. Over question.now.site.now question.now.table.now limit memo.old i) }
 {
-    if condition::kind(table, i) == MU {
-        fixpoint_from(site, table, memo, work, i, limit, listing_sets::start(MU))
+    if condition::kind(question.table, i) == MU {
+        fixpoint_from(question, memo, work, i, limit, listing_sets::start(MU))
     } else {
-        fixpoint_from(site, table, memo, work, i, limit, listing_sets::start(NU))
+        fixpoint_from(question, memo, work, i, limit, listing_sets::start(NU))
     }
 }
 
@@ -180,30 +176,29 @@ fn fixpoint(
 // inside the body. The variable then has its old set again.
 #[cycle(binary_compute_eval_fixpoint_fixpoint_from_unary)]
 fn fixpoint_from(
-    site: &Site,
-    table: &[u8],
+    question: &Question,
     memo: &mut Memo,
     work: &mut [u8],
     i: usize,
     limit: Option<u32>,
     start: SlotSet,
 ) -> Result<u32, OverLimit>
-    requires evaluable { Evaluable site.now table.now limit memo.old work.old }
-    requires i_in_bounds { 6 * i + 6 ≤ length table.now }
-    requires mu_no_bound { (mu_no ≤ (node_at table.now i).kind) × ((node_at table.now i).kind ≤ nu_no) }
-    requires has { has start ≐ start_of (node_at table.now i).kind }
+    requires evaluable { Evaluable question.now.site.now question.now.table.now limit memo.old work.old }
+    requires i_in_bounds { 6 * i + 6 ≤ length question.now.table.now }
+    requires mu_no_bound { (mu_no ≤ (node_at question.now.table.now i).kind) × ((node_at question.now.table.now i).kind ≤ nu_no) }
+    requires has { has start ≐ start_of (node_at question.now.table.now i).kind }
     requires whole { (length start ≡ set_bytes) × Bytes start }
     ensures work_size { length work.new ≡ work_bytes }
-    ensures answer { MatchResult result (λ n. Evaluated site.now table.now limit memo.old memo.new work.new i n) (λ _. Over site.now table.now limit memo.old i) }
+    ensures answer { MatchResult result (λ n. Evaluated question.now.site.now question.now.table.now limit memo.old memo.new work.new i n) (λ _. Over question.now.site.now question.now.table.now limit memo.old i) }
 {
-    let variable = Variable::at(condition::param(table, i));
-    let body = condition::left_child(table, i);
+    let variable = Variable::at(condition::param(question.table, i));
+    let body = condition::left_child(question.table, i);
     let old = memo.variable(variable);
     let mut set = start;
     let mut total = 0;
     for _round in 0..ENOUGH {
         memo.assign(variable, set);
-        let inside = eval(site, table, memo, work, body, remaining(limit, total))?;
+        let inside = eval(question, memo, work, body, remaining(limit, total))?;
         total = count(limit, total + 1 + inside)?;
         let next = listing_sets::load(work, body);
         let rests = next == set;
@@ -237,7 +232,8 @@ fn evaluate(
     let nodes = table.len() / NODE_BYTES;
     let mut memo = Memo::new(&free[..nodes]);
     let top = nodes - 1;
-    let made = compute(site, table, &mut memo, work, top, limit);
+    let question = Question { site, table };
+    let made = compute(&question, &mut memo, work, top, limit);
     let last = listing_sets::load(work, top);
     work.fill(0);
     let rounds = made?;

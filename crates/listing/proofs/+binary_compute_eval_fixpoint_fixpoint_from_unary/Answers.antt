@@ -23,20 +23,20 @@ use Rattle.listing.proofs.+binary_compute_eval_fixpoint_fixpoint_from_unary.Goal
 
 pub binary-returns-in_err-made_left-clause-answer : goal.binary-returns-in_err-made_left-clause-answer
 binary-returns-in_err-made_left-clause-answer t c =
-    let M = site_of c.args.site.now in
+    let M = site_of c.args.question.now.site.now in
     let ρ = valuation c.args.memo.now in
-    let rounds = node_rounds c.args.site.now c.args.table.now ρ in
-    let sum = binary_rounds c.args.table.now c.requires.evaluable.fits c.args.i c.requires.i_in_bounds M ρ c.requires.or_no_bound.0 c.requires.or_no_bound.1 in
+    let rounds = node_rounds c.args.question.now.site.now c.args.question.now.table.now ρ in
+    let sum = binary_rounds c.args.question.now.table.now c.args.question.now.fits c.args.i c.requires.i_in_bounds M ρ c.requires.or_no_bound.0 c.requires.or_no_bound.1 in
     let left = ap rounds c.left_child-left.ensures.0 in
     rw (err_from_is_err_and c.from_residual.result c.from_residual.ensures.1).1
     (λ w. c.in_err-made_left.ensures.answer (within_less c.args.limit (rounds c.left_child-left.result) (rounds c.args.i) (omega (arith, sum, left)) w))
 
 pub binary-returns-in_err-made_right-clause-answer : goal.binary-returns-in_err-made_right-clause-answer
 binary-returns-in_err-made_right-clause-answer t c =
-    let M = site_of c.args.site.now in
+    let M = site_of c.args.question.now.site.now in
     let ρ = valuation c.args.memo.now in
-    let rounds = node_rounds c.args.site.now c.args.table.now ρ in
-    let sum = binary_rounds c.args.table.now c.requires.evaluable.fits c.args.i c.requires.i_in_bounds M ρ c.requires.or_no_bound.0 c.requires.or_no_bound.1 in
+    let rounds = node_rounds c.args.question.now.site.now c.args.question.now.table.now ρ in
+    let sum = binary_rounds c.args.question.now.table.now c.args.question.now.fits c.args.i c.requires.i_in_bounds M ρ c.requires.or_no_bound.0 c.requires.or_no_bound.1 in
     let left = ap rounds c.left_child-left.ensures.0 in
     let right = ap rounds c.right_child-right.ensures.0 in
     rw (err_from_is_err_and c.from_residual-in_err-made_right.result c.from_residual-in_err-made_right.ensures.1).1
@@ -45,10 +45,10 @@ binary-returns-in_err-made_right-clause-answer t c =
 
 pub binary-returns-clause-answer : goal.binary-returns-clause-answer
 binary-returns-clause-answer t c =
-    let M = site_of c.args.site.now in
+    let M = site_of c.args.question.now.site.now in
     let ρ = valuation c.args.memo.now in
-    let rounds = node_rounds c.args.site.now c.args.table.now ρ in
-    let sum = binary_rounds c.args.table.now c.requires.evaluable.fits c.args.i c.requires.i_in_bounds M ρ c.requires.or_no_bound.0 c.requires.or_no_bound.1 in
+    let rounds = node_rounds c.args.question.now.site.now c.args.question.now.table.now ρ in
+    let sum = binary_rounds c.args.question.now.table.now c.args.question.now.fits c.args.i c.requires.i_in_bounds M ρ c.requires.or_no_bound.0 c.requires.or_no_bound.1 in
     let left = ap rounds c.left_child-left.ensures.0 in
     let right = ap rounds c.right_child-right.ensures.0 in
     let P = has c.load-left_set.result in
@@ -60,24 +60,24 @@ binary-returns-clause-answer t c =
     record {
       number = both_number a b ∙ ap (counted c.args.limit) (sym all);
       within = subst (Within c.args.limit) (sym all) (both_within a b);
-      done = finish {P = node_makes M (node_at c.args.table.now c.args.i) P Q} d.right d.values (c.put_binary.ensures M)
-          (is_binary c.args.table.now c.requires.evaluable.fits c.args.i c.requires.i_in_bounds M ρ P Q
+      done = finish {P = node_makes M (node_at c.args.question.now.table.now c.args.i) P Q} d.right d.values (c.put_binary.ensures M)
+          (is_binary c.args.question.now.table.now c.args.question.now.fits c.args.i c.requires.i_in_bounds M ρ P Q
           (child a.done c.load-left_set.ensures.set c.left_child-left.ensures.0) c.requires.or_no_bound.0 c.requires.or_no_bound.1 (child d c.load-right_set.ensures.set c.right_child-right.ensures.0));
     }
 
 pub compute-returns-in_default-clause-answer : goal.compute-returns-in_default-clause-answer
 compute-returns-in_default-clause-answer t c = leaf_done c.requires.evaluable c.leaf.ensures.set_written
-    (end_rounds c.args.table.now c.requires.evaluable.fits c.args.i c.requires.i_in_bounds (site_of c.args.site.now) (valuation c.args.memo.now) (λ h l. elim c.in_default.branch [
+    (end_rounds c.args.question.now.table.now c.args.question.now.fits c.args.i c.requires.i_in_bounds (site_of c.args.question.now.site.now) (valuation c.args.memo.now) (λ h l. elim c.in_default.branch [
       | compute-in_default-via-then-this-lt5 w ↦ omega (arith, c.kind.ensures)
       | compute-in_default-via-else-this-lt5+else-this-lt8+else-this-lt10+else-this-lt12 w ↦ omega (arith, c.kind.ensures)
     ])) c.leaf.ensures.value
 
 pub eval-returns-clause-answer : goal.eval-returns-clause-answer
-eval-returns-clause-answer t c = kept c.requires.evaluable.short c.requires.i_in_bounds c.in_ok-made.ensures.answer c.keep.ensures
+eval-returns-clause-answer t c = kept c.args.question.now.short c.requires.i_in_bounds c.in_ok-made.ensures.answer c.keep.ensures
 
 pub fixpoint_from-at-variable-requires : goal.fixpoint_from-at-variable-requires
 fixpoint_from-at-variable-requires t c =
-    let low = param_lower c.args.i (node_at c.args.table.now c.args.i) (node_fits_lem c.args.table.now c.requires.evaluable.fits c.args.i c.requires.i_in_bounds) in
+    let low = param_lower c.args.i (node_at c.args.question.now.table.now c.args.i) (node_fits_lem c.args.question.now.table.now c.args.question.now.fits c.args.i c.requires.i_in_bounds) in
     (omega arith, omega (arith, c.param.ensures, loop_variable c.requires.mu_no_bound low))
 
 pub fixpoint_from-loop-round-init : goal.fixpoint_from-loop-round-init
@@ -86,19 +86,19 @@ fixpoint_from-loop-round-init t c = (rounds-none c.requires.evaluable c.requires
 pub fixpoint_from-eval-requires : goal.fixpoint_from-eval-requires
 fixpoint_from-eval-requires t c = (
   omega (arith, c.left_child-body.ensures),
-  (rw c.remaining.ensures (assigned c.loop-round.invariant.0 refl c.assign.ensures c.requires.evaluable c.at-variable.result.within), omega (arith, c.left_child-body.ensures)),
+  (rw c.remaining.ensures (assigned c.loop-round.invariant.0 refl c.assign.ensures c.args.question.now.short c.requires.evaluable c.at-variable.result.within), omega (arith, c.left_child-body.ensures)),
 )
 
 pub fixpoint_from-returns-in_err-inside-clause-answer : goal.fixpoint_from-returns-in_err-inside-clause-answer
 fixpoint_from-returns-in_err-inside-clause-answer t c =
-    let own = loop-rounds c.args.table.now c.requires.evaluable.fits c.args.i c.requires.i_in_bounds (site_of c.args.site.now) (valuation c.args.memo.now) c.at-variable.result.number c.left_child-body.result (c.at-variable.ensures ∙ c.param.ensures) c.left_child-body.ensures.0 c.requires.mu_no_bound.0 c.requires.mu_no_bound.1 in
+    let own = loop-rounds c.args.question.now.table.now c.args.question.now.fits c.args.i c.requires.i_in_bounds (site_of c.args.question.now.site.now) (valuation c.args.memo.now) c.at-variable.result.number c.left_child-body.result (c.at-variable.ensures ∙ c.param.ensures) c.left_child-body.ensures.0 c.requires.mu_no_bound.0 c.requires.mu_no_bound.1 in
     rw (err_from_is_err_and c.from_residual.result c.from_residual.ensures.1).1
     (λ w. inside_over c.loop-round.invariant.0 refl c.assign.ensures (omega (arith, c.loop-round-test.true)) (rw c.remaining.ensures at c.in_err-inside.ensures.answer)
     (subst (Within c.args.limit) own w))
 
 pub fixpoint_from-returns-in_err-total-clause-answer : goal.fixpoint_from-returns-in_err-total-clause-answer
 fixpoint_from-returns-in_err-total-clause-answer t c =
-    let own = loop-rounds c.args.table.now c.requires.evaluable.fits c.args.i c.requires.i_in_bounds (site_of c.args.site.now) (valuation c.args.memo.now) c.at-variable.result.number c.left_child-body.result (c.at-variable.ensures ∙ c.param.ensures) c.left_child-body.ensures.0 c.requires.mu_no_bound.0 c.requires.mu_no_bound.1 in
+    let own = loop-rounds c.args.question.now.table.now c.args.question.now.fits c.args.i c.requires.i_in_bounds (site_of c.args.question.now.site.now) (valuation c.args.memo.now) c.at-variable.result.number c.left_child-body.result (c.at-variable.ensures ∙ c.param.ensures) c.left_child-body.ensures.0 c.requires.mu_no_bound.0 c.requires.mu_no_bound.1 in
     rw (err_from_is_err_and c.from_residual-in_err-total.result c.from_residual-in_err-total.ensures.1).1
     (λ w. sum_over c.loop-round.invariant.0 refl c.assign.ensures (omega (arith, c.loop-round-test.true)) (rw c.remaining.ensures at c.in_ok-inside.ensures.answer)
     c.in_err-total.ensures (subst (Within c.args.limit) own w))
@@ -116,12 +116,12 @@ fixpoint_from-loop-round-preserved t c =
 
 pub fixpoint_from-returns-clause-answer : goal.fixpoint_from-returns-clause-answer
 fixpoint_from-returns-clause-answer t c =
-    let M = site_of c.args.site.now in
+    let M = site_of c.args.question.now.site.now in
     let ρ = valuation c.args.memo.now in
     let x : ℕ = c.at-variable.result.number in
     let b : ℕ = c.left_child-body.result in
     let now = c.loop-round.invariant in
-    let ended : Ended c.args.site.now c.args.table.now c.args.memo.now c.loop-round-test.memo c.loop-round-test.work c.args.limit (node_at c.args.table.now c.args.i).kind x b
+    let ended : Ended c.args.question.now.site.now c.args.question.now.table.now c.args.memo.now c.loop-round-test.memo c.loop-round-test.work c.args.limit (node_at c.args.question.now.table.now c.args.i).kind x b
     c.loop-round-test.set c.loop-round-test.total =
     elim c.loop-round-test.branch [
       | fixpoint_from-else-loop-round-test w ↦ rw (w.memo-is, w.work-is, w.set-is, w.total-is) (record { rounds = _; moved = true; reached = now.0; out = inr (omega arith) })
@@ -134,36 +134,36 @@ fixpoint_from-returns-clause-answer t c =
         out = inl (ap not w.if-rests.true);
       })
     ] in
-    let own = loop-rounds c.args.table.now c.requires.evaluable.fits c.args.i c.requires.i_in_bounds M ρ x b (c.at-variable.ensures ∙ c.param.ensures) c.left_child-body.ensures.0 c.requires.mu_no_bound.0 c.requires.mu_no_bound.1 in
-    let rests = loop_rests c.args.table.now c.requires.evaluable.fits c.args.i c.requires.i_in_bounds M ρ x b (c.at-variable.ensures ∙ c.param.ensures) c.left_child-body.ensures.0 c.requires.mu_no_bound.0 c.requires.mu_no_bound.1 c.requires.evaluable.even_rule in
+    let own = loop-rounds c.args.question.now.table.now c.args.question.now.fits c.args.i c.requires.i_in_bounds M ρ x b (c.at-variable.ensures ∙ c.param.ensures) c.left_child-body.ensures.0 c.requires.mu_no_bound.0 c.requires.mu_no_bound.1 in
+    let rests = loop_rests c.args.question.now.table.now c.args.question.now.fits c.args.i c.requires.i_in_bounds M ρ x b (c.at-variable.ensures ∙ c.param.ensures) c.left_child-body.ensures.0 c.requires.mu_no_bound.0 c.requires.mu_no_bound.1 c.args.question.now.even in
     let all = rounds_number ended.reached ended.out ∙ sym own in
     record {
       number = ended.reached.summed ∙ ap (counted c.args.limit) all;
       within = subst (Within c.args.limit) all ended.reached.within;
-      done = finish (moved c.requires.evaluable.short c.at-variable.result.within ended.reached.right c.assign-2.ensures)
+      done = finish (moved c.args.question.now.short c.at-variable.result.within ended.reached.right c.assign-2.ensures)
           (restored ended.reached c.assign-2.ensures (λ s l. c.variable-old.ensures s (slot_in l) ∙ sym (valuation_is c.args.memo.now x c.at-variable.result.within s)))
           c.store.ensures
           (λ s l. rounds_done ended.reached ended.out rests s l
-          ∙ sym (is_loop c.args.table.now c.requires.evaluable.fits c.args.i c.requires.i_in_bounds M ρ x b (c.at-variable.ensures ∙ c.param.ensures) c.left_child-body.ensures.0 c.requires.mu_no_bound.0 c.requires.mu_no_bound.1 s l));
+          ∙ sym (is_loop c.args.question.now.table.now c.args.question.now.fits c.args.i c.requires.i_in_bounds M ρ x b (c.at-variable.ensures ∙ c.param.ensures) c.left_child-body.ensures.0 c.requires.mu_no_bound.0 c.requires.mu_no_bound.1 s l));
     }
 
 pub unary-returns-in_err-made-clause-answer : goal.unary-returns-in_err-made-clause-answer
 unary-returns-in_err-made-clause-answer t c =
-    let M = site_of c.args.site.now in
+    let M = site_of c.args.question.now.site.now in
     let ρ = valuation c.args.memo.now in
-    let all = unary_rounds c.args.table.now c.requires.evaluable.fits c.args.i c.requires.i_in_bounds M ρ c.requires.fact ∙ sym (ap (node_rounds c.args.site.now c.args.table.now ρ) c.left_child-child.ensures.0) in
+    let all = unary_rounds c.args.question.now.table.now c.args.question.now.fits c.args.i c.requires.i_in_bounds M ρ c.requires.fact ∙ sym (ap (node_rounds c.args.question.now.site.now c.args.question.now.table.now ρ) c.left_child-child.ensures.0) in
     rw (err_from_is_err_and c.from_residual.result c.from_residual.ensures.1).1 (λ w. c.in_err-made.ensures.answer (subst (Within c.args.limit) all w))
 
 pub unary-returns-clause-answer : goal.unary-returns-clause-answer
 unary-returns-clause-answer t c =
-    let M = site_of c.args.site.now in
+    let M = site_of c.args.question.now.site.now in
     let ρ = valuation c.args.memo.now in
     let P = has c.load-set.result in
-    let all = unary_rounds c.args.table.now c.requires.evaluable.fits c.args.i c.requires.i_in_bounds M ρ c.requires.fact ∙ sym (ap (node_rounds c.args.site.now c.args.table.now ρ) c.left_child-child.ensures.0) in
+    let all = unary_rounds c.args.question.now.table.now c.args.question.now.fits c.args.i c.requires.i_in_bounds M ρ c.requires.fact ∙ sym (ap (node_rounds c.args.question.now.site.now c.args.question.now.table.now ρ) c.left_child-child.ensures.0) in
     let v = c.in_ok-made.ensures.answer in
     record {
       number = v.number ∙ ap (counted c.args.limit) (sym all);
       within = subst (Within c.args.limit) (sym all) v.within;
-      done = finish {P = node_makes M (node_at c.args.table.now c.args.i) P P} v.done.right v.done.values c.put_unary.ensures
-          (is_unary c.args.table.now c.requires.evaluable.fits c.args.i c.requires.i_in_bounds M ρ P P (child v.done c.load-set.ensures.set c.left_child-child.ensures.0) c.requires.fact);
+      done = finish {P = node_makes M (node_at c.args.question.now.table.now c.args.i) P P} v.done.right v.done.values c.put_unary.ensures
+          (is_unary c.args.question.now.table.now c.args.question.now.fits c.args.i c.requires.i_in_bounds M ρ P P (child v.done c.load-set.ensures.set c.left_child-child.ensures.0) c.requires.fact);
     }

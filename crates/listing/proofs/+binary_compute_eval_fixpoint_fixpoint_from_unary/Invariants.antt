@@ -20,7 +20,7 @@ abbrev pub decreases-fixpoint_from : goal.decreases-fixpoint_from
 decreases-fixpoint_from l = 4 * l.i
 
 abbrev pub invariant-fixpoint_from-loop-round : goal.invariant-fixpoint_from-loop-round
-invariant-fixpoint_from-loop-round l = Looping l.site l.table l.fn.memo l.memo l.work l.limit (node_at l.table l.i).kind l.variable.number l.body l.set l._round l.total
+invariant-fixpoint_from-loop-round l = Looping l.question.site.now l.question.table.now l.fn.memo l.memo l.work l.limit (node_at l.question.table.now l.i).kind l.variable.number l.body l.set l._round l.total
 
 abbrev pub decreases-unary : goal.decreases-unary
 decreases-unary l = 4 * l.i

@@ -68,9 +68,6 @@ pub none-known : {site S masks work : List â„•} {memo : Memo} {limit : Option â„
 none-known {S = S} {masks} {n = n} sound f start hn hw g =
     let len = length_table S in
     record {
-      short = sound.few;
-      fits = sound.fits;
-      even_rule = sound.even_rule;
       usual = g;
       work_size = hw;
       right = record {

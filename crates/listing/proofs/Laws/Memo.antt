@@ -159,9 +159,6 @@ module _ {site S work₁ : List ℕ} {memo memo₁ : Memo} {limit : Option ℕ} 
   pub again : {work : List ℕ} → Evaluable site S limit memo work → length work₁ ≡ work_bytes → Evaluable site S (left_of limit a) memo₁ work₁
   again e size =
       record {
-        short = e.short;
-        fits = e.fits;
-        even_rule = e.even_rule;
         usual = usual_rest limit a e.usual;
         work_size = size;
         right = right_rest a limit v.done.right;

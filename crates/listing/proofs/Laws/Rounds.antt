@@ -9,7 +9,7 @@ use Rattle.finite.proofs.Laws.Below.{equal?, below_out, not-below}
 use Rattle.finite.specs.Bytes.{Bytes}
 use Rattle.bitset.specs.Set.{set_bytes, set_slots, has}
 use Rattle.bitset.proofs.Laws.Bytes.{same-slots}
-use Rattle.limits.specs.Limits.{slots, variables}
+use Rattle.limits.specs.Limits.{slots, variables, table_bytes}
 use Rattle.semantics.specs.Holds.{Set, put}
 use Rattle.semantics.specs.Table.{tree_at}
 use Rattle.semantics.proofs.Laws.Monotone.{put_same, put_other}
@@ -114,15 +114,12 @@ module _ {site S : List ℕ} {memo₀ memo : Memo} {work : List ℕ} {limit : Op
     (R : Rounds site S memo₀ memo work limit k x b set rounds total moved?) where
   -- the body's call: the variable has the set
   module _ {memo₁ : Memo} (go : moved? ≡ true) (a : Assigned memo memo₁ x (has set)) where
-    pub assigned : {work₀ : List ℕ} → Evaluable site S limit memo₀ work₀ → x < variables → Evaluable site S (left_of limit total) memo₁ work
-    assigned e hx =
+    pub assigned : {work₀ : List ℕ} → length S ≤ table_bytes → Evaluable site S limit memo₀ work₀ → x < variables → Evaluable site S (left_of limit total) memo₁ work
+    assigned short e hx =
         record {
-          short = e.short;
-          fits = e.fits;
-          even_rule = e.even_rule;
           usual = usual_rest limit total e.usual;
           work_size = R.work_size;
-          right = right_rest total limit (moved e.short hx R.right a);
+          right = right_rest total limit (moved short hx R.right a);
         }
 
     value-at : (v : ℕ) → valuation memo₁ v ≐ put (valuation memo₀) x (has set) v

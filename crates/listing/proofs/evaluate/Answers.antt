@@ -17,6 +17,10 @@ pub overflow_sub-top : goal.overflow_sub-top
 overflow_sub-top c = let s = accepted_sound c.args.table.now c.requires.table_value in
     omega (arith, s.some)
 
+pub invariant_of-question : goal.invariant_of-question
+invariant_of-question c = let s = accepted_sound c.args.table.now c.requires.table_value in
+    record { short = s.few; fits = s.fits; even = s.even_rule }
+
 pub compute-made-requires-clause-evaluable : goal.compute-made-requires-clause-evaluable
 compute-made-requires-clause-evaluable c = let s = accepted_sound c.args.table.now c.requires.table_value in
     let n : ℕ = length c.args.table.now / 6 in
