@@ -6,22 +6,17 @@
 #![tactic(auto)]
 
 ghost use Rattle.std.specs.Prelude.{◌≡◌, ◌≤◌, ◌<◌, length};
-ghost use Rattle.bitset.specs.Set.{set_slots};
-ghost use Rattle.limits.specs.Limits.{every_way};
-ghost use Rattle.site.specs.Layout.{site_bytes};
 
-use bitset::{SET_BYTES, SET_SLOTS};
-use chaining::CHAIN_BYTES;
+use bitset::{SET_BYTES, SET_SLOTS, SlotSet};
+use chaining::{CHAIN_BYTES, Ending};
 use listing::WORK_BYTES;
 use pieces::ROOM;
-use site::SITE_BYTES;
+use site::{Site, Way};
 use std::io;
 use std::io::{BufReader, BufWriter, Read, Write};
 use verdict::Refusal;
 
 const EVERY: u32 = limits::EVERY as u32;
-
-const SLOTS: u32 = SET_SLOTS as u32;
 
 fn print_number<W: Write>(output: &mut W, word: &[u8], n: u64) -> io::Result<()> {
     output.write_all(word)?;
@@ -79,24 +74,21 @@ fn show<W: Write>(
     }
 }
 
-// What the search answers, as the entry has it: it has 256 for no chain.
-fn found(n: usize) -> Option<u32> {
-    if n < SET_SLOTS {
-        return Some(n as u32);
-    }
-    None
-}
-
 // Prints what the search gives, behind the refusal. The last slot is the goal.
-fn search<W: Write>(output: &mut W, site: &[u8], way: u8, start: usize) -> io::Result<()>
-    requires { (length site.now ≡ site_bytes) × ((way < every_way) × (start < set_slots)) }
-{
+fn search<W: Write>(output: &mut W, site: &Site, way: Way, start: u8) -> io::Result<()> {
     let mut chain = [170u8; CHAIN_BYTES];
-    let mut set = bitset::single(SET_SLOTS - 1);
+    let mut set = [0u8; SET_BYTES];
     let mut work = [170u8; WORK_BYTES];
-    let n = chaining::search(site, way, start, &mut chain, &mut set, &mut work);
+    let goal = SlotSet::single(SET_SLOTS - 1);
+    let answer = match chaining::search(site, way, start, &goal, &mut chain, &mut work) {
+        Ending::Steps(steps) => Some(u32::from(steps)),
+        Ending::Reached(reached) => {
+            reached.write(&mut set);
+            None
+        }
+    };
     write!(output, "; ")?;
-    show(output, Ok(found(n)), &chain, &set)?;
+    show(output, Ok(answer), &chain, &set)?;
     pieces::say_left(output, &work, b" work left")
 }
 
@@ -108,17 +100,14 @@ fn search_refused<W: Write>(
     way: u32,
     start: u32,
 ) -> io::Result<()> {
-    if site.len() != SITE_BYTES {
+    let Some(site) = Site::new(site) else {
         return Ok(());
-    }
-    if way >= EVERY {
+    };
+    let Ok(start) = u8::try_from(start) else {
         return Ok(());
-    }
-    if start >= SLOTS {
-        return Ok(());
-    }
-    if matches!(answer, Err(Refusal::Links)) {
-        search(output, site, way as u8, start as usize)?;
+    };
+    if way < EVERY && matches!(answer, Err(Refusal::Links)) {
+        search(output, &site, Way::from(way as u8), start)?;
     }
     Ok(())
 }

@@ -8,14 +8,13 @@ ghost use Rattle.std.specs.Prelude.{◌≡◌, length};
 ghost use Rattle.bitset.specs.Set.{set_bytes};
 ghost use Rattle.limits.specs.Limits.{table_nodes};
 ghost use Rattle.verdict.specs.Verdict.{Accepted};
-ghost use Rattle.site.specs.Layout.{site_bytes};
 ghost use Rattle.condition.specs.Refusal.{condition_verdict};
 ghost use Rattle.even_rule.specs.Free.{FreeRows};
 
 use bitset::SET_BYTES;
 use listing::{Found, WORK_BYTES};
 use pieces::ROOM;
-use site::SITE_BYTES;
+use site::Site;
 use std::io;
 use std::io::{BufReader, BufWriter, Read, Write};
 use verdict::Refusal;
@@ -55,13 +54,13 @@ fn show<W: Write>(output: &mut W, answer: Result<Found, Refusal>, set: &[u8]) ->
 // Lists without a limit: the count and the set have to be those that were found under one.
 fn compare<W: Write>(
     output: &mut W,
-    site: &[u8],
+    site: &Site,
     cond: &[u8],
     free: &[u16],
     found: Found,
     set: &[u8],
 ) -> io::Result<()>
-    requires site_len { (length site.now ≡ site_bytes) × (condition_verdict cond.now ≡ Accepted) }
+    requires cond_value { condition_verdict cond.now ≡ Accepted }
     requires free_len { (length free.now ≡ table_nodes) × FreeRows cond.now free.now }
     requires set_len { length set.now ≡ set_bytes }
 {
@@ -69,11 +68,7 @@ fn compare<W: Write>(
     let mut work = [170u8; WORK_BYTES];
     let n = listing::list_all(site, cond, free, &mut all, &mut work);
     pieces::say(output, n != found.count, b" another count without a limit")?;
-    pieces::say(
-        output,
-        !set_algebra::equal(set, &all),
-        b" another set without a limit",
-    )?;
+    pieces::say(output, set != &all[..], b" another set without a limit")?;
     pieces::say_left(output, &work, b" work left without a limit")
 }
 
@@ -85,15 +80,15 @@ fn try_without_limit<W: Write>(
     found: Found,
     set: &[u8],
 ) -> io::Result<()> {
-    if site.len() != SITE_BYTES {
+    let Some(site) = Site::new(site) else {
         return Ok(());
-    }
+    };
     if set.len() != SET_BYTES {
         return Ok(());
     }
     let mut free = even_rule::no_masks();
     match even_rule::check(cond, &mut free) {
-        Ok(()) => compare(output, site, cond, &free, found, set),
+        Ok(()) => compare(output, &site, cond, &free, found, set),
         Err(_) => pieces::say(output, true, b" listed, and refused"),
     }
 }
