@@ -14,7 +14,7 @@ use spelling::{Row, Spelling};
 // The parameter of a step's node: 0, the parameter of the old node, the first or the second number of the edit, the reverse of the link that is
 // the second, or the way E.
 #[derive(Clone, Copy, PartialEq, Eq, Debug)]
-pub enum Number {
+pub(crate) enum Number {
     Zero,
     Own,
     First,
@@ -25,18 +25,18 @@ pub enum Number {
 
 // A child of a step's node: none, the node at this place of the block, counted from 0, or the image of the old node's left child.
 #[derive(Clone, Copy, PartialEq, Eq, Debug)]
-pub enum Child {
+pub(crate) enum Child {
     Nothing,
     At(u8),
     Image,
 }
 
 // How many numbers there are.
-pub const NUMBERS: usize = 6;
+pub(crate) const NUMBERS: usize = 6;
 
 // One node of a block: its kind, its parameter and its children.
 #[derive(Clone, Copy, PartialEq, Eq, Debug)]
-pub struct Step(pub u8, pub Number, pub Child, pub Child);
+pub(crate) struct Step(pub u8, pub Number, pub Child, pub Child);
 
 impl Child {
     // The number of the child, where the block begins with number `at` and T is `image`.
@@ -69,7 +69,7 @@ impl Step {
 }
 
 // The numbers that steps refer to, in the order of `Number`: of a row in a block for a node with this parameter.
-pub fn numbers(spelling: Spelling, own: u8) -> [u8; NUMBERS]
+pub(crate) fn numbers(spelling: Spelling, own: u8) -> [u8; NUMBERS]
     ensures { result ≡ numbers_of spelling own }
 {
     let Spelling {
@@ -310,7 +310,7 @@ static RT_BOX_BACK: [Step; 11] = [
 
 // The steps of a row.
 #[tactic(auto, using(crate::proofs::Laws::Rows::steps_right), unfolding(spelling::specs::Rows::row_block, semantics::specs::Block::emit, semantics::specs::Block::root, semantics::specs::Block::size, semantics::specs::Table::kind_no))]
-pub fn steps_of(row: Row) -> &'static [Step]
+pub(crate) fn steps_of(row: Row) -> &'static [Step]
     ensures { StepsOf row result.now }
 {
     match row {

@@ -20,7 +20,7 @@ use spelling::spell;
 
 // A table of so many nodes, the edit, and the images of the nodes: the number of the last node of each block.
 #[derive(Clone, Copy)]
-pub struct Plan<'a> {
+pub(crate) struct Plan<'a> {
     pub table: &'a [u8; TABLE_BYTES],
     pub images: &'a [u16; TABLE_NODES],
     pub edit: Op,
@@ -78,7 +78,8 @@ impl<'a> Plan<'a> {
     }
 
     // Node c is emitted: its block is written. Gives whether one of its children waits. A field that the node's kind does not use is 0, and is
-    // taken for a child here and in `emit_under`: a node that is emitted early is emitted right.
+    // taken for a child here and in `emit_under`: a node that is emitted early is emitted right. Put in place at its calls, which is measured faster.
+    #[inline(always)]
     fn emit(&self, stages: &mut [Stage; TABLE_NODES], out: &mut [u8; TABLE_BYTES], c: usize) -> bool
         requires below { c < self.now.nodes }
         requires emittable { Emittable self.now.table.now (edit_of self.now.edit) stages.old out.old self.now.nodes }

@@ -1,11 +1,13 @@
 -- What a spelling spells, and which one the block of a node has.
-use Rattle.std.specs.Prelude.{◌≡◌, Option, None, Some, cond, ℕ, ◌+◌, ◌%◌, ◌≤◌}
+use Rattle.std.specs.Prelude.{◌≡◌, Option, None, Some, cond, if◌then◌else◌, ◌==◌, ℕ, ◌+◌, ◌%◌, ◌≤◌}
 use Rattle.finite.specs.Tests.{same}
-use Rattle.limits.specs.Limits.{links, every_way}
+use Rattle.limits.specs.Limits.{links, every_way, dia_no, box_no}
 use Rattle.semantics.specs.Form.{Way, along, against, every}
 use Rattle.semantics.specs.Edit.{Edit}
 use Rattle.semantics.specs.Table.{kind_of}
 use Rattle.semantics.specs.Block.{Block, old, size, block}
+use Rattle.spelling.specs.declared.Row.{Row}
+use Rattle.spelling.specs.declared.Modal.{Modal}
 use Rattle.spelling.specs.declared.Spelling.{Spelling}
 use Rattle.spelling.specs.Rows.{copied, row_block}
 
@@ -21,6 +23,14 @@ row_spelled s w t = row_block s.row w s.first s.second (reverse_of s.second) eve
 unfoldable pub spelled : Option Spelling → (k w t u : ℕ) → Block
 spelled None k w t u = copied (kind_of k) w (old t) (old u)
 spelled (Some s) k w t u = row_spelled s w t
+
+-- a row with its numbers
+abbrev pub by_row : Row → ℕ → ℕ → Spelling
+by_row r a b = record { row = r; first = a; second = b }
+
+-- of a node of this kind: none but for a diamond and a box
+abbrev pub modal_spelling : Modal → (kind : ℕ) → Option Spelling
+modal_spelling m k = if k == dia_no then Some (by_row m.0 m.2 m.3) else (if k == box_no then Some (by_row m.1 m.2 m.3) else None)
 
 -- s spells the block of a node with this kind and parameter
 pub record Spells (e : Edit) (kind param : ℕ) (s : Option Spelling) : Type 0 where

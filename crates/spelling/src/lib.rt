@@ -1,12 +1,12 @@
 // How the block of a node through an edit is spelled: the node is copied, or a row gives its block. docs/SPEC.md, "Rewriting".
 #![tactic(auto)]
 
-ghost use Rattle.std.specs.Prelude.{◌≡◌, ◌==◌, true, ◌&&◌, if◌then◌else◌, None, Some, ◌<◌};
-ghost use Rattle.limits.specs.Limits.{links, dia_no, box_no};
+ghost use Rattle.std.specs.Prelude.{◌≡◌, ◌==◌, true, ◌&&◌, None, ◌<◌};
+ghost use Rattle.limits.specs.Limits.{links};
 ghost use Rattle.semantics.specs.Edit.{AS, DS, legal};
 ghost use Rattle.semantics.specs.Table.{way_of};
 ghost use Rattle.sheet.specs.Bytes.{edit_of};
-ghost use Rattle.spelling.specs.Spelling.{Spells, on_way};
+ghost use Rattle.spelling.specs.Spelling.{by_row, modal_spelling, Spells, on_way};
 
 use limits::{BOX, DIA, EVERY, HERE, LABEL, LINKS, NAME};
 use sheet::Op;
@@ -41,7 +41,7 @@ pub enum Row {
 
 impl Row {
     fn with(self, first: u8, second: u8) -> Spelling
-        ensures { result ≡ record { row = self; first = first; second = second } }
+        ensures { result ≡ by_row self first second }
     {
         Spelling {
             row: self,
@@ -66,28 +66,35 @@ fn is_leaf(kind: u8, param: u8, leaf: u8, number: u8) -> bool
     (kind == leaf) & (param == number)
 }
 
-// The spelling of a diamond, that of a box, and none of other kinds.
-fn by_modality(kind: u8, diamond: Spelling, boxed: Spelling) -> Option<Spelling>
-    ensures { result ≡ (if kind == dia_no then Some diamond else (if kind == box_no then Some boxed else None)) }
-{
-    match kind {
-        DIA => Some(diamond),
-        BOX => Some(boxed),
-        _ => None,
+// The rows of a diamond and of a box, and the two numbers of the edit that they refer to.
+#[derive(Clone, Copy, PartialEq, Eq, Debug)]
+struct Modal(Row, Row, u8, u8);
+
+impl Modal {
+    // None for a node of another kind.
+    fn spelling(self, kind: u8) -> Option<Spelling>
+        ensures { result ≡ modal_spelling self kind }
+    {
+        let Modal(diamond, boxed, first, second) = self;
+        match kind {
+            DIA => Some(diamond.with(first, second)),
+            BOX => Some(boxed.with(first, second)),
+            _ => None,
+        }
     }
 }
 
-// One spelling for a way along the link, another for one against it, and none for other ways.
+// The spelling of a node with a way along the link, that of one with a way against it, and none for other ways.
 #[tactic(auto, using(crate::proofs::Laws::Spelling::on_link, crate::proofs::Laws::Spelling::on_reverse, crate::proofs::Laws::Spelling::on_other))]
-fn by_way(way: u8, link: u8, along: Option<Spelling>, against: Option<Spelling>) -> Option<Spelling>
+fn by_way(kind: u8, way: u8, link: u8, along: Modal, against: Modal) -> Option<Spelling>
     requires { link < links }
-    ensures { result ≡ on_way (way_of way) link along against None }
+    ensures { result ≡ on_way (way_of way) link (modal_spelling along kind) (modal_spelling against kind) None }
 {
     if way == link {
-        return along;
+        return along.spelling(kind);
     }
     if way == link + LINKS {
-        return against;
+        return against.spelling(kind);
     }
     None
 }
@@ -118,7 +125,9 @@ fn for_slot_gone(kind: u8, param: u8, n: u8) -> Option<Spelling>
     }
 }
 
-// The spelling of the block of a node with this kind and parameter, whatever its children; none where the node is copied.
+// The spelling of the block of a node with this kind and parameter, whatever its children; none where the node is copied. Put in place at both of its
+// calls: rewriting takes a fifth longer with a call for each node.
+#[inline(always)]
 pub fn spell(e: Op, kind: u8, param: u8) -> Option<Spelling>
     requires { legal (edit_of e) ≡ true }
     ensures { Spells (edit_of e) kind param result }
@@ -129,38 +138,34 @@ pub fn spell(e: Op, kind: u8, param: u8) -> Option<Spelling>
         Op::Ap(n, p) => is_leaf(kind, param, LABEL, p).then_some(Row::ApLabel.with(n, 0)),
         Op::Dp(n, p) => is_leaf(kind, param, LABEL, p).then_some(Row::DpLabel.with(n, 0)),
         Op::At(m, n1, n2) => by_way(
+            kind,
             param,
             m,
-            by_modality(kind, Row::AtDiamond.with(n1, n2), Row::AtBox.with(n1, n2)),
-            by_modality(kind, Row::AtDiamond.with(n2, n1), Row::AtBox.with(n2, n1)),
+            Modal(Row::AtDiamond, Row::AtBox, n1, n2),
+            Modal(Row::AtDiamond, Row::AtBox, n2, n1),
         ),
         Op::Dt1(m, n1, n2) => by_way(
+            kind,
             param,
             m,
-            by_modality(kind, Row::Dt1Diamond.with(n1, n2), Row::Dt1Box.with(n1, n2)),
-            by_modality(kind, Row::Dt1Diamond.with(n2, n1), Row::Dt1Box.with(n2, n1)),
+            Modal(Row::Dt1Diamond, Row::Dt1Box, n1, n2),
+            Modal(Row::Dt1Diamond, Row::Dt1Box, n2, n1),
         ),
         Op::Dt2(f, n) => by_way(
+            kind,
             param,
             f,
-            by_modality(kind, Row::Dt2Diamond.with(n, 0), Row::Dt2Box.with(n, 0)),
-            by_modality(
-                kind,
-                Row::Dt2DiamondBack.with(n, 0),
-                Row::Dt2BoxBack.with(n, 0),
-            ),
+            Modal(Row::Dt2Diamond, Row::Dt2Box, n, 0),
+            Modal(Row::Dt2DiamondBack, Row::Dt2BoxBack, n, 0),
         ),
         Op::As(n, slot) => for_new_slot(kind, param, n, slot),
         Op::Ds(n) => for_slot_gone(kind, param, n),
         Op::Rt(f, n1, n2) => by_way(
+            kind,
             param,
             f,
-            by_modality(kind, Row::RtDiamond.with(n1, n2), Row::RtBox.with(n1, n2)),
-            by_modality(
-                kind,
-                Row::RtDiamondBack.with(n1, n2),
-                Row::RtBoxBack.with(n1, n2),
-            ),
+            Modal(Row::RtDiamond, Row::RtBox, n1, n2),
+            Modal(Row::RtDiamondBack, Row::RtBoxBack, n1, n2),
         ),
     }
 }

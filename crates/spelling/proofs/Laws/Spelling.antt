@@ -1,7 +1,7 @@
 -- The spelling that is chosen for a node spells the block of the node.
 use Rattle.std.specs.Prelude.{◌≡◌, ◌≢◌, Bool, true, false, not, ◌&&◌, nat_eq, nat_lt, Option, None, Some, cond, ℕ, ◌+◌, ◌-◌, ◌%◌, ◌≤◌, ◌<◌, refl}
 use Rattle.std.proofs.Common.{◌∙◌, ap, arith}
-use Rattle.std.specs.Bool.{then_some, if◌then◌else◌}
+use Rattle.std.specs.Bool.{then_some}
 use Rattle.finite.specs.Tests.{same, below}
 use Rattle.finite.proofs.Laws.Bools.{either, look, and_l}
 use Rattle.finite.proofs.Laws.Below.{same_refl, below_in, below_out, below-not, not-below, ne_same}
@@ -19,7 +19,8 @@ use Rattle.spelling.specs.declared.Row.{Row}
 use Rattle.spelling.specs.declared.Row.TheVariants.{Cn1Name, AsName, Cn2Name, ApLabel, DpLabel, AsHere, DsHere, DsName, AtDiamond, AtBox, Dt1Diamond, Dt1Box, Dt2Diamond, Dt2Box, Dt2DiamondBack, Dt2BoxBack, DsDiamond, DsBox, RtDiamond, RtBox, RtDiamondBack, RtBoxBack}
 use Rattle.spelling.specs.declared.Spelling.{Spelling}
 use Rattle.spelling.specs.Rows.{copied, row_block}
-use Rattle.spelling.specs.Spelling.{row_spelled, spelled, Spells, on_way}
+use Rattle.spelling.specs.declared.Modal.{Modal}
+use Rattle.spelling.specs.Spelling.{by_row, modal_spelling, row_spelled, spelled, Spells, on_way}
 
 -- ---- ways by their numbers, and what an edit does by each
 
@@ -96,16 +97,12 @@ past : (n k : ℕ) → n < 12 → 12 ≤ k → nat_eq k n ≡ false
 unfolding same
 past n k l h = let d : k ≢ n = λ q. omega arith in ne_same d
 
-abbrev pub by_row : Row → ℕ → ℕ → Spelling
-by_row r a b = record { row = r; first = a; second = b }
-
 -- the row of a leaf of kind κ with parameter n, where a node of kind k has parameter w
 abbrev pub leaf_row : (k κ w n : ℕ) → Spelling → Option Spelling
 leaf_row k κ w n s = then_some (nat_eq k κ && nat_eq w n) s
 
--- the rows of the diamond and of the box
-abbrev pub rows : ℕ → Spelling → Spelling → Option Spelling
-rows k d b = if nat_eq k 8 then Some d else (if nat_eq k 9 then Some b else None)
+abbrev pub modal : (d b : Row) (first second : ℕ) → Modal
+modal d b first second = record { 0 = d; 1 = b; 2 = first; 3 = second }
 
 module _ (w t u : ℕ) where
   abbrev Right : Edit → ℕ → Option Spelling → Type 0
@@ -176,7 +173,7 @@ module _ (w t u : ℕ) where
   unfolding spelled row_spelled copied row_block block block_box kind_of below
   right_box n = choose box 9 (below w every_way) _ {X = cut_off n} {Z = keep} refl refl ∙ ap box (change_ds n w)
 
-  right_at : (m a b k : ℕ) → Right (AT m a b) k (on_way (way_of w) m (rows k (by_row AtDiamond a b) (by_row AtBox a b)) (rows k (by_row AtDiamond b a) (by_row AtBox b a)) None)
+  right_at : (m a b k : ℕ) → Right (AT m a b) k (on_way (way_of w) m (modal_spelling (modal AtDiamond AtBox a b) k) (modal_spelling (modal AtDiamond AtBox b a) k) None)
   unfolding spelled row_spelled copied row_block block block_leaf block_dia block_box kind_of
   right_at m a b =
       each_kind _ (unchanged 0 m refl) (unchanged 1 m refl) (unchanged 2 m refl) (unchanged 3 m refl) (unchanged 4 m refl) (unchanged 5 m refl) (unchanged 6 m refl) (unchanged 7 m refl)
@@ -185,7 +182,7 @@ module _ (w t u : ℕ) where
       (unchanged 10 m refl) (unchanged 11 m refl)
       (λ k h. rw (past 8 k (omega arith) h, past 9 k (omega arith) h) (unchanged k m (rw (kind_past k h) refl)))
 
-  right_dt1 : (m a b k : ℕ) → Right (DT1 m a b) k (on_way (way_of w) m (rows k (by_row Dt1Diamond a b) (by_row Dt1Box a b)) (rows k (by_row Dt1Diamond b a) (by_row Dt1Box b a)) None)
+  right_dt1 : (m a b k : ℕ) → Right (DT1 m a b) k (on_way (way_of w) m (modal_spelling (modal Dt1Diamond Dt1Box a b) k) (modal_spelling (modal Dt1Diamond Dt1Box b a) k) None)
   unfolding spelled row_spelled copied row_block block block_leaf block_dia block_box kind_of
   right_dt1 m a b =
       each_kind _ (unchanged 0 m refl) (unchanged 1 m refl) (unchanged 2 m refl) (unchanged 3 m refl) (unchanged 4 m refl) (unchanged 5 m refl) (unchanged 6 m refl) (unchanged 7 m refl)
@@ -194,7 +191,7 @@ module _ (w t u : ℕ) where
       (unchanged 10 m refl) (unchanged 11 m refl)
       (λ k h. rw (past 8 k (omega arith) h, past 9 k (omega arith) h) (unchanged k m (rw (kind_past k h) refl)))
 
-  right_dt2 : (f n k : ℕ) → Right (DT2 f n) k (on_way (way_of w) f (rows k (by_row Dt2Diamond n 0) (by_row Dt2Box n 0)) (rows k (by_row Dt2DiamondBack n 0) (by_row Dt2BoxBack n 0)) None)
+  right_dt2 : (f n k : ℕ) → Right (DT2 f n) k (on_way (way_of w) f (modal_spelling (modal Dt2Diamond Dt2Box n 0) k) (modal_spelling (modal Dt2DiamondBack Dt2BoxBack n 0) k) None)
   unfolding spelled row_spelled copied row_block block block_leaf block_dia block_box kind_of
   right_dt2 f n =
       each_kind _ (unchanged 0 f refl) (unchanged 1 f refl) (unchanged 2 f refl) (unchanged 3 f refl) (unchanged 4 f refl) (unchanged 5 f refl) (unchanged 6 f refl) (unchanged 7 f refl)
@@ -203,7 +200,7 @@ module _ (w t u : ℕ) where
       (unchanged 10 f refl) (unchanged 11 f refl)
       (λ k h. rw (past 8 k (omega arith) h, past 9 k (omega arith) h) (unchanged k f (rw (kind_past k h) refl)))
 
-  right_rt : (f a b k : ℕ) → Right (RT f a b) k (on_way (way_of w) f (rows k (by_row RtDiamond a b) (by_row RtBox a b)) (rows k (by_row RtDiamondBack a b) (by_row RtBoxBack a b)) None)
+  right_rt : (f a b k : ℕ) → Right (RT f a b) k (on_way (way_of w) f (modal_spelling (modal RtDiamond RtBox a b) k) (modal_spelling (modal RtDiamondBack RtBoxBack a b) k) None)
   unfolding spelled row_spelled copied row_block block block_leaf block_dia block_box kind_of
   right_rt f a b =
       each_kind _ (unchanged 0 f refl) (unchanged 1 f refl) (unchanged 2 f refl) (unchanged 3 f refl) (unchanged 4 f refl) (unchanged 5 f refl) (unchanged 6 f refl) (unchanged 7 f refl)
@@ -233,12 +230,6 @@ module _ (w t u : ℕ) where
 pub spells_as : {o o' : Op} {k w : ℕ} {s s' : Option Spelling} → o ≡ o' → s ≡ s' → Spells (edit_of o') k w s' → Spells (edit_of o) k w s
 spells_as e es S = rw (e, es) S
 
-pub rows_as : (k : ℕ) {d b d' b' : Spelling} {s : Option Spelling} → d ≡ d' → b ≡ b' → s ≡ rows k d b → s ≡ rows k d' b'
-rows_as k e f g = rw (g, e, f) refl
-
-pub way_as : (W : Way) (m : ℕ) {x y x' y' s : Option Spelling} → x ≡ x' → y ≡ y' → s ≡ on_way W m x y None → s ≡ on_way W m x' y' None
-way_as W m e f g = rw (g, e, f) refl
-
 pub spells_cn1 : (n1 n2 k w : ℕ) → Spells (CN1 n1 n2) k w (leaf_row k 3 w n1 (by_row Cn1Name n2 0))
 spells_cn1 n1 n2 k w = record { right = λ t u. right_cn1 w t u n1 n2 k }
 
@@ -253,16 +244,16 @@ spells_ap n p k w = record { right = λ t u. right_ap w t u n p k }
 pub spells_dp : (n p k w : ℕ) → Spells (DP n p) k w (leaf_row k 2 w p (by_row DpLabel n 0))
 spells_dp n p k w = record { right = λ t u. right_dp w t u n p k }
 
-pub spells_at : (m a b k w : ℕ) → Spells (AT m a b) k w (on_way (way_of w) m (rows k (by_row AtDiamond a b) (by_row AtBox a b)) (rows k (by_row AtDiamond b a) (by_row AtBox b a)) None)
+pub spells_at : (m a b k w : ℕ) → Spells (AT m a b) k w (on_way (way_of w) m (modal_spelling (modal AtDiamond AtBox a b) k) (modal_spelling (modal AtDiamond AtBox b a) k) None)
 spells_at m a b k w = record { right = λ t u. right_at w t u m a b k }
 
-pub spells_dt1 : (m a b k w : ℕ) → Spells (DT1 m a b) k w (on_way (way_of w) m (rows k (by_row Dt1Diamond a b) (by_row Dt1Box a b)) (rows k (by_row Dt1Diamond b a) (by_row Dt1Box b a)) None)
+pub spells_dt1 : (m a b k w : ℕ) → Spells (DT1 m a b) k w (on_way (way_of w) m (modal_spelling (modal Dt1Diamond Dt1Box a b) k) (modal_spelling (modal Dt1Diamond Dt1Box b a) k) None)
 spells_dt1 m a b k w = record { right = λ t u. right_dt1 w t u m a b k }
 
-pub spells_dt2 : (f n k w : ℕ) → Spells (DT2 f n) k w (on_way (way_of w) f (rows k (by_row Dt2Diamond n 0) (by_row Dt2Box n 0)) (rows k (by_row Dt2DiamondBack n 0) (by_row Dt2BoxBack n 0)) None)
+pub spells_dt2 : (f n k w : ℕ) → Spells (DT2 f n) k w (on_way (way_of w) f (modal_spelling (modal Dt2Diamond Dt2Box n 0) k) (modal_spelling (modal Dt2DiamondBack Dt2BoxBack n 0) k) None)
 spells_dt2 f n k w = record { right = λ t u. right_dt2 w t u f n k }
 
-pub spells_rt : (f a b k w : ℕ) → Spells (RT f a b) k w (on_way (way_of w) f (rows k (by_row RtDiamond a b) (by_row RtBox a b)) (rows k (by_row RtDiamondBack a b) (by_row RtBoxBack a b)) None)
+pub spells_rt : (f a b k w : ℕ) → Spells (RT f a b) k w (on_way (way_of w) f (modal_spelling (modal RtDiamond RtBox a b) k) (modal_spelling (modal RtDiamondBack RtBoxBack a b) k) None)
 spells_rt f a b k w = record { right = λ t u. right_rt w t u f a b k }
 
 -- the link of an edit

@@ -1,7 +1,6 @@
 -- The spelling of a block, edit by edit.
 use Rattle.std.proofs.Common.{refl}
-use Rattle.semantics.specs.Table.{way_of}
-use Rattle.spelling.proofs.Laws.Spelling.{spells_as, rows_as, way_as, spells_cn1, spells_cn2, spells_ap, spells_dp, spells_at, spells_dt1, spells_dt2, spells_rt, at_link, dt1_link, dt2_link, rt_link}
+use Rattle.spelling.proofs.Laws.Spelling.{spells_as, spells_cn1, spells_cn2, spells_ap, spells_dp, spells_at, spells_dt1, spells_dt2, spells_rt, at_link, dt1_link, dt2_link, rt_link}
 use Rattle.spelling.proofs.spell.Goals as goal
 
 pub returns-in-Cn1 : goal.returns-in-Cn1
@@ -21,33 +20,25 @@ by_way-requires c = at_link c.in-At.m c.in-At.n1 c.in-At.n2 (rw c.in-At.is at c.
 
 pub returns-in-At : goal.returns-in-At
 returns-in-At c =
-    let along = rows_as c.args.kind c.with-in-At.ensures c.with-in-At-2.ensures c.by_modality.ensures in
-    let against = rows_as c.args.kind c.with-in-At-3.ensures c.with-in-At-4.ensures c.by_modality-in-At.ensures in
-    spells_as c.in-At.is (way_as (way_of c.args.param) c.in-At.m along against c.by_way.ensures) (spells_at c.in-At.m c.in-At.n1 c.in-At.n2 c.args.kind c.args.param)
+    spells_as c.in-At.is c.by_way.ensures (spells_at c.in-At.m c.in-At.n1 c.in-At.n2 c.args.kind c.args.param)
 
 pub by_way-requires-in-Dt1 : goal.by_way-requires-in-Dt1
 by_way-requires-in-Dt1 c = dt1_link c.in-Dt1.m c.in-Dt1.n1 c.in-Dt1.n2 (rw c.in-Dt1.is at c.requires)
 
 pub returns-in-Dt1 : goal.returns-in-Dt1
 returns-in-Dt1 c =
-    let along = rows_as c.args.kind c.with-in-Dt1.ensures c.with-in-Dt1-2.ensures c.by_modality-in-Dt1.ensures in
-    let against = rows_as c.args.kind c.with-in-Dt1-3.ensures c.with-in-Dt1-4.ensures c.by_modality-in-Dt1-2.ensures in
-    spells_as c.in-Dt1.is (way_as (way_of c.args.param) c.in-Dt1.m along against c.by_way-in-Dt1.ensures) (spells_dt1 c.in-Dt1.m c.in-Dt1.n1 c.in-Dt1.n2 c.args.kind c.args.param)
+    spells_as c.in-Dt1.is c.by_way-in-Dt1.ensures (spells_dt1 c.in-Dt1.m c.in-Dt1.n1 c.in-Dt1.n2 c.args.kind c.args.param)
 
 pub by_way-requires-in-Dt2 : goal.by_way-requires-in-Dt2
 by_way-requires-in-Dt2 c = dt2_link c.in-Dt2.f c.in-Dt2.n (rw c.in-Dt2.is at c.requires)
 
 pub returns-in-Dt2 : goal.returns-in-Dt2
 returns-in-Dt2 c =
-    let along = rows_as c.args.kind c.with-in-Dt2.ensures c.with-in-Dt2-2.ensures c.by_modality-in-Dt2.ensures in
-    let against = rows_as c.args.kind c.with-in-Dt2-3.ensures c.with-in-Dt2-4.ensures c.by_modality-in-Dt2-2.ensures in
-    spells_as c.in-Dt2.is (way_as (way_of c.args.param) c.in-Dt2.f along against c.by_way-in-Dt2.ensures) (spells_dt2 c.in-Dt2.f c.in-Dt2.n c.args.kind c.args.param)
+    spells_as c.in-Dt2.is c.by_way-in-Dt2.ensures (spells_dt2 c.in-Dt2.f c.in-Dt2.n c.args.kind c.args.param)
 
 pub by_way-requires-in-Rt : goal.by_way-requires-in-Rt
 by_way-requires-in-Rt c = rt_link c.in-Rt.f c.in-Rt.n1 c.in-Rt.n2 (rw c.in-Rt.is at c.requires)
 
 pub returns-in-Rt : goal.returns-in-Rt
 returns-in-Rt c =
-    let along = rows_as c.args.kind c.with-in-Rt.ensures c.with-in-Rt-2.ensures c.by_modality-in-Rt.ensures in
-    let against = rows_as c.args.kind c.with-in-Rt-3.ensures c.with-in-Rt-4.ensures c.by_modality-in-Rt-2.ensures in
-    spells_as c.in-Rt.is (way_as (way_of c.args.param) c.in-Rt.f along against c.by_way-in-Rt.ensures) (spells_rt c.in-Rt.f c.in-Rt.n1 c.in-Rt.n2 c.args.kind c.args.param)
+    spells_as c.in-Rt.is c.by_way-in-Rt.ensures (spells_rt c.in-Rt.f c.in-Rt.n1 c.in-Rt.n2 c.args.kind c.args.param)
