@@ -1,9 +1,10 @@
 #!/usr/bin/env python3
-"""Checks that every public function with a contract has two must-fail edits, and that every edit says what it guards.
+"""Checks that every public function with a contract has two must-fail edits, every public method one, and that every edit says what it guards.
 
 The first line of an edit is `guards: NAME, NAME, ..`. A NAME is a public function with a contract, of the edit's crate or, as
-`crate::function`, of a crate above it; or a definition of the edit's crate, as `specs/File: definition`. Each `old:` text
-occurs exactly once in its file, as rt requires.
+`crate::function`, of a crate above it; a method of the edit's crate, as `Type::method`, or as `method` where it is the only one of
+that name; or a definition of the edit's crate, as `specs/File: definition`. Each `old:` text occurs exactly once in its file, as rt
+requires.
 
 Prints how many there are, or what is missing, and then exits with 1. Run at the repository's top: tests/edits.py
 """
@@ -13,6 +14,13 @@ import re
 import sys
 
 WANTED = 2
+WANTED_OF_A_METHOD = 1
+# methods for which no other body has the type, and those that the edits of the functions above them guard
+UNGUARDED = {
+    "site": {"Site::bytes", "Site::from"},
+    "desk": {f"{name}Answer::from" for name in ["List", "Apply", "Rewrite", "Classes", "Chain", "Job"]},
+    "emitting": {"Plan::emit_all"},
+}
 
 
 def read(path):
@@ -29,6 +37,18 @@ def public_functions(crate):
             head = whole.split("\n{\n")[0]
             if head != whole and "ensures" in head:
                 yield re.search(r"fn (\w+)", head).group(1)
+
+
+def methods(crate):
+    """The public methods of a crate that have an `ensures`, and the methods of its impls of traits, as `Type::method`."""
+    for path in sorted(glob.glob(f"crates/{crate}/src/*.rt")):
+        for header, body in re.findall(r"(?ms)^impl(?:<[^\n]*?>)? ([^{\n]*?) \{\n(.*?)^\}", read(path)):
+            of_trait = " for " in header
+            kind = re.match(r"\w+", header.split(" for ")[-1]).group(0)
+            for whole in re.findall(r"(?ms)^    (?:pub |pub\(crate\) )?fn .*?^    \}", body):
+                head = whole.split("\n    {\n")[0]
+                if of_trait or (whole.startswith("    pub fn") and head != whole and "ensures" in head):
+                    yield kind + "::" + re.search(r"fn (\w+)", head).group(1)
 
 
 def is_defined(crate, file, word):
@@ -83,11 +103,16 @@ def guarded(text):
 
 
 def resolve(crate, name, functions, below):
-    """The function that a name means, as a pair; None for a definition. Fails where there is neither."""
+    """The function or method that a name means, as a pair; None for a definition. Fails where there is neither."""
     if name.startswith("specs/") and ": " in name:
         if not is_defined(crate, *name.split(": ", 1)):
             raise LookupError(f"there is no {name}")
         return None
+    if name in functions[crate]:
+        return crate, name
+    named = [method for method in functions[crate] if method.endswith(f"::{name}")]
+    if len(named) == 1:
+        return crate, named[0]
     other, _, function = name.rpartition("::")
     if other and crate not in below.get(other, ()):
         raise LookupError(f"{other} is not above {crate}")
@@ -114,16 +139,17 @@ def check_edit(path, functions, below, counts):
 
 def main():
     edits, below, counts = sorted(glob.glob("crates/*/must-fail/*.edit")), depends(), {}
-    functions = {crate: list(public_functions(crate)) for crate in sorted(os.listdir("crates"))}
+    functions = {crate: list(public_functions(crate)) + list(methods(crate)) for crate in sorted(os.listdir("crates"))}
     faults = [fault for path in edits for fault in check_edit(path, functions, below, counts)]
     due = [(crate, function) for crate in functions for function in functions[crate]]
     for crate, function in due:
         count = counts.get((crate, function), 0)
-        if count < WANTED:
+        wanted = WANTED_OF_A_METHOD if "::" in function else WANTED
+        if count < wanted and function not in UNGUARDED.get(crate, ()):
             faults.append(f"{crate}::{function} has too few must-fail edits: {count}")
     for fault in faults:
         print("edits:", fault)
-    print(f"edits: {len(edits)} must-fail edits, {len(due)} public functions with a contract" + (f", {len(faults)} faults" if faults else ""))
+    print(f"edits: {len(edits)} must-fail edits, {len(due)} public functions and methods with a contract" + (f", {len(faults)} faults" if faults else ""))
     sys.exit(bool(faults))
 
 
