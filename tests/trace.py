@@ -3,6 +3,7 @@
 
 Prints what does not, and then exits with 1. Run at the repository's top: tests/trace.py
 """
+import glob
 import os
 import re
 import sys
@@ -26,8 +27,7 @@ def is_said(crate, name, word):
 
 
 def in_source(crate, word):
-    return any(os.path.exists(p) and re.search(r"\bfn " + re.escape(word) + r"[(<]", read(p))
-               for p in (f"crates/{crate}/src/lib.rt", f"crates/{crate}/src/main.rt"))
+    return any(re.search(r"\bfn " + re.escape(word) + r"[(<]", read(p)) for p in glob.glob(f"crates/{crate}/src/*.rt"))
 
 
 def missing(text):
