@@ -8,9 +8,7 @@ ghost use Rattle.job_run.specs.Buffers.{buffers_of};
 
 mod answers;
 
-pub use answers::{
-    ApplyAnswer, ChainAnswer, ClassesAnswer, JobAnswer, ListAnswer, RewriteAnswer,
-};
+pub use answers::{ApplyAnswer, ChainAnswer, ClassesAnswer, JobAnswer, ListAnswer, RewriteAnswer};
 
 pub fn desk_list(
     site: &[u8],

@@ -15,12 +15,7 @@ use refusals::check_length;
 use verdict::Refusal;
 
 #[tactic(auto, unfolding(crate::specs::Refusal::rewrite_verdict))]
-fn try_rewrite(
-    table: &[u8],
-    sheet: &[u8],
-    edition: u32,
-    res: &mut [u8],
-) -> Result<u32, Refusal>
+fn try_rewrite(table: &[u8], sheet: &[u8], edition: u32, res: &mut [u8]) -> Result<u32, Refusal>
     ensures verdict { outcome result ≡ rewrite_verdict edition (length res.old) table.now sheet.now }
     ensures made { IfOk result (TableAfter Accepted (rewritten edition table.now sheet.now) res.old res.new) }
 {
