@@ -6,3 +6,4 @@ pub mod Slot
 pub mod Count
 pub mod Part
 pub mod Sets
+pub mod Numbers

@@ -4,3 +4,5 @@ pub mod Set
 pub mod Words
 -- what a copy rests on
 pub mod Stored
+-- and what is left of one
+pub mod Numbers

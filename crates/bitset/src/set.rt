@@ -1,9 +1,10 @@
-ghost use Rattle.std.specs.Prelude.{◌≡◌, true, false, not, ◌&&◌, ◌||◌, ℕ, ◌*◌, ◌^◌, ◌<◌, length, replicate, IfSome, IsNone, slice_index};
+ghost use Rattle.std.specs.Prelude.{◌≡◌, true, false, not, ◌&&◌, ◌||◌, ℕ, ◌*◌, ◌^◌, ◌<◌, ◌≤◌, length, replicate, IfSome, IsNone, slice_index};
 ghost use Rattle.finite.specs.Bytes.{Bytes};
 ghost use Rattle.finite.specs.Tests.{any, all, count, first};
 ghost use Rattle.finite.specs.Tests as tests;
 ghost use Rattle.bitset.specs.Set.{has, Holds};
 
+use crate::SET_WORDS;
 use std::marker::Model;
 use std::ops::{BitAnd, BitOr, Not, Sub};
 use words::WORD_BYTES;
@@ -32,7 +33,7 @@ impl<const W: usize> Model for BitSet<W> {
 }
 
 // A set of slots.
-pub type SlotSet = BitSet<4>;
+pub type SlotSet = BitSet<SET_WORDS>;
 
 impl<const W: usize> BitSet<W> {
     // The set of no number.
@@ -286,21 +287,57 @@ impl<const W: usize> Not for BitSet<W> {
     }
 }
 
-// The numbers of a set, rising.
+// The numbers of a set, rising. Words are begun one by one; what is left of the last one is held by itself, so that it stays in a register.
 #[derive(Clone, Copy)]
 pub struct Numbers<const W: usize> {
-    left: BitSet<W>,
+    set: BitSet<W>,
+    // How many words were begun.
+    begun: usize,
+    // What is left of the last of them.
+    word: u64,
+    ghost within: { begun ≤ W },
+    ghost none_begun: { begun ≡ 0 → word ≡ 0 },
 }
 
 impl<const W: usize> IntoIterator for BitSet<W> {
+    ghost use Rattle.std.specs.Prelude.{◌≡◌};
+    ghost use Rattle.bitset.specs.Numbers.{left_of};
+
     type Item = usize;
 
     type IntoIter = Numbers<W>;
 
-    ghost into_iter_gives = { λ s r. r.left ≡ s };
+    ghost into_iter_gives = { λ s r. left_of r.set r.begun r.word ≡ s };
 
     fn into_iter(self) -> Numbers<W> {
-        Numbers { left: self }
+        Numbers {
+            set: self,
+            begun: 0,
+            word: 0,
+        }
+    }
+}
+
+impl<const W: usize> Numbers<W> {
+    ghost use Rattle.std.specs.Prelude.{◌≢◌};
+    ghost use Rattle.bitset.specs.Numbers.{left_of};
+
+    // What is left of the last word, or else the next that has a number; and how many words are begun with it.
+    fn current(&self) -> Option<(usize, u64)>
+        ensures begun { IfSome result (λ p. (0 < p.0) × (p.0 ≤ W) × (p.1 ≢ 0) × (p.1 < 2 ^ 64)) }
+        ensures same { IfSome result (λ p. Holds (64 * W) (left_of self.now.set p.0 p.1) (has (left_of self.now.set self.now.begun self.now.word))) }
+        ensures none { IsNone result → any (64 * W) (has (left_of self.now.set self.now.begun self.now.word)) ≡ false }
+    {
+        if self.word != 0 {
+            return Some((self.begun, self.word));
+        }
+        for k in self.begun..W {
+            let word = self.set.words[k];
+            if word != 0 {
+                return Some((k + 1, word));
+            }
+        }
+        None
     }
 }
 
@@ -309,16 +346,18 @@ impl<const W: usize> Iterator for Numbers<W> {
     ghost use Rattle.std.specs.Iterator.{at_most};
     ghost use Rattle.finite.specs.Tests.{count};
     ghost use Rattle.bitset.specs.Set.{has, Next};
+    ghost use Rattle.bitset.specs.Numbers.{left_of};
 
     type Item = usize;
 
-    ghost next_gives = { λ s r t. Next (64 * W) s.left r t.left };
+    ghost next_gives = { λ s r t. Next (64 * W) (left_of s.set s.begun s.word) r (left_of t.set t.begun t.word) };
 
-    ghost remaining = { λ s. at_most (count (64 * W) (has s.left)) };
+    ghost remaining = { λ s. at_most (count (64 * W) (has (left_of s.set s.begun s.word))) };
 
     fn next(&mut self) -> Option<usize> {
-        let s = self.left.lowest()?;
-        self.left.remove(s);
-        Some(s)
+        let (begun, word) = self.current()?;
+        self.begun = begun;
+        self.word = word & (word - 1);
+        Some(64 * (begun - 1) + word.trailing_zeros() as usize)
     }
 }

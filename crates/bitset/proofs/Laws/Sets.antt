@@ -82,7 +82,7 @@ has_at ws s f l =
     ∙ ap (λ w. bit w (s % 64)) (sym (word_in ws (s / 64) f (omega arith))))
 
 -- a bit of a word is one of its bytes'
-word_bit : (w k : ℕ) → w < 2 ^ 64 → k < 64 → bit w k ≡ bit (get_or (bytes 8 w) (k / 8) 0) (k % 8)
+pub word_bit : (w k : ℕ) → w < 2 ^ 64 → k < 64 → bit w k ≡ bit (get_or (bytes 8 w) (k / 8) 0) (k % 8)
 word_bit w k h l = ap (λ v. bit v k) (sym (word_of_bytes 8 w h)) ∙ byte_bits 8 (bytes 8 w) k (small_bytes 8 w) l
 
 -- what is done to a word's bytes is done to its bits

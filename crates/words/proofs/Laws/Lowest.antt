@@ -74,3 +74,15 @@ none_lower (suc k) w (suc j) h =
     (equal? (w % 2) 0)
     (λ e. bit-suc w j ∙ none_lower k (w / 2) j (omega (arith, rw e at h)))
     (λ f. let e : w % 2 ≡ 1 = omega arith in absurd (omega (arith, rw e at h)))
+
+-- and it is not in the number without it
+pub lowest_gone : (k w : ℕ) → w < 2 ^ k → w ≢ 0 → bit (bit_and w (w - 1)) (count_trailing_zeros k w) ≡ false
+unfolding count_trailing_zeros
+lowest_gone zero w h n = absurd (n (omega arith))
+lowest_gone (suc k) w h n =
+    either
+    (equal? (w % 2) 0)
+    (λ e. rw (e, even_step w e n) (bit_twice (bit_and (w / 2) (w / 2 - 1)) (count_trailing_zeros k (w / 2)) ∙ lowest_gone k (w / 2) (omega (arith, two-pow-succ k)) (λ z. n (omega arith))))
+    (λ e.
+    let o : w % 2 ≡ 1 = omega arith in
+    rw (o, odd_step w o) (bit_low (w / 2 * 2) 0 (let z : w / 2 * 2 % 2 ≡ 0 = omega arith in z) ∙ ne_same {m = 0} {n = 1} (λ z. omega arith)))
