@@ -1,7 +1,7 @@
 #!/usr/bin/env python3
 """The files that a reader of the entry points' contracts has to believe: their list in docs/ARCHITECTURE.md, with the lines of each.
 
-They are the contracts of the exports, the statements of the demands and of the print (ROOTS), and every definition file that one of these
+They are the contracts of the exports with the answers in numbers, the statements of the demands and of the print (ROOTS), and every definition file that one of these
 cites, directly or through another: all that `use Rattle.CRATE.specs.FILE` reaches, and `use Rattle.CRATE.proofs.FILE`, should one cite what stands among
 the laws. The list there is a table of `| path | lines |`, with the sum in its last row.
 
@@ -34,7 +34,9 @@ def read(path):
 
 
 def cited(path):
-    """The definition files of the repository that a file cites. `declared` is no file: it is what src/ declares, as an enum."""
+    """The definition files of the repository that a file cites, and the other files of a crate's code. `declared` is no file: it is what src/ declares, as an enum."""
+    for name in re.findall(r"(?m)^(?:pub(?:\(crate\))? )?mod (\w+);", read(path)) if path.endswith("lib.rt") else ():
+        yield os.path.join(os.path.dirname(path), f"{name}.rt")
     for crate, folder, rest in re.findall(r"(?m)^(?:pub )?(?:ghost )?use Rattle\.(\w+)\.(specs|proofs)\.([\w.]+)", read(path)):
         parts = rest.rstrip(".").split(".")
         if parts[0] != "declared" and os.path.isdir(f"crates/{crate}"):

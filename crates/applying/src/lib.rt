@@ -31,10 +31,13 @@ pub fn apply(site: &[u8], sheet: &[u8], edition: u32, res: &mut [u8]) -> Result<
     requires { (site_verdict site.now ≡ Accepted) × ((sheet_verdict sheet.now ≡ Accepted) × (length res.old ≡ site_bytes)) }
     ensures { Applies edition site.now sheet.now res.new result }
 {
+    let Some(before) = site.as_array::<SITE_BYTES>() else {
+        unreachable!()
+    };
     let Some(after) = res.as_mut_array::<SITE_BYTES>() else {
         unreachable!()
     };
-    after.copy_from_slice(site);
+    *after = *before;
     let answer = run(after, sheet, edition);
     if answer.is_err() {
         after.fill(0);

@@ -301,13 +301,13 @@ pub struct Numbers<const W: usize> {
 
 impl<const W: usize> IntoIterator for BitSet<W> {
     ghost use Rattle.std.specs.Prelude.{◌≡◌};
-    ghost use Rattle.bitset.specs.Numbers.{left_of};
+    ghost use Rattle.bitset.specs.Numbers.{numbers_left};
 
     type Item = usize;
 
     type IntoIter = Numbers<W>;
 
-    ghost into_iter_gives = { λ s r. left_of r.set r.begun r.word ≡ s };
+    ghost into_iter_gives = { λ s r. numbers_left r.set r.begun r.word ≡ s };
 
     fn into_iter(self) -> Numbers<W> {
         Numbers {
@@ -320,13 +320,13 @@ impl<const W: usize> IntoIterator for BitSet<W> {
 
 impl<const W: usize> Numbers<W> {
     ghost use Rattle.std.specs.Prelude.{◌≢◌};
-    ghost use Rattle.bitset.specs.Numbers.{left_of};
+    ghost use Rattle.bitset.specs.Numbers.{numbers_left};
 
     // What is left of the last word, or else the next that has a number; and how many words are begun with it.
     fn current(&self) -> Option<(usize, u64)>
         ensures begun { IfSome result (λ p. (0 < p.0) × (p.0 ≤ W) × (p.1 ≢ 0) × (p.1 < 2 ^ 64)) }
-        ensures same { IfSome result (λ p. Holds (64 * W) (left_of self.now.set p.0 p.1) (has (left_of self.now.set self.now.begun self.now.word))) }
-        ensures none { IsNone result → any (64 * W) (has (left_of self.now.set self.now.begun self.now.word)) ≡ false }
+        ensures same { IfSome result (λ p. Holds (64 * W) (numbers_left self.now.set p.0 p.1) (has (numbers_left self.now.set self.now.begun self.now.word))) }
+        ensures none { IsNone result → any (64 * W) (has (numbers_left self.now.set self.now.begun self.now.word)) ≡ false }
     {
         if self.word != 0 {
             return Some((self.begun, self.word));
@@ -346,13 +346,13 @@ impl<const W: usize> Iterator for Numbers<W> {
     ghost use Rattle.std.specs.Iterator.{at_most};
     ghost use Rattle.finite.specs.Tests.{count};
     ghost use Rattle.bitset.specs.Set.{has, Next};
-    ghost use Rattle.bitset.specs.Numbers.{left_of};
+    ghost use Rattle.bitset.specs.Numbers.{numbers_left};
 
     type Item = usize;
 
-    ghost next_gives = { λ s r t. Next (64 * W) (left_of s.set s.begun s.word) r (left_of t.set t.begun t.word) };
+    ghost next_gives = { λ s r t. Next (64 * W) (numbers_left s.set s.begun s.word) r (numbers_left t.set t.begun t.word) };
 
-    ghost remaining = { λ s. at_most (count (64 * W) (has (left_of s.set s.begun s.word))) };
+    ghost remaining = { λ s. at_most (count (64 * W) (has (numbers_left s.set s.begun s.word))) };
 
     fn next(&mut self) -> Option<usize> {
         let (begun, word) = self.current()?;

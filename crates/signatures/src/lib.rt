@@ -16,6 +16,8 @@ pub struct Members {
     pub numbers: [u8; SET_SLOTS],
     own: SlotSet,
     classes: Rows,
+    // How many classes have slots that do not have their own number. It decides how these are looked at, and nothing rests on it.
+    shared: u32,
     ghost has_own: { Is own (owns numbers) },
     ghost has_classes: { RowsOf (λ c t. same (get_or numbers t 0) c) classes },
 }
@@ -44,25 +46,45 @@ fn classes_of(numbers: &[u8; SET_SLOTS]) -> Rows
     classes
 }
 
+// The classes that the slots of a set are in, slot by slot.
+fn classes_in(numbers: &[u8; SET_SLOTS], set: SlotSet) -> SlotSet
+    ensures { Is result (sees set numbers.now) }
+{
+    let mut seen = SlotSet::empty();
+    for t in set {
+        seen.insert(usize::from(numbers[t]));
+    }
+    seen
+}
+
+// To take out all slots of a class takes as long as so many slots that are looked at one by one.
+const SLOTS_A_CLASS: u32 = 3;
+
 impl Members {
     pub fn new(numbers: [u8; SET_SLOTS]) -> Members
         ensures { result.numbers ≡ numbers }
     {
         let own = own_slots(&numbers);
         let classes = classes_of(&numbers);
+        let shared = classes_in(&numbers, !own).len();
         Members {
             numbers,
             own,
             classes,
+            shared,
         }
     }
 
-    // The classes that the slots of a row are in. A slot that has its own number stands for its class; of the others, those of a class are taken at once.
+    // The classes that the slots of a row are in. A slot that has its own number stands for its class; the others are looked at one by one where they
+    // are few for the classes that they can be in, and else those of a class are taken at once.
     fn seen(&self, row: SlotSet) -> SlotSet
         ensures { Is result (sees row self.now.numbers) }
     {
         let mut seen = row & self.own;
         let mut others = row - self.own;
+        if others.len() / SLOTS_A_CLASS < self.shared {
+            return seen | classes_in(&self.numbers, others);
+        }
         while let Some(t) = others.lowest() {
             let class = usize::from(self.numbers[t]);
             seen.insert(class);

@@ -15,7 +15,7 @@ use Rattle.words.specs.Word.{word, bytes}
 use Rattle.words.proofs.Laws.Library.{length_bytes}
 use Rattle.words.proofs.Laws.Lowest.{lowest, none_lower, lowest_gone}
 use Rattle.bitset.specs.Set.{has, Holds, Next}
-use Rattle.bitset.specs.Numbers.{left_of}
+use Rattle.bitset.specs.Numbers.{numbers_left}
 use Rattle.bitset.proofs.Laws.Words.{has_word}
 use Rattle.bitset.proofs.Laws.Sets.{word_bit}
 
@@ -28,16 +28,16 @@ module _ (S : List ℕ) where
     abbrev rest : List ℕ
     rest = drop (8 * suc k) S
 
-    none_before : (s : ℕ) → s < 64 * k → has (left_of S (suc k) w) s ≡ false
-    unfolding has left_of
+    none_before : (s : ℕ) → s < 64 * k → has (numbers_left S (suc k) w) s ≡ false
+    unfolding has numbers_left
     none_before s h =
         ap (λ x. bit x (s % 8))
         (get_or_append_left zeros (bytes 8 w ++ rest) 0 (s / 8) (omega (arith, length-replicate {A = ℕ} (8 * k) 0))
         ∙ get_or-replicate (8 * k) (s / 8) 0 0 (omega arith))
         ∙ bit-zero (s % 8)
 
-    of_last : w < 2 ^ 64 → (j : ℕ) → j < 64 → has (left_of S (suc k) w) (64 * k + j) ≡ bit w j
-    unfolding has left_of
+    of_last : w < 2 ^ 64 → (j : ℕ) → j < 64 → has (numbers_left S (suc k) w) (64 * k + j) ≡ bit w j
+    unfolding has numbers_left
     of_last small j h =
         ap (λ x. bit x ((64 * k + j) % 8))
         (get_or-append_right zeros (bytes 8 w ++ rest) (8 * k) ((64 * k + j) / 8) 0 (length-replicate (8 * k) 0) (omega arith)
@@ -45,8 +45,8 @@ module _ (S : List ℕ) where
         ∙ ap₂ (λ i m. bit (get_or (bytes 8 w) i 0) m) (let e : (64 * k + j) / 8 - 8 * k ≡ j / 8 = omega arith in e) (let e : (64 * k + j) % 8 ≡ j % 8 = omega arith in e)
         ∙ sym (word_bit w j small h)
 
-    as_before : (s : ℕ) → 64 * suc k ≤ s → has (left_of S (suc k) w) s ≡ has S s
-    unfolding has left_of
+    as_before : (s : ℕ) → 64 * suc k ≤ s → has (numbers_left S (suc k) w) s ≡ has S s
+    unfolding has numbers_left
     as_before s h =
         ap (λ x. bit x (s % 8))
         (get_or-append_right zeros (bytes 8 w ++ rest) (8 * k) (s / 8) 0 (length-replicate (8 * k) 0) (omega arith)
@@ -55,7 +55,7 @@ module _ (S : List ℕ) where
         ∙ ap (λ j. get_or S j 0) (let e : 8 * suc k + (s / 8 - 8 * k - 8) ≡ s / 8 = omega arith in e))
 
   -- of the words that were begun nothing is left
-  none_begun : (b s : ℕ) → s < 64 * b → has (left_of S b 0) s ≡ false
+  none_begun : (b s : ℕ) → s < 64 * b → has (numbers_left S b 0) s ≡ false
   none_begun zero s h = absurd (omega arith)
   none_begun (suc k) s h =
       either
@@ -63,21 +63,21 @@ module _ (S : List ℕ) where
       (λ q. none_before k 0 s (below_out s (64 * k) q))
       (λ q.
       let m = not-below s (64 * k) q in
-      subst (λ t. has (left_of S (suc k) 0) t ≡ false) (let e : 64 * k + (s - 64 * k) ≡ s = omega arith in e)
+      subst (λ t. has (numbers_left S (suc k) 0) t ≡ false) (let e : 64 * k + (s - 64 * k) ≡ s = omega arith in e)
       (of_last k 0 (omega arith) (s - 64 * k) (omega arith) ∙ bit-zero (s - 64 * k)))
 
-  not_begun : (b w s : ℕ) → 64 * b ≤ s → has (left_of S b w) s ≡ has S s
-  unfolding left_of
+  not_begun : (b w s : ℕ) → 64 * b ≤ s → has (numbers_left S b w) s ≡ has S s
+  unfolding numbers_left
   not_begun zero w s h = refl
   not_begun (suc k) w s h = as_before k w s h
 
-  pub none_left : (n : ℕ) → any (64 * n) (has (left_of S n 0)) ≡ false
-  none_left n = none_any (64 * n) (has (left_of S n 0)) (λ s h. none_begun n s h)
+  pub none_left : (n : ℕ) → any (64 * n) (has (numbers_left S n 0)) ≡ false
+  none_left n = none_any (64 * n) (has (numbers_left S n 0)) (λ s h. none_begun n s h)
 
   -- one word more is begun
-  pub begun_more : (n k w : ℕ) → Bytes S → w < 2 ^ 64 → w ≡ word 8 (drop (8 * k) S) → Holds (64 * n) (left_of S (k + 1) w) (has (left_of S k 0))
+  pub begun_more : (n k w : ℕ) → Bytes S → w < 2 ^ 64 → w ≡ word 8 (drop (8 * k) S) → Holds (64 * n) (numbers_left S (k + 1) w) (has (numbers_left S k 0))
   begun_more n k w small fits e s h =
-      subst (λ b. has (left_of S b w) s ≡ has (left_of S k 0) s) (let q : suc k ≡ k + 1 = omega arith in q)
+      subst (λ b. has (numbers_left S b w) s ≡ has (numbers_left S k 0) s) (let q : suc k ≡ k + 1 = omega arith in q)
       (either
       (look (below s (64 * k)))
       (λ q. let l = below_out s (64 * k) q in none_before k w s l ∙ sym (none_begun k s l))
@@ -87,7 +87,7 @@ module _ (S : List ℕ) where
       (look (below s (64 * suc k)))
       (λ p.
       let m = below_out s (64 * suc k) p in
-      subst (λ t. has (left_of S (suc k) w) t ≡ has (left_of S k 0) t) (let r : 64 * k + (s - 64 * k) ≡ s = omega arith in r)
+      subst (λ t. has (numbers_left S (suc k) w) t ≡ has (numbers_left S k 0) t) (let r : 64 * k + (s - 64 * k) ≡ s = omega arith in r)
       (of_last k w fits (s - 64 * k) (omega arith)
       ∙ ap (λ v. bit v (s - 64 * k)) e
       ∙ sym (has_word S (8 * k) (s - 64 * k) small (omega arith))
@@ -97,25 +97,25 @@ module _ (S : List ℕ) where
 
   -- the lowest number of the last word is taken
   pub number_taken : (n b w s : ℕ) → 0 < b → b ≤ n → w ≢ 0 → w < 2 ^ 64 → s ≡ 64 * (b - 1) + count_trailing_zeros 64 w
-      → Next (64 * n) (left_of S b w) (Some s) (left_of S b (bit_and w (w - 1)))
+      → Next (64 * n) (numbers_left S b w) (Some s) (numbers_left S b (bit_and w (w - 1)))
   number_taken n zero w s p i some fits e = absurd (omega arith)
   number_taken n (suc k) w s p i some fits e =
       let t = count_trailing_zeros 64 w in
       let low = lowest 64 w fits some in
       let at : s ≡ 64 * k + t = omega arith in
-      let none : any (64 * k + t) (has (left_of S (suc k) w)) ≡ false
-      = none_any (64 * k + t) (has (left_of S (suc k) w)) (λ r h. either
+      let none : any (64 * k + t) (has (numbers_left S (suc k) w)) ≡ false
+      = none_any (64 * k + t) (has (numbers_left S (suc k) w)) (λ r h. either
       (look (below r (64 * k)))
       (λ q. none_before k w r (below_out r (64 * k) q))
       (λ q.
       let l = not-below r (64 * k) q in
-      subst (λ x. has (left_of S (suc k) w) x ≡ false) (let m : 64 * k + (r - 64 * k) ≡ r = omega arith in m)
+      subst (λ x. has (numbers_left S (suc k) w) x ≡ false) (let m : 64 * k + (r - 64 * k) ≡ r = omega arith in m)
       (of_last k w fits (r - 64 * k) (omega (arith, low.0)) ∙ none_lower 64 w (r - 64 * k) (omega arith)))) in
-      let there : has (left_of S (suc k) w) (64 * k + t) ≡ true
+      let there : has (numbers_left S (suc k) w) (64 * k + t) ≡ true
       = of_last k w fits t low.0 ∙ low.1 t ∙ rw (same_refl t) refl in
       rw at (
         omega (arith, low.0),
-        sym (first_is (64 * n) (has (left_of S (suc k) w)) (64 * k + t) (omega (arith, low.0)) none there),
+        sym (first_is (64 * n) (has (numbers_left S (suc k) w)) (64 * k + t) (omega (arith, low.0)) none there),
         λ r h. either
             (look (below r (64 * k)))
             (λ q.
@@ -127,14 +127,14 @@ module _ (S : List ℕ) where
             (look (below r (64 * suc k)))
             (λ p.
             let m = below_out r (64 * suc k) p in
-            subst (λ x. has (left_of S (suc k) (bit_and w (w - 1))) x ≡ (has (left_of S (suc k) w) x && not (same x (64 * k + t))))
+            subst (λ x. has (numbers_left S (suc k) (bit_and w (w - 1))) x ≡ (has (numbers_left S (suc k) w) x && not (same x (64 * k + t))))
             (let y : 64 * k + (r - 64 * k) ≡ r = omega arith in y)
             (of_last k (bit_and w (w - 1)) (and_lt 64 w (w - 1) fits (omega arith)) (r - 64 * k) (omega arith)
             ∙ without_lowest (r - 64 * k)
             ∙ ap₂ (λ a b. a && not b) (sym (of_last k w fits (r - 64 * k) (omega arith))) (same_shifted (64 * k) (r - 64 * k) t)))
             (λ p.
             let m = not-below r (64 * suc k) p in
-            as_before k (bit_and w (w - 1)) r m ∙ sym (rw (ne_same {m = r} {n = 64 * k + t} (λ e. omega (arith, low.0)), and-true (has (left_of S (suc k) w) r)) (as_before k w r m)))),
+            as_before k (bit_and w (w - 1)) r m ∙ sym (rw (ne_same {m = r} {n = 64 * k + t} (λ e. omega (arith, low.0)), and-true (has (numbers_left S (suc k) w) r)) (as_before k w r m)))),
       )
     where
       without_lowest : (j : ℕ) → bit (bit_and w (w - 1)) j ≡ (bit w j && not (same j (count_trailing_zeros 64 w)))

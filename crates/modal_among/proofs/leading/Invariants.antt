@@ -6,8 +6,8 @@ use Rattle.limits.specs.Limits.{slots}
 use Rattle.site.specs.Site.{site_of}
 use Rattle.site.specs.Ways.{link_number}
 use Rattle.modal_among.proofs.Laws.Gather.{Passed}
-use Rattle.bitset.specs.Numbers.{left_of}
+use Rattle.bitset.specs.Numbers.{numbers_left}
 use Rattle.modal_among.proofs.leading.Given as goal
 
 abbrev pub invariant-loop-s : goal.invariant-loop-s
-invariant-loop-s l = Passed (λ k. any slots (λ t. (site_of l.site).link (link_number l.link) k t && has l.set t)) l.pool (left_of l.s-iterator.set l.s-iterator.begun l.s-iterator.word) l.found
+invariant-loop-s l = Passed (λ k. any slots (λ t. (site_of l.site).link (link_number l.link) k t && has l.set t)) l.pool (numbers_left l.s-iterator.set l.s-iterator.begun l.s-iterator.word) l.found

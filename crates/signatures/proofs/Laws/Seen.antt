@@ -1,15 +1,15 @@
 -- The slots that have their own number, and the classes that a row sees, class by class.
-use Rattle.std.specs.Prelude.{◌≡◌, Bool, true, false, not, ◌&&◌, ◌||◌, List, ℕ, ◌+◌, ◌≤◌, ◌<◌, length, get_or}
+use Rattle.std.specs.Prelude.{◌≡◌, refl, Bool, true, false, not, ◌&&◌, ◌||◌, List, ℕ, ◌+◌, ◌≤◌, ◌<◌, length, get_or, Some}
 use Rattle.std.proofs.Common.{◌∙◌, sym, ap, subst, arith}
 use Rattle.std.proofs.Math.Bool.{or-false, and-false}
 use Rattle.finite.specs.Tests.{same, below, any, count, first}
 use Rattle.finite.proofs.Laws.Bools.{either, look, no_true, and_in, and_l, and_r, or_l, or_r, or_out, both}
-use Rattle.finite.proofs.Laws.Below.{equal?, same_eq, same_refl, eq_same, below_in, below_out, any_in, any_out, any_none, none_any}
+use Rattle.finite.proofs.Laws.Below.{equal?, same_eq, same_refl, eq_same, ne_same, below_in, below_out, any_in, any_out, any_none, none_any}
 use Rattle.finite.proofs.Laws.First.{first_in, first-none}
 use Rattle.finite.proofs.Laws.Count.{count_more}
-use Rattle.bitset.specs.Set.{set_slots, has, Is}
+use Rattle.bitset.specs.Set.{set_slots, has, Is, Next}
 use Rattle.partition.specs.Rows.{sees, RowsOf}
-use Rattle.partition.proofs.Laws.Gains.{row_at}
+use Rattle.partition.proofs.Laws.Gains.{row_at, lowest_in}
 use Rattle.signatures.specs.Members.{owns}
 
 -- ---- slots with their own number
@@ -112,6 +112,44 @@ module _ (p A L G : List ℕ) (R : List (List ℕ)) (x v : ℕ) (d L' : List ℕ
   sees_fewer =
       let gone : has L' x ≡ false = l x h ∙ rw (class x h, same_refl (get_or p x 0)) (and-false (has L x)) in
       count_more set_slots (has L') (has L) (λ t i o. and_l _ _ (sym (l t i) ∙ o)) x h gone there
+
+-- of no slot that is put in yet all are to come
+pub sees_all : (p A L G : List ℕ) → Is G (λ c. false) → L ≡ A → Sees p A L G
+unfolding Sees
+sees_all p A L G n e c h = rw (n c h, e) refl
+
+-- one slot x of L is taken out, and its class v is put in
+pub sees_slot : (p A L G : List ℕ) (x v : ℕ) (L' G' : List ℕ) → Next set_slots L (Some x) L' → v ≡ get_or p x 0 → Is G' (λ c. has G c || same c v) → Sees p A L G → Sees p A L' G'
+unfolding Sees sees
+sees_slot p A L G x v L' G' f q g n c i = both
+    (λ o. either
+    (or_out (has G' c) _ o)
+    (λ a. either
+    (or_out (has G c) _ (sym (g c i) ∙ a))
+    (λ b. or_l _ _ b)
+    (λ b. or_r (has G c) _ (any_in set_slots _ x f.0 (and_in there (eq_same (sym (same_eq b ∙ q)))))))
+    (λ a.
+    let t = any_out set_slots _ a in
+    or_r (has G c) _ (any_in set_slots _ t.0 t.1 (and_in (and_l _ _ (sym (f.2 t.0 t.1) ∙ and_l _ _ t.2)) (and_r (has L' t.0) _ t.2)))))
+    (λ o. either
+    (or_out (has G c) _ o)
+    (λ a. or_l _ _ (g c i ∙ or_l _ _ a))
+    (λ a.
+    let t = any_out set_slots _ a in
+    let b : get_or p t.0 0 ≡ c = same_eq (and_r (has L t.0) _ t.2) in
+    either
+    (equal? t.0 x)
+    (λ y. or_l _ _ (g c i ∙ or_r (has G c) _ (eq_same (sym b ∙ ap (λ k. get_or p k 0) y ∙ sym q))))
+    (λ y. or_r (has G' c) _ (any_in set_slots _ t.0 t.1 (and_in (f.2 t.0 t.1 ∙ and_in (and_l _ _ t.2) (ap not (ne_same y))) (and_r (has L t.0) _ t.2))))))
+    ∙ n c i
+  where
+    there : has L x ≡ true
+    there = lowest_in x L f.0 f.1
+
+-- the classes C that the slots of L are in, with those of G
+pub sees_both : (p A L G C V : List ℕ) → Is C (sees L p) → Is V (λ c. has G c || has C c) → Sees p A L G → Is V (sees A p)
+unfolding Sees
+sees_both p A L G C V e u n c h = u c h ∙ ap (λ (z : Bool). has G c || z) (e c h) ∙ n c h
 
 pub sees_done : (p A L G : List ℕ) → any set_slots (has L) ≡ false → Sees p A L G → Is G (sees A p)
 unfolding Sees sees

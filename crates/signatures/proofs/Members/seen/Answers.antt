@@ -1,6 +1,6 @@
 -- The classes that the others see are to come.
 use Rattle.std.proofs.Common.{refl, arith}
-use Rattle.signatures.proofs.Laws.Seen.{sees_start, sees_more, sees_fewer, sees_done}
+use Rattle.signatures.proofs.Laws.Seen.{sees_start, sees_more, sees_fewer, sees_both, sees_done}
 use Rattle.signatures.proofs.Members.seen.Goals as goal
 
 pub loop-t-init : goal.loop-t-init
@@ -14,3 +14,8 @@ loop-t-preserved c = sees_more c.args.self.now.numbers c.args.row c.loop-t.other
 
 pub returns : goal.returns
 returns c = sees_done c.args.self.now.numbers c.args.row c.loop-t.others _ (c.in_default.ensures.none refl) c.loop-t.invariant
+
+pub returns-then-len-self : goal.returns-then-len-self
+returns-then-len-self c =
+    sees_both c.args.self.now.numbers c.args.row _ _ _ _ c.classes_in.ensures c.bitor.ensures
+    (sees_start c.args.self.now.numbers c.args.row c.args.self.now.own _ _ c.args.self.now.has_own c.bitand-seen.ensures c.sub-others.ensures)
