@@ -230,7 +230,8 @@ fn evaluate(
     ensures work_after { work.new ≡ replicate work_bytes 0 }
 {
     let nodes = table.len() / NODE_BYTES;
-    let mut memo = Memo::new(&free[..nodes]);
+    let mut memo = Memo::empty();
+    memo.start(&free[..nodes]);
     let top = nodes - 1;
     let question = Question { site, table };
     let made = compute(&question, &mut memo, work, top, limit);

@@ -29,13 +29,12 @@ impl Memo {
         ensures { Started masks.now result (length masks.now) }
     {
         let mut memo = Memo::empty();
-        for (j, &mask) in masks.iter().enumerate() {
-            memo.note(j, mask);
-        }
+        memo.start(masks);
         memo
     }
 
-    fn empty() -> Memo
+    // The memo of no node.
+    pub fn empty() -> Memo
         ensures { (masks : List ℕ) → Started masks result 0 }
     {
         let no_nodes = NodeSet::empty();
@@ -44,6 +43,17 @@ impl Memo {
             known: no_nodes,
             rounds: [0; TABLE_NODES],
             free_in: [no_nodes; VARIABLES],
+        }
+    }
+
+    // A memo of no node is made that of nodes with these masks, where it stands: one that is handed on is copied, which costs time and stack.
+    pub fn start(&mut self, masks: &[u16])
+        requires few { length masks.now ≤ table_nodes }
+        requires none { Started masks.now self.old 0 }
+        ensures { Started masks.now self.new (length masks.now) }
+    {
+        for (j, &mask) in masks.iter().enumerate() {
+            self.note(j, mask);
         }
     }
 

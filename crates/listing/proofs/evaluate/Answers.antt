@@ -9,8 +9,8 @@ use Rattle.listing_memo.specs.Memo.{valuation}
 use Rattle.site.specs.Site.{site_of}
 use Rattle.listing.proofs.evaluate.Goals as goal
 
-pub slice_bounds-new-end : goal.slice_bounds-new-end
-slice_bounds-new-end c = let s = accepted_sound c.args.table.now c.requires.table_value in
+pub slice_bounds-start-end : goal.slice_bounds-start-end
+slice_bounds-start-end c = let s = accepted_sound c.args.table.now c.requires.table_value in
     omega (arith, length-take-le (length c.args.table.now / 6) c.args.free.now (omega (arith, s.few, c.requires.free_len.0)))
 
 pub overflow_sub-top : goal.overflow_sub-top
@@ -25,7 +25,7 @@ pub compute-made-requires-clause-evaluable : goal.compute-made-requires-clause-e
 compute-made-requires-clause-evaluable c = let s = accepted_sound c.args.table.now c.requires.table_value in
     let n : ℕ = length c.args.table.now / 6 in
     let l : length (take n c.args.free.now) ≡ n = length-take-le n c.args.free.now (omega (arith, s.few, c.requires.free_len.0)) in
-    none-known s c.requires.free_len.1 (rw l at c.new-memo.ensures) refl c.requires.set_len.1 c.requires.usual
+    none-known s c.requires.free_len.1 (rw l at c.start.ensures) refl c.requires.set_len.1 c.requires.usual
 
 pub compute-made-requires-clause-i_in_bounds : goal.compute-made-requires-clause-i_in_bounds
 compute-made-requires-clause-i_in_bounds c = let s = accepted_sound c.args.table.now c.requires.table_value in
@@ -38,7 +38,7 @@ load-last-requires c = let s = accepted_sound c.args.table.now c.requires.table_
 pub returns-in_err-rounds-clause-answered : goal.returns-in_err-rounds-clause-answered
 returns-in_err-rounds-clause-answered c = let s = accepted_sound c.args.table.now c.requires.table_value in
     record {
-      made = node_rounds c.args.site.now c.args.table.now (valuation c.new-memo.result) (length c.args.table.now / 6 - 1);
+      made = node_rounds c.args.site.now c.args.table.now (valuation c.start.new.self) (length c.args.table.now / 6 - 1);
       makes = answer_rounds s refl (site_of c.args.site.now) _;
       answer = rw (err_from_is_err_and c.from_residual.result c.from_residual.ensures.1).1 c.in_err-rounds.ensures.answer;
       size = c.requires.set_len.0;
