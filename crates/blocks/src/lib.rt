@@ -1,8 +1,7 @@
 // Blocks by their spellings: how many nodes one has, and its nodes written into a table. docs/SPEC.md, "Rewriting".
 #![tactic(auto)]
 
-ghost use Rattle.std.specs.Prelude.{◌≡◌, ◌+◌, ◌*◌, ◌≤◌, ◌<◌, length, None};
-ghost use Rattle.limits.specs.Limits.{kinds};
+ghost use Rattle.std.specs.Prelude.{◌≡◌, ◌+◌, ◌*◌, ◌≤◌, ◌<◌, length};
 ghost use Rattle.semantics.specs.Block.{size, emit};
 ghost use Rattle.spelling.specs.Spelling.{row_spelled, spelled, Sized};
 ghost use Rattle.blocks.specs.Write.{puts};
@@ -45,7 +44,6 @@ fn write_row(out: &mut [u8], at: usize, spelling: Spelling, own: u8, image: u16)
 // Writes the block of a node from number `at` on; the children of the node are their images already.
 pub fn write(out: &mut [u8], at: usize, spelling: Option<Spelling>, node: Node)
     requires numbers { at < 60000 }
-    requires known { spelling ≡ None → node.kind < kinds }
     requires room { 6 * (at + size (spelled spelling node.kind node.param node.left node.right)) ≤ length out.old }
     ensures { out.new ≡ puts out.old at 0 (emit (spelled spelling node.kind node.param node.left node.right) at) }
 {

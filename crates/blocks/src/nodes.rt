@@ -1,7 +1,7 @@
 // A node with its fields, and its bytes in a table.
 
 ghost use Rattle.std.specs.Prelude.{◌≡◌, ◌+◌, ◌*◌, ◌≤◌, ◌<◌, length, ℕ, [], ◌∷◌, ◌&&◌, nat_le, nat_lt, if◌then◌else◌};
-ghost use Rattle.limits.specs.Limits.{kinds, not_no, dia_no};
+ghost use Rattle.limits.specs.Limits.{not_no, dia_no};
 ghost use Rattle.semantics.specs.Table.{kind_of, node};
 ghost use Rattle.semantics.specs.Block.{old, emit};
 ghost use Rattle.condition.specs.Bytes.{node_bytes};
@@ -56,12 +56,13 @@ impl Node {
         }
     }
 
-    // The copy of a node: the same, with 0 in the fields that its kind does not use. The children are their images already.
+    // The copy of a node: the same, with 0 in the fields that its kind does not use. A kind above the last is read as the last. The children are
+    // their images already.
     pub fn copied(self) -> Node
-        ensures { self.kind < kinds → (at : ℕ) → emit (copied (kind_of self.kind) self.param (old self.left) (old self.right)) at ≡ meant result ∷ [] }
+        ensures { (at : ℕ) → emit (copied (kind_of self.kind) self.param (old self.left) (old self.right)) at ≡ meant result ∷ [] }
     {
         Node {
-            kind: self.kind,
+            kind: self.kind.min(SLOT),
             param: own_number(self.kind, self.param),
             left: used(self.kind, NOT, SLOT, self.left),
             right: used(self.kind, OR, DIA, self.right),

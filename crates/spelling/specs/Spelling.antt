@@ -1,10 +1,10 @@
 -- What a spelling spells, and which one the block of a node has.
-use Rattle.std.specs.Prelude.{◌≡◌, Option, None, Some, cond, if◌then◌else◌, ◌==◌, ℕ, ◌+◌, ◌%◌, ◌≤◌}
+use Rattle.std.specs.Prelude.{◌≡◌, Option, None, Some, IfSome, cond, if◌then◌else◌, ◌==◌, ℕ, ◌+◌, ◌%◌, ◌≤◌}
 use Rattle.finite.specs.Tests.{same}
 use Rattle.limits.specs.Limits.{links, every_way, dia_no, box_no}
 use Rattle.semantics.specs.Form.{Way, along, against, every}
-use Rattle.semantics.specs.Edit.{Edit}
-use Rattle.semantics.specs.Table.{kind_of}
+use Rattle.semantics.specs.Edit.{Edit, CN1, CN2, AP, DP, AT, RT, DT1, DT2, AS, DS}
+use Rattle.semantics.specs.Table.{kind_of, way_of}
 use Rattle.semantics.specs.Block.{Block, old, size, block}
 use Rattle.spelling.specs.declared.Row.{Row}
 use Rattle.spelling.specs.declared.Modal.{Modal}
@@ -32,9 +32,41 @@ by_row r a b = record { row = r; first = a; second = b }
 abbrev pub modal_spelling : Modal → (kind : ℕ) → Option Spelling
 modal_spelling m k = if k == dia_no then Some (by_row m.0 m.2 m.3) else (if k == box_no then Some (by_row m.1 m.2 m.3) else None)
 
--- s spells the block of a node with this kind and parameter
+-- the two numbers of an edit's rows, 0 where there is no second
+abbrev pub first_of : Edit → ℕ
+first_of (CN1 n1 n2) = n2
+first_of (CN2 n1 n2 f) = n2
+first_of (AP n q) = n
+first_of (DP n q) = n
+first_of (AT m n1 n2) = n1
+first_of (RT f n1 n2) = n1
+first_of (DT1 m n1 n2) = n1
+first_of (DT2 f n) = n
+first_of (AS n k) = k
+first_of (DS n) = n
+
+abbrev pub second_of : Edit → ℕ
+second_of (CN1 n1 n2) = 0
+second_of (CN2 n1 n2 f) = f
+second_of (AP n q) = 0
+second_of (DP n q) = 0
+second_of (AT m n1 n2) = n2
+second_of (RT f n1 n2) = n2
+second_of (DT1 m n1 n2) = n2
+second_of (DT2 f n) = 0
+second_of (AS n k) = 0
+second_of (DS n) = 0
+
+-- s has them, for a node with way w. The rows of AT and DT1 serve their link and its reverse, which has the two exchanged
+abbrev pub HasNumbers : Edit → Way → Spelling → Type 0
+HasNumbers (AT m n1 n2) (against l) s = (s.first ≡ n2) × (s.second ≡ n1)
+HasNumbers (DT1 m n1 n2) (against l) s = (s.first ≡ n2) × (s.second ≡ n1)
+HasNumbers e w s = (s.first ≡ first_of e) × (s.second ≡ second_of e)
+
+-- s spells the block of a node with this kind and parameter; its numbers are those of the edit, also where the row uses none
 pub record Spells (e : Edit) (kind param : ℕ) (s : Option Spelling) : Type 0 where
   pub right : (t u : ℕ) → spelled s kind param t u ≡ block e (kind_of kind) param (old t) (old u)
+  pub numbers : IfSome s (HasNumbers e (way_of param))
 
 -- what is spelled has r nodes
 pub record Sized (s : Option Spelling) (r : ℕ) : Type 0 where

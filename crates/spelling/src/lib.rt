@@ -100,7 +100,6 @@ fn by_way(kind: u8, way: u8, link: u8, along: Modal, against: Modal) -> Option<S
 }
 
 // The spelling for AS.
-#[tactic(auto, using(crate::proofs::Laws::Spelling::as_here, crate::proofs::Laws::Spelling::as_other))]
 fn for_new_slot(kind: u8, param: u8, n: u8, slot: u8) -> Option<Spelling>
     ensures { Spells (AS n slot) kind param result }
 {
@@ -111,7 +110,6 @@ fn for_new_slot(kind: u8, param: u8, n: u8, slot: u8) -> Option<Spelling>
 }
 
 // The spelling for DS.
-#[tactic(auto, using(crate::proofs::Laws::Spelling::ds_here, crate::proofs::Laws::Spelling::ds_label, crate::proofs::Laws::Spelling::ds_name, crate::proofs::Laws::Spelling::ds_diamond, crate::proofs::Laws::Spelling::ds_box, crate::proofs::Laws::Spelling::ds_other))]
 fn for_slot_gone(kind: u8, param: u8, n: u8) -> Option<Spelling>
     ensures { Spells (DS n) kind param result }
 {

@@ -1,13 +1,13 @@
 -- The steps of rows make the nodes of their blocks.
-use Rattle.std.specs.Prelude.{◌≡◌, refl, List, [], ◌∷◌, map, ℕ, zero, suc, ◌+◌, ◌<◌, ◌≤◌, length, take, get_or, Option, None, Some, ◌&&◌, nat_le, nat_lt, if◌then◌else◌}
-use Rattle.std.proofs.Common.{sym, ◌∙◌, ap, ap₂, arith}
+use Rattle.std.specs.Prelude.{◌≡◌, refl, List, [], ◌∷◌, map, ℕ, zero, suc, ◌+◌, ◌<◌, ◌≤◌, min, length, take, get_or, Option, None, Some, ◌&&◌, nat_le, nat_lt, if◌then◌else◌}
+use Rattle.std.proofs.Common.{sym, ◌∙◌, ap, ap₂, arith, le-leb, le-ltb}
 use Rattle.std.proofs.lemmas.List.{length-map}
 use mathlib.Core.List.{map-append}
-use Rattle.limits.specs.Limits.{every_way, kinds, not_no, or_no, dia_no, slot_no}
+use Rattle.limits.specs.Limits.{every_way, not_no, or_no, dia_no, slot_no}
 use Rattle.semantics.specs.Table.{Node, node, kind_no, kind_of, Kind, leaf, unary, binary, k_not, k_dia, k_box, k_mu, k_nu}
 use Rattle.semantics.specs.Block.{Block, old, end, on, join, root, size, emit}
 use Rattle.semantics.proofs.Laws.Emit.{emit-length}
-use Rattle.condition.proofs.Laws.Limits.{each_kind}
+use Rattle.condition.proofs.Laws.Limits.{each_kind, kind_past}
 use Rattle.spelling.specs.declared.Row.{Row}
 use Rattle.spelling.specs.declared.Row.TheVariants.{Cn1Name, AsName, Cn2Name, ApLabel, DpLabel, AsHere, DsHere, DsName, AtDiamond, AtBox, Dt1Diamond, Dt1Box, Dt2Diamond, Dt2Box, Dt2DiamondBack, Dt2BoxBack, DsDiamond, DsBox, RtDiamond, RtBox, RtDiamondBack, RtBoxBack}
 use Rattle.spelling.specs.declared.Spelling.{Spelling}
@@ -168,16 +168,15 @@ coded_few RtBoxBack = (omega arith, omega arith)
 
 -- ---- what is spelled
 
--- a copy is one node, with 0 in the fields that its kind does not use
-pub copied_node : (k p t u at : ℕ) → k < kinds
-    → emit (copied (kind_of k) p (old t) (old u)) at
-    ≡ node k (if nat_le not_no k && nat_lt k dia_no then 0 else p) (if nat_le not_no k && nat_lt k slot_no then t else 0) (if nat_le or_no k && nat_lt k dia_no then u else 0) ∷ []
+-- a copy is one node, with 0 in the fields that its kind does not use; a kind above the last is read as the last
+pub copied_node : (k p t u at : ℕ) → emit (copied (kind_of k) p (old t) (old u)) at
+    ≡ node (min k slot_no) (if nat_le not_no k && nat_lt k dia_no then 0 else p) (if nat_le not_no k && nat_lt k slot_no then t else 0) (if nat_le or_no k && nat_lt k dia_no then u else 0) ∷ []
 unfolding copied emit root kind_of kind_no
 copied_node k p t u at =
-    each_kind (λ k. k < kinds → emit (copied (kind_of k) p (old t) (old u)) at
-    ≡ node k (if nat_le not_no k && nat_lt k dia_no then 0 else p) (if nat_le not_no k && nat_lt k slot_no then t else 0) (if nat_le or_no k && nat_lt k dia_no then u else 0) ∷ [])
-    (λ h. refl) (λ h. refl) (λ h. refl) (λ h. refl) (λ h. refl) (λ h. refl) (λ h. refl) (λ h. refl) (λ h. refl) (λ h. refl) (λ h. refl) (λ h. refl)
-    (λ k g h. let e : k ≡ 12 = omega arith in rw e refl) k
+    each_kind (λ k. emit (copied (kind_of k) p (old t) (old u)) at
+    ≡ node (min k slot_no) (if nat_le not_no k && nat_lt k dia_no then 0 else p) (if nat_le not_no k && nat_lt k slot_no then t else 0) (if nat_le or_no k && nat_lt k dia_no then u else 0) ∷ [])
+    refl refl refl refl refl refl refl refl refl refl refl refl
+    (λ k h. let e : min k 12 ≡ 12 = omega arith in rw (kind_past k h, e, le-leb not_no k (omega arith), le-leb or_no k (omega arith), le-ltb k dia_no (omega arith), le-ltb k slot_no h) refl) k
 
 copied-size : (K : Kind) (w t u : ℕ) → size (copied K w (old t) (old u)) ≡ 1
 unfolding copied size

@@ -17,7 +17,7 @@ write_row-requires-clause-room c =
 pub returns-in-None : goal.returns-in-None
 returns-in-None c =
     c.put_node.ensures
-    ∙ puts_single c.args.out.now c.args.at _ (c.copied.ensures (c.requires.known c.in-None.is) c.args.at)
+    ∙ puts_single c.args.out.now c.args.at _ (c.copied.ensures c.args.at)
     ∙ ap (λ (B : Block). puts c.args.out.now c.args.at 0 (emit B c.args.at)) (sym (spelled-none c.args.node.kind c.args.node.param c.args.node.left c.args.node.right c.in-None.is))
 
 pub returns-in-Some : goal.returns-in-Some

@@ -1,5 +1,5 @@
 -- The spelling that is chosen for a node spells the block of the node.
-use Rattle.std.specs.Prelude.{◌≡◌, ◌≢◌, Bool, true, false, not, ◌&&◌, nat_eq, nat_lt, Option, None, Some, cond, ℕ, ◌+◌, ◌-◌, ◌%◌, ◌≤◌, ◌<◌, refl}
+use Rattle.std.specs.Prelude.{◌≡◌, ◌≢◌, Bool, true, false, not, ◌&&◌, nat_eq, nat_lt, Option, None, Some, IfSome, cond, ℕ, ◌+◌, ◌-◌, ◌%◌, ◌≤◌, ◌<◌, refl}
 use Rattle.std.proofs.Common.{◌∙◌, ap, arith}
 use Rattle.std.specs.Bool.{then_some}
 use Rattle.finite.specs.Tests.{same, below}
@@ -20,7 +20,7 @@ use Rattle.spelling.specs.declared.Row.TheVariants.{Cn1Name, AsName, Cn2Name, Ap
 use Rattle.spelling.specs.declared.Spelling.{Spelling}
 use Rattle.spelling.specs.Rows.{copied, row_block}
 use Rattle.spelling.specs.declared.Modal.{Modal}
-use Rattle.spelling.specs.Spelling.{by_row, modal_spelling, row_spelled, spelled, Spells, on_way}
+use Rattle.spelling.specs.Spelling.{by_row, modal_spelling, row_spelled, spelled, HasNumbers, Spells, on_way}
 
 -- ---- ways by their numbers, and what an edit does by each
 
@@ -224,6 +224,23 @@ module _ (w t u : ℕ) where
       (λ _ _ _ _ _. refl) (λ _ _ _ _ _. refl) (λ _ _ _ _ _. refl) (λ _ _ _ _ _. refl) (λ _ _ _ q _. absurd (q refl)) (λ _ _ _ _ q. absurd (q refl))
       (λ _ _ _ _ _. refl) (λ _ _ _ _ _. refl) (λ k h _ _ _ _ _. rw (kind_past k h) refl)
 
+-- ---- the numbers of what is spelled
+
+module _ (e : Edit) where
+  numbers_if : (W : Way) (c : Bool) (x : Spelling) → HasNumbers e W x → IfSome (then_some c x) (HasNumbers e W)
+  numbers_if W true x h = h
+  numbers_if W false x h = tt
+
+  numbers_modal : (W : Way) (m : Modal) (k : ℕ) → HasNumbers e W (by_row m.0 m.2 m.3) → HasNumbers e W (by_row m.1 m.2 m.3) → IfSome (modal_spelling m k) (HasNumbers e W)
+  numbers_modal W m k p q = either (look (nat_eq k 8)) (λ c. rw c p) (λ c. rw c (either (look (nat_eq k 9)) (λ d. rw d q) (λ d. rw d tt)))
+
+  numbers_way : (W : Way) (m : ℕ) (x y : Option Spelling) → ((l : ℕ) → IfSome x (HasNumbers e (along l))) → ((l : ℕ) → IfSome y (HasNumbers e (against l)))
+      → IfSome (on_way W m x y None) (HasNumbers e W)
+  unfolding on_way
+  numbers_way (along l) m x y p q = either (look (same l m)) (λ c. rw c (p l)) (λ c. rw c tt)
+  numbers_way (against l) m x y p q = either (look (same l m)) (λ c. rw c (q l)) (λ c. rw c tt)
+  numbers_way every m x y p q = tt
+
 -- ---- as the code has it
 
 -- an edit o has the spelling s
@@ -231,30 +248,50 @@ pub spells_as : {o o' : Op} {k w : ℕ} {s s' : Option Spelling} → o ≡ o' �
 spells_as e es S = rw (e, es) S
 
 pub spells_cn1 : (n1 n2 k w : ℕ) → Spells (CN1 n1 n2) k w (leaf_row k 3 w n1 (by_row Cn1Name n2 0))
-spells_cn1 n1 n2 k w = record { right = λ t u. right_cn1 w t u n1 n2 k }
+spells_cn1 n1 n2 k w = record { right = λ t u. right_cn1 w t u n1 n2 k; numbers = numbers_if (CN1 n1 n2) (way_of w) _ _ (refl, refl) }
 
 pub spells_cn2 : (n1 n2 f k w : ℕ) → legal (CN2 n1 n2 f) ≡ true → Spells (CN2 n1 n2 f) k w (leaf_row k 3 w n1 (by_row Cn2Name n2 f))
 unfolding Legal
 spells_cn2 n1 n2 f k w l =
-    let small = functional_small f (legal_out (CN2 n1 n2 f) l).2 in record { right = λ t u. right_cn2 w t u n1 n2 f k (omega arith) }
+    let small = functional_small f (legal_out (CN2 n1 n2 f) l).2 in record { right = λ t u. right_cn2 w t u n1 n2 f k (omega arith); numbers = numbers_if (CN2 n1 n2 f) (way_of w) _ _ (refl, refl) }
 
 pub spells_ap : (n p k w : ℕ) → Spells (AP n p) k w (leaf_row k 2 w p (by_row ApLabel n 0))
-spells_ap n p k w = record { right = λ t u. right_ap w t u n p k }
+spells_ap n p k w = record { right = λ t u. right_ap w t u n p k; numbers = numbers_if (AP n p) (way_of w) _ _ (refl, refl) }
 
 pub spells_dp : (n p k w : ℕ) → Spells (DP n p) k w (leaf_row k 2 w p (by_row DpLabel n 0))
-spells_dp n p k w = record { right = λ t u. right_dp w t u n p k }
+spells_dp n p k w = record { right = λ t u. right_dp w t u n p k; numbers = numbers_if (DP n p) (way_of w) _ _ (refl, refl) }
 
 pub spells_at : (m a b k w : ℕ) → Spells (AT m a b) k w (on_way (way_of w) m (modal_spelling (modal AtDiamond AtBox a b) k) (modal_spelling (modal AtDiamond AtBox b a) k) None)
-spells_at m a b k w = record { right = λ t u. right_at w t u m a b k }
+spells_at m a b k w = record {
+  right = λ t u. right_at w t u m a b k;
+  numbers =
+      numbers_way (AT m a b) (way_of w) m _ _ (λ l. numbers_modal (AT m a b) (along l) (modal AtDiamond AtBox a b) k (refl, refl) (refl, refl))
+      (λ l. numbers_modal (AT m a b) (against l) (modal AtDiamond AtBox b a) k (refl, refl) (refl, refl));
+}
 
 pub spells_dt1 : (m a b k w : ℕ) → Spells (DT1 m a b) k w (on_way (way_of w) m (modal_spelling (modal Dt1Diamond Dt1Box a b) k) (modal_spelling (modal Dt1Diamond Dt1Box b a) k) None)
-spells_dt1 m a b k w = record { right = λ t u. right_dt1 w t u m a b k }
+spells_dt1 m a b k w = record {
+  right = λ t u. right_dt1 w t u m a b k;
+  numbers =
+      numbers_way (DT1 m a b) (way_of w) m _ _ (λ l. numbers_modal (DT1 m a b) (along l) (modal Dt1Diamond Dt1Box a b) k (refl, refl) (refl, refl))
+      (λ l. numbers_modal (DT1 m a b) (against l) (modal Dt1Diamond Dt1Box b a) k (refl, refl) (refl, refl));
+}
 
 pub spells_dt2 : (f n k w : ℕ) → Spells (DT2 f n) k w (on_way (way_of w) f (modal_spelling (modal Dt2Diamond Dt2Box n 0) k) (modal_spelling (modal Dt2DiamondBack Dt2BoxBack n 0) k) None)
-spells_dt2 f n k w = record { right = λ t u. right_dt2 w t u f n k }
+spells_dt2 f n k w = record {
+  right = λ t u. right_dt2 w t u f n k;
+  numbers =
+      numbers_way (DT2 f n) (way_of w) f _ _ (λ l. numbers_modal (DT2 f n) (along l) (modal Dt2Diamond Dt2Box n 0) k (refl, refl) (refl, refl))
+      (λ l. numbers_modal (DT2 f n) (against l) (modal Dt2DiamondBack Dt2BoxBack n 0) k (refl, refl) (refl, refl));
+}
 
 pub spells_rt : (f a b k w : ℕ) → Spells (RT f a b) k w (on_way (way_of w) f (modal_spelling (modal RtDiamond RtBox a b) k) (modal_spelling (modal RtDiamondBack RtBoxBack a b) k) None)
-spells_rt f a b k w = record { right = λ t u. right_rt w t u f a b k }
+spells_rt f a b k w = record {
+  right = λ t u. right_rt w t u f a b k;
+  numbers =
+      numbers_way (RT f a b) (way_of w) f _ _ (λ l. numbers_modal (RT f a b) (along l) (modal RtDiamond RtBox a b) k (refl, refl) (refl, refl))
+      (λ l. numbers_modal (RT f a b) (against l) (modal RtDiamondBack RtBoxBack a b) k (refl, refl) (refl, refl));
+}
 
 -- the link of an edit
 pub at_link : (m a b : ℕ) → legal (AT m a b) ≡ true → m < links
@@ -275,27 +312,27 @@ rt_link f a b l = functional_small f (and_l _ _ l)
 
 pub as_here : (n s k w : ℕ) (x : Spelling) → k ≡ 1 → x ≡ record { row = AsHere; first = s; second = 0 } → Spells (AS n s) k w (Some x)
 unfolding spelled row_spelled row_block block block_leaf kind_of
-as_here n s k w x e ex = record { right = λ t u. rw (e, ex) refl }
+as_here n s k w x e ex = record { right = λ t u. rw (e, ex) refl; numbers = rw ex (refl, refl) }
 
 pub as_other : (n s k w : ℕ) (c : Bool) (x : Spelling) → k ≢ 1 → c ≡ (nat_eq k 3 && nat_eq w n) → x ≡ record { row = AsName; first = s; second = 0 } → Spells (AS n s) k w (then_some c x)
-as_other n s k w c x h ec ex = record { right = λ t u. rw (ec, ex) (right_as w t u n s k h) }
+as_other n s k w c x h ec ex = record { right = λ t u. rw (ec, ex) (right_as w t u n s k h); numbers = numbers_if (AS n s) (way_of w) c x (rw ex (refl, refl)) }
 
 pub ds_here : (n k w : ℕ) (x : Spelling) → k ≡ 1 → x ≡ record { row = DsHere; first = n; second = 0 } → Spells (DS n) k w (Some x)
 unfolding spelled row_spelled row_block block block_leaf kind_of
-ds_here n k w x e ex = record { right = λ t u. rw (e, ex) refl }
+ds_here n k w x e ex = record { right = λ t u. rw (e, ex) refl; numbers = rw ex (refl, refl) }
 
 pub ds_label : (n k w : ℕ) (x : Spelling) → k ≡ 2 → x ≡ record { row = DpLabel; first = n; second = 0 } → Spells (DS n) k w (Some x)
 unfolding spelled row_spelled row_block block block_leaf kind_of
-ds_label n k w x e ex = record { right = λ t u. rw (e, ex) refl }
+ds_label n k w x e ex = record { right = λ t u. rw (e, ex) refl; numbers = rw ex (refl, refl) }
 
 pub ds_name : (n k w : ℕ) (x : Spelling) → k ≡ 3 → x ≡ record { row = DsName; first = n; second = 0 } → Spells (DS n) k w (then_some (not (nat_eq w 0)) x)
-ds_name n k w x e ex = record { right = λ t u. rw (e, ex) (right_name w t u n) }
+ds_name n k w x e ex = record { right = λ t u. rw (e, ex) (right_name w t u n); numbers = numbers_if (DS n) (way_of w) _ x (rw ex (refl, refl)) }
 
 pub ds_diamond : (n k w : ℕ) (x : Spelling) → k ≡ 8 → x ≡ record { row = DsDiamond; first = n; second = 0 } → Spells (DS n) k w (then_some (nat_lt w 16) x)
-ds_diamond n k w x e ex = record { right = λ t u. rw (e, ex) (right_dia w t u n) }
+ds_diamond n k w x e ex = record { right = λ t u. rw (e, ex) (right_dia w t u n); numbers = numbers_if (DS n) (way_of w) _ x (rw ex (refl, refl)) }
 
 pub ds_box : (n k w : ℕ) (x : Spelling) → k ≡ 9 → x ≡ record { row = DsBox; first = n; second = 0 } → Spells (DS n) k w (then_some (nat_lt w 16) x)
-ds_box n k w x e ex = record { right = λ t u. rw (e, ex) (right_box w t u n) }
+ds_box n k w x e ex = record { right = λ t u. rw (e, ex) (right_box w t u n); numbers = numbers_if (DS n) (way_of w) _ x (rw ex (refl, refl)) }
 
 pub ds_other : (n k w : ℕ) → k ≢ 1 → k ≢ 2 → k ≢ 3 → k ≢ 8 → k ≢ 9 → Spells (DS n) k w None
-ds_other n k w a b c d e = record { right = λ t u. right_ds w t u n k a b c d e }
+ds_other n k w a b c d e = record { right = λ t u. right_ds w t u n k a b c d e; numbers = tt }
