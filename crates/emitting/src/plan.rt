@@ -149,7 +149,8 @@ impl<'a> Plan<'a> {
         ensures emitted { waits_at stages.new i ≡ false }
         ensures deep { Deep self.now.table.now stages.old stages.new }
     {
-        if self.emit(stages, out, i) {
+        let under = self.emit(stages, out, i);
+        if under {
             self.emit_under(stages, out, i);
         }
     }
