@@ -6,7 +6,7 @@ ghost use Rattle.limits.specs.Limits.{not_no, or_no, and_no, nu_no};
 ghost use Rattle.semantics.specs.Table.{kind_of, node_fits, nodes_fit};
 ghost use Rattle.condition.specs.Bytes.{word_at, node_at, table_of};
 ghost use Rattle.condition.specs.Limits.{param_limit, child_limit};
-ghost use Rattle.condition.specs.Refusal.{size_fits, nodes_verdict};
+ghost use Rattle.condition.specs.Refusal.{size_fits, first_unfit, nodes_verdict};
 
 use limits::{DIA, KINDS, NODE_BYTES, NOT, OR, SLOT, TABLE_BYTES};
 use verdict::Refusal;
@@ -137,6 +137,19 @@ fn node_fits(table: &[u8], i: usize) -> bool
     (k < KINDS) & p & l & r
 }
 
+// The lowest node that meets item 8, and the number of nodes where none does.
+pub fn first_unfit(table: &[u8]) -> usize
+    ensures { result ≡ first_unfit table.now }
+{
+    let n = table.len() / NODE_BYTES;
+    for i in 0..n {
+        if !node_fits(table, i) {
+            return i;
+        }
+    }
+    n
+}
+
 // The first of items 7 and 8 that is met; 8 by the lowest node that meets it.
 pub fn check_nodes(table: &[u8]) -> Result<(), Refusal>
     ensures { result ≡ nodes_verdict table.now }
@@ -144,10 +157,9 @@ pub fn check_nodes(table: &[u8]) -> Result<(), Refusal>
     if !size_fits(table.len()) {
         return Err(Refusal::ConditionLength);
     }
-    for i in 0..table.len() / 6 {
-        if !node_fits(table, i) {
-            return Err(Refusal::MalformedNode(i as u16));
-        }
+    let i = first_unfit(table);
+    if i < table.len() / NODE_BYTES {
+        return Err(Refusal::MalformedNode(i as u16));
     }
     Ok(())
 }

@@ -141,6 +141,20 @@ impl<'a> Plan<'a> {
         self.emit_children(stages, out, l, r);
     }
 
+    // Node i, unless it is emitted already, and what is below it are emitted.
+    fn emit_open(&self, stages: &mut [Stage; TABLE_NODES], out: &mut [u8; TABLE_BYTES], i: usize)
+        requires below { i < self.now.nodes }
+        requires emittable { Emittable self.now.table.now (edit_of self.now.edit) stages.old out.old self.now.nodes }
+        ensures emitting { Emitting self.now.table.now (edit_of self.now.edit) stages.old out.old stages.new out.new }
+        ensures emitted { waits_at stages.new i ≡ false }
+        ensures deep { Deep self.now.table.now stages.old stages.new }
+    {
+        let under = self.emit(stages, out, i);
+        if under {
+            self.emit_under(stages, out, i);
+        }
+    }
+
     // Each node and what is below it, from the last node down, so that nodes which no higher node reaches are emitted too.
     pub fn emit_all(&self, stages: &mut [Stage; TABLE_NODES], out: &mut [u8; TABLE_BYTES])
         requires emittable { Emittable self.now.table.now (edit_of self.now.edit) stages.old out.old self.now.nodes }
@@ -148,9 +162,7 @@ impl<'a> Plan<'a> {
         ensures { TableWritten out.new (rewrite_table (edit_of self.now.edit) (nodes self.now.table.now self.now.nodes)) }
     {
         for i in (0..self.nodes).rev() {
-            if self.emit(stages, out, i) {
-                self.emit_under(stages, out, i);
-            }
+            self.emit_open(stages, out, i);
         }
     }
 }

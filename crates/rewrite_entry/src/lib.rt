@@ -44,7 +44,7 @@ fn try_through(sheet: &[u8], edition: u32, res: &mut [u8]) -> Result<u32, Refusa
     ensures made { IfOk result (TableAfter Accepted (through (edits_of edition sheet.now)) res.old res.new) }
 {
     check_length(res, TABLE_BYTES)?; // item 1
-    editions::check(edition)?; // 18
+    editions::check(edition)?; // 18, before the sheet
     sheet::check(sheet)?; // 11 and 12
     rewriting::through_sheet(sheet, edition, res) // 14
 }

@@ -3,17 +3,17 @@ use Rattle.std.specs.Prelude.{◌≡◌, List, Bool, true, false, not, cond, ℕ
 use Rattle.std.proofs.Common.{ap, arith}
 use Rattle.std.proofs.lemmas.Bool.{not-true, not-false}
 use Rattle.limits.specs.Limits.{table_nodes, table_bytes}
-use Rattle.finite.specs.Tests.{same, below, any}
+use Rattle.finite.specs.Tests.{same, below}
 use Rattle.finite.proofs.Laws.Bools.{and_in, and_l, and_r}
 use Rattle.finite.proofs.Laws.Below.{same_eq, eq_same, below_in, below-not, not-below, any_none, none_any, all_in, all_out}
-use Rattle.finite.proofs.Laws.First.{first-none, first_past, first_is, first_stop}
+use Rattle.finite.proofs.Laws.First.{first-none, first_past}
 use Rattle.verdict.specs.Verdict.{Accepted, ◌then◌}
 use Rattle.verdict.specs.declared.Refusal.{Refusal}
 use Rattle.verdict.proofs.Laws.{refused}
 use Rattle.verdict.specs.declared.Refusal.TheVariants.{ConditionLength, MalformedNode, EvenRule, FreeVariable}
 use Rattle.semantics.specs.Form.{even, closed}
-use Rattle.semantics.specs.Table.{Node, tree_at, form_of, node_fits, nodes_fit, even_table}
-use Rattle.condition.specs.Bytes.{node_at, table_of, bytes_of}
+use Rattle.semantics.specs.Table.{Node, tree_at, form_of, nodes_fit, even_table}
+use Rattle.condition.specs.Bytes.{table_of, bytes_of}
 use Rattle.condition.specs.Refusal.{size_fits, first_unfit, first_uneven, nodes_verdict, even_verdict, closed_verdict, condition_verdict}
 use Rattle.condition.proofs.Laws.Bytes.{length_table, length-bytes, table_back_lem}
 use Rattle.condition.proofs.Laws.Fits.{none-unfit, fit_none}
@@ -54,25 +54,14 @@ module _ (S : List ℕ) where
   unfolding nodes_verdict
   missized e = rw e
 
-  abbrev unfit : ℕ → Bool
-  unfit i = not (node_fits i (node_at S i))
-
   -- node i is the lowest that item 8 is met by; none is
-  pub malformed : size_fits (length S) ≡ true → (i : ℕ) → i < length S / 6 → any i unfit ≡ false → node_fits i (node_at S i) ≡ false
-      → nodes_verdict S ≡ Err (MalformedNode i)
-  unfolding nodes_verdict first_unfit
-  malformed e i h a f =
-      let n = length (table_of S) in
-      let l : i < n = omega (arith, length_table S) in
-      let w : first_unfit S ≡ i = first_is n unfit i l a (ap not f) in
-      rw (e, w, below_in i n l)
+  pub malformed : size_fits (length S) ≡ true → {i : ℕ} → i ≡ first_unfit S → i < length S / 6 → nodes_verdict S ≡ Err (MalformedNode i)
+  unfolding nodes_verdict
+  malformed e {i} w h = rw (e, ← w, below_in i (length (table_of S)) (omega (arith, length_table S)))
 
-  pub well_formed : size_fits (length S) ≡ true → {i : ℕ} → length S / 6 ≤ i → i ≤ length S / 6 → any i unfit ≡ false → nodes_verdict S ≡ Accepted
-  unfolding nodes_verdict first_unfit
-  well_formed e {i} h l a =
-      let n = length (table_of S) in
-      let w : first_unfit S ≡ i = first_stop n unfit i a (omega (arith, length_table S)) (omega (arith, length_table S)) in
-      rw (e, w, below-not i n (omega (arith, length_table S)))
+  pub well_formed : size_fits (length S) ≡ true → {i : ℕ} → i ≡ first_unfit S → length S / 6 ≤ i → nodes_verdict S ≡ Accepted
+  unfolding nodes_verdict
+  well_formed e {i} w h = rw (e, ← w, below-not i (length (table_of S)) (omega (arith, length_table S)))
 
   pub item_7 : size_fits (length S) ≡ false → condition_verdict S ≡ Err ConditionLength
   unfolding condition_verdict nodes_verdict even_verdict closed_verdict

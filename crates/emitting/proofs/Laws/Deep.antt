@@ -62,6 +62,21 @@ deep_then {stages₁ = stages₁} D Q E = record {
   down = λ j n p. either (look (waits_at stages₁ j)) (λ q. E.down j q p) (λ q. children_stay Q (D.down j n q));
 }
 
+-- c is emitted, and none of its children waits
+pub deep_one : {s : List ℕ} {stages stages' : List Stage} {c : ℕ} {b : Bool} → OneEmitted s stages stages' c b → b ≡ false → Deep s stages stages'
+deep_one O e = record { down = λ j n p. either (O.only j n p).1 (λ k. k) (λ q. clash q e) }
+
+-- c is emitted; where it waits for its children it has them emitted then, and more nodes are
+pub paid_one : {s : List ℕ} {e : Edit} {stages stages₁ stages₂ : List Stage} {out₁ out₂ : List ℕ} {c : ℕ} {b : Bool} → OneEmitted s stages stages₁ c b
+    → Emitting s e stages₁ out₁ stages₂ out₂ → Deep s stages₁ stages₂ → (b ≡ true → ChildrenEmitted s stages₂ c) → Deep s stages stages₂
+paid_one {s} {stages₁ = stages₁} {stages₂} O Q D f = record {
+  down = λ j n p.
+      either
+      (look (waits_at stages₁ j))
+      (λ q. D.down j q p)
+      (λ q. let o = O.only j n q in either o.1 (children_stay Q) (λ w. subst (ChildrenEmitted s stages₂) (sym o.0) (f w)));
+}
+
 -- lo and then hi are emitted; those of them that wait for their children have them emitted then, and more nodes are
 pub paid : {s : List ℕ} {e : Edit} {stages stages₁ stages₂ stages₃ : List Stage} {out₁ out₂ out₃ : List ℕ} {lo hi : ℕ} {a b : Bool} → OneEmitted s stages stages₁ lo a
     → Emitting s e stages₁ out₁ stages₂ out₂ → OneEmitted s stages₁ stages₂ hi b → Emitting s e stages₂ out₂ stages₃ out₃ → Deep s stages₂ stages₃

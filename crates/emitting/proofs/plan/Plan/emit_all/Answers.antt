@@ -6,25 +6,14 @@ use Rattle.emitting.proofs.plan.Plan.emit_all.Goals as goal
 pub loop-i-init : goal.loop-i-init
 loop-i-init c = record { so_far = emitting_none; emitted = λ j a b. absurd (omega arith) }
 
-pub emit-requires-clause-emittable : goal.emit-requires-clause-emittable
-emit-requires-clause-emittable c = emittable_then c.requires.emittable c.loop-i.invariant.so_far
-
-pub emit_under-requires-clause-emittable : goal.emit_under-requires-clause-emittable
-emit_under-requires-clause-emittable c = emittable_then c.requires.emittable (emitting_then c.loop-i.invariant.so_far c.emit.ensures.emitting)
-
-pub loop-i-preserved-then-emit : goal.loop-i-preserved-then-emit
-loop-i-preserved-then-emit c =
-    let E = emitting_then c.emit.ensures.emitting c.emit_under.ensures.emitting in
-    record {
-      so_far = emitting_then c.loop-i.invariant.so_far E;
-      emitted = emitted_more E (c.emit_under.ensures.emitting.stays _ c.emit.ensures.emitted) (λ j a b. c.loop-i.invariant.emitted j (omega arith) b);
-    }
+pub emit_open-requires-clause-emittable : goal.emit_open-requires-clause-emittable
+emit_open-requires-clause-emittable c = emittable_then c.requires.emittable c.loop-i.invariant.so_far
 
 pub loop-i-preserved : goal.loop-i-preserved
 loop-i-preserved c = record {
-  so_far = emitting_then c.loop-i.invariant.so_far c.emit.ensures.emitting;
+  so_far = emitting_then c.loop-i.invariant.so_far c.emit_open.ensures.emitting;
   emitted =
-      emitted_more c.emit.ensures.emitting c.emit.ensures.emitted (λ j a b. c.loop-i.invariant.emitted j (omega arith) b);
+      emitted_more c.emit_open.ensures.emitting c.emit_open.ensures.emitted (λ j a b. c.loop-i.invariant.emitted j (omega arith) b);
 }
 
 pub returns : goal.returns
