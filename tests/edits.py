@@ -1,5 +1,5 @@
 #!/usr/bin/env python3
-"""Checks that every public function with a contract has two must-fail edits, every public method one, and that every edit says what it guards.
+"""Checks that every public function and method with a contract has two must-fail edits, and that every edit says what it guards.
 
 The first line of an edit is `guards: NAME, NAME, ..`. A NAME is a public function with a contract, of the edit's crate or, as
 `crate::function`, of a crate above it; a method of the edit's crate, as `Type::method`, or as `method` where it is the only one of
@@ -14,13 +14,6 @@ import re
 import sys
 
 WANTED = 2
-WANTED_OF_A_METHOD = 1
-# methods for which no other body has the type, and those that the edits of the functions above them guard
-UNGUARDED = {
-    "site": {"Site::bytes", "Site::from"},
-    "desk": {f"{name}Answer::from" for name in ["List", "Apply", "Rewrite", "Classes", "Chain", "Job"]},
-    "emitting": {"Plan::emit_all"},
-}
 
 
 def read(path):
@@ -144,8 +137,7 @@ def main():
     due = [(crate, function) for crate in functions for function in functions[crate]]
     for crate, function in due:
         count = counts.get((crate, function), 0)
-        wanted = WANTED_OF_A_METHOD if "::" in function else WANTED
-        if count < wanted and function not in UNGUARDED.get(crate, ()):
+        if count < WANTED:
             faults.append(f"{crate}::{function} has too few must-fail edits: {count}")
     for fault in faults:
         print("edits:", fault)
