@@ -337,7 +337,7 @@ impl<const W: usize> Numbers<W> {
                 return Some((k + 1, word));
             }
         }
-        None
+        return None;
     }
 }
 
