@@ -92,9 +92,8 @@ fn try_chain(
     check_length(chain, CHAIN_BYTES)?; // item 1
     check_length(set, SET_BYTES)?;
     check_length(work, WORK_BYTES)?;
-    let site = site::read(site)?; // 3 to 6
     let mut free = even_rule::no_masks();
-    even_rule::check(cond, &mut free)?; // 7 to 10
+    let site = list_entry::judge_pair(site, cond, &mut free)?; // 3 to 10
     let (way, start) = start_of(&site, way, start)?; // 17
     Ok(search(&site, cond, &free, way, start, chain, set, work))
 }

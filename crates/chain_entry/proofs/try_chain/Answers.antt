@@ -1,13 +1,13 @@
 -- What the items that are not met say of the inputs.
-use Rattle.std.proofs.Common.{arith, sym, ap, ◌∙◌, ℕ, replicate}
-use Rattle.site.proofs.Laws.Valid.{accepted_out}
-use Rattle.even_rule.proofs.Laws.Judged.{checked_rows}
-use Rattle.refusals.proofs.Laws.Items.{buffer_out, start_out}
-use Rattle.chain_entry.proofs.Laws.Chaining.{start_slot}
+use Rattle.std.proofs.Common.{arith, refl, sym, ap, ◌∙◌, ℕ, replicate}
+use Rattle.refusals.proofs.Laws.Items.{buffer_out, then_out}
 use Rattle.chain_entry.proofs.try_chain.Goals as goal
 
+pub search-requires-clause-cond_value : goal.search-requires-clause-cond_value
+search-requires-clause-cond_value c = (then_out _ _ (sym c.in_ok-site.ensures.judged.verdict)).1
+
 pub search-requires-clause-free_len : goal.search-requires-clause-free_len
-search-requires-clause-free_len c = (omega arith, checked_rows c.check.ensures c.in_ok-check.was)
+search-requires-clause-free_len c = (omega arith, c.in_ok-site.ensures.judged.rows refl)
 
 pub search-requires-clause-chain_len : goal.search-requires-clause-chain_len
 search-requires-clause-chain_len c =

@@ -1,9 +1,7 @@
 -- The items in their order, then the condition is listed.
-use Rattle.std.proofs.Common.{arith, sym}
+use Rattle.std.proofs.Common.{arith, refl, sym}
 use Rattle.verdict.proofs.Laws.{passed_on}
-use Rattle.site.proofs.Laws.Valid.{accepted_out}
-use Rattle.even_rule.proofs.Laws.Judged.{checked_rows}
-use Rattle.refusals.proofs.Laws.Items.{buffer_out, limit_out}
+use Rattle.refusals.proofs.Laws.Items.{buffer_out, limit_out, then_out}
 use Rattle.list_entry.specs.Refusal.{list_inputs}
 use Rattle.list_entry.proofs.Laws.Listing.{tried_refused, tried_over, tried_within}
 use Rattle.list_entry.proofs.try_list.Goals as goal
@@ -29,23 +27,13 @@ unfolding list_inputs
 returns-in_err-site c =
     rw (passed_on c.from_residual-in_err-site.ensures.1)
     (tried_refused
-    (rw (← c.in_ok-check_length.ensures, ← c.in_ok-check_length-2.ensures, ← c.in_ok-check_limit.ensures, ← c.in_err-site.ensures.verdict)))
+    (rw (← c.in_ok-check_length.ensures, ← c.in_ok-check_length-2.ensures, ← c.in_ok-check_limit.ensures, ← c.in_err-site.ensures.judged.verdict)))
 
-pub returns-in_err-check : goal.returns-in_err-check
-unfolding list_inputs
-returns-in_err-check c =
-    rw (passed_on c.from_residual-in_err-check.ensures.1)
-    (tried_refused
-    (rw (
-      ← c.in_ok-check_length.ensures,
-      ← c.in_ok-check_length-2.ensures,
-      ← c.in_ok-check_limit.ensures,
-      ← c.in_ok-site.ensures.verdict,
-      ← c.in_err-check.ensures.verdict,
-    )))
+pub list-found-requires-clause-table_value : goal.list-found-requires-clause-table_value
+list-found-requires-clause-table_value c = (then_out _ _ (sym c.in_ok-site.ensures.judged.verdict)).1
 
 pub list-found-requires-clause-free_len : goal.list-found-requires-clause-free_len
-list-found-requires-clause-free_len c = (omega arith, checked_rows c.check.ensures c.in_ok-check.was)
+list-found-requires-clause-free_len c = (omega arith, c.in_ok-site.ensures.judged.rows refl)
 
 pub list-found-requires-clause-limit_le_highest_limit : goal.list-found-requires-clause-limit_le_highest_limit
 list-found-requires-clause-limit_le_highest_limit c = limit_out _ (sym c.in_ok-check_limit.ensures)
@@ -62,8 +50,7 @@ returns-in_err-check_rounds c =
       ← c.in_ok-check_length.ensures,
       ← c.in_ok-check_length-2.ensures,
       ← c.in_ok-check_limit.ensures,
-      ← c.in_ok-site.ensures.verdict,
-      ← c.in_ok-check.ensures.verdict,
+      ← c.in_ok-site.ensures.judged.verdict,
     ))
     (rw c.in_ok-site.ensures.site at c.list-found.ensures.limited) c.list-found.ensures.work_after c.in_err-check_rounds.ensures)
 
@@ -75,7 +62,6 @@ returns c =
       ← c.in_ok-check_length.ensures,
       ← c.in_ok-check_length-2.ensures,
       ← c.in_ok-check_limit.ensures,
-      ← c.in_ok-site.ensures.verdict,
-      ← c.in_ok-check.ensures.verdict,
+      ← c.in_ok-site.ensures.judged.verdict,
     ))
     (rw c.in_ok-site.ensures.site at c.list-found.ensures.limited) c.list-found.ensures.work_after c.in_ok-check_rounds.ensures
