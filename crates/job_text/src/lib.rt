@@ -108,12 +108,7 @@ fn refused(refusal: Refusal, text: &mut [u8]) -> usize
 
 // Writes the print of a job's answer with its two lists, the condition's on the site after and the rewritten one's on the site today.
 // Gives its length.
-pub fn write(
-    answer: Result<Report, Refusal>,
-    after: &[u8],
-    today: &[u8],
-    text: &mut [u8],
-) -> usize
+pub fn write(answer: Result<Report, Refusal>, after: &[u8], today: &[u8], text: &mut [u8]) -> usize
     requires { (length after.now ≡ set_bytes) × ((length today.now ≡ set_bytes) × (length text.old ≡ text_bytes)) }
     ensures prefix_len { IsPrefixLen result text.new }
     ensures text_after { take result text.new ≡ job_text answer after.now today.now }

@@ -7,8 +7,7 @@ pub returns : goal.returns
 returns c =
     let word = c.put-a.ensures in
     let number = c.put_number-b.ensures in
-    let line = c.put_count.ensures in
-    (
+    let line = c.put_count.ensures in (
       omega (arith, word.ends, number.upper_bound, line.upper_bound),
       rw (← c.number.ensures, ← c.fault.ensures) (refused_put _ _ word number.puts line.puts),
     )
