@@ -8,7 +8,7 @@ use limits::{HIGHEST_LIMIT, TABLE_BYTES};
 use listing::WORK_BYTES;
 use site::SITE_BYTES;
 use std::io;
-use std::io::{BufWriter, Write};
+use std::io::Write;
 use trailer::FILE_LIMIT;
 
 fn answer<W: Write>(output: &mut W, file: &[u8]) -> io::Result<()> {
@@ -34,7 +34,5 @@ fn answer<W: Write>(output: &mut W, file: &[u8]) -> io::Result<()> {
 fn main(rt: HostRuntime) -> io::Result<()> {
     let mut file = [0u8; FILE_LIMIT + 1];
     let n = read_full(&mut rt.stdin(), &mut file)?;
-    let mut output = BufWriter::new(rt.alloc(), rt.stdout())?;
-    answer(&mut output, &file[..n])?;
-    output.flush()
+    answer(&mut rt.stdout(), &file[..n])
 }

@@ -2,10 +2,13 @@
 #![tactic(auto)]
 
 ghost use Rattle.std.specs.Prelude.{◌≡◌};
-ghost use Rattle.verdict.specs.Verdict.{outcome};
+ghost use Rattle.verdict.specs.Verdict.{outcome, ◌then◌};
+ghost use Rattle.trailer.specs.Refusal.{file_verdict};
+ghost use Rattle.refusals.specs.Refusal.{limit_verdict};
 ghost use Rattle.job_run.specs.Buffers.{buffers_of};
 ghost use Rattle.job_run.specs.Answer.{after_of, today_of, nodes_of, classes_of};
-ghost use Rattle.job_entry.specs.Answered.{Checked, JobAnswered};
+ghost use Rattle.job_entry.specs.Refusal.{buffers_verdict};
+ghost use Rattle.job_entry.specs.Answered.{JobAnswered};
 
 use bitset::{SET_BYTES, SET_SLOTS};
 use job_run::Report;
@@ -16,10 +19,10 @@ use site::SITE_BYTES;
 use trailer::Cuts;
 use verdict::Refusal;
 
-// Where the pieces of the file are, or the first item of all that is tested before them.
+// Item 1, then item 16, then items 2 and 18.
 #[tactic(auto, unfolding(crate::specs::Refusal::buffers_verdict))]
 fn check(
-    file: &[u8],
+    cuts: Cuts,
     limit: u32,
     changed: &[u8],
     table: &[u8],
@@ -27,8 +30,8 @@ fn check(
     today: &[u8],
     classes: &[u8],
     work: &[u8],
-) -> Result<Cuts, Refusal>
-    ensures { Checked limit file.now (buffers_of changed.now table.now after.now today.now classes.now work.now) result }
+) -> Result<(), Refusal>
+    ensures { result ≡ buffers_verdict (buffers_of changed.now table.now after.now today.now classes.now work.now) then limit_verdict limit then file_verdict cuts.met cuts.edition }
 {
     check_length(changed, SITE_BYTES)?; // item 1
     check_length(table, TABLE_BYTES)?;
@@ -37,9 +40,7 @@ fn check(
     check_length(classes, SET_SLOTS)?;
     check_length(work, WORK_BYTES)?;
     check_limit(limit)?; // 16
-    let cuts = trailer::read(file);
-    trailer::check(cuts)?; // 2 and 18
-    Ok(cuts)
+    trailer::check(cuts) // 2 and 18
 }
 
 // Does the job of a file, each list under the whole limit: writes the site after, the rewritten table, both lists and the class numbers after.
@@ -56,23 +57,20 @@ pub fn run(
 ) -> Result<Report, Refusal>
     ensures { JobAnswered limit file.now (buffers_of changed.old table.old after.old today.old classes.old work.old) (buffers_of changed.new table.new after.new today.new classes.new work.new) (outcome result) (after_of result) (today_of result) (nodes_of result) (classes_of result) }
 {
-    match check(file, limit, changed, table, after, today, classes, work) {
-        Ok(cuts) => job_run::run(
-            limit,
-            trailer::site(file, cuts),
-            trailer::condition(file, cuts),
-            trailer::sheet(file, cuts),
-            cuts.edition,
-            changed,
-            table,
-            after,
-            today,
-            classes,
-            work,
-        ),
-        Err(refusal) => {
-            job_run::zero(changed, table, after, today, classes, work);
-            Err(refusal)
-        }
-    }
+    let cuts = trailer::read(file);
+    let first = check(cuts, limit, changed, table, after, today, classes, work);
+    job_run::run(
+        first,
+        limit,
+        trailer::site(file, cuts),
+        trailer::condition(file, cuts),
+        trailer::sheet(file, cuts),
+        cuts.edition,
+        changed,
+        table,
+        after,
+        today,
+        classes,
+        work,
+    )
 }

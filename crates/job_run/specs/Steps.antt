@@ -37,19 +37,19 @@ pub record Made (edition : ℕ) (site cond sheet free' changed changed' table ta
   pub room : 6 * n ≤ length table'
   pub part_accepted : condition_verdict (take (6 * n) table') ≡ Accepted
 
--- the verdict of a job on these pieces is v, where its lists make so many rounds
-pub record Judged (edition limit : ℕ) (site cond sheet : List ℕ) (v : Verdict) : Type 0 where
+-- the verdict of a job on these pieces, after the verdict `first` on all that is tested before them, is v, where its lists make so many rounds
+pub record Judged (edition : ℕ) (first : Verdict) (limit : ℕ) (site cond sheet : List ℕ) (v : Verdict) : Type 0 where
   pub after_made : ℕ
   pub today_made : ℕ
-  pub makes : pieces_verdict edition site cond sheet ≡ Accepted → JobMakes edition site cond sheet after_made today_made
-  pub verdict : v ≡ pieces_verdict edition site cond sheet then lists_verdict limit after_made today_made
+  pub makes : first then pieces_verdict edition site cond sheet ≡ Accepted → JobMakes edition site cond sheet after_made today_made
+  pub verdict : v ≡ (first then pieces_verdict edition site cond sheet) then lists_verdict limit after_made today_made
 
 -- the job is tried, and answers r; where it refuses, nothing is said of the buffers
-pub record Tried (edition limit : ℕ) (site cond sheet : List ℕ) (b b' : Buffers) (r : Result Report Refusal) : Type 0 where
-  pub judged : Judged edition limit site cond sheet (outcome r)
+pub record Tried (edition : ℕ) (first : Verdict) (limit : ℕ) (site cond sheet : List ℕ) (b b' : Buffers) (r : Result Report Refusal) : Type 0 where
+  pub judged : Judged edition first limit site cond sheet (outcome r)
   pub left : IfOk r (λ j. JobAfter edition Accepted site cond sheet b b' j.after j.today j.nodes j.classes)
 
 -- the job answers r
-pub record Ran (edition limit : ℕ) (site cond sheet : List ℕ) (b b' : Buffers) (r : Result Report Refusal) : Type 0 where
-  pub judged : Judged edition limit site cond sheet (outcome r)
+pub record Ran (edition : ℕ) (first : Verdict) (limit : ℕ) (site cond sheet : List ℕ) (b b' : Buffers) (r : Result Report Refusal) : Type 0 where
+  pub judged : Judged edition first limit site cond sheet (outcome r)
   pub left : JobAfter edition (outcome r) site cond sheet b b' (after_of r) (today_of r) (nodes_of r) (classes_of r)

@@ -2,7 +2,8 @@
 // rewritten table, `after` and `today` for the lists on the site after and on the site, `classes` for the class numbers, and `work`.
 #![tactic(auto)]
 
-ghost use Rattle.std.specs.Prelude.{◌≤◌};
+ghost use Rattle.std.specs.Prelude.{◌≡◌, ◌≤◌};
+ghost use Rattle.verdict.specs.Verdict.{Accepted};
 ghost use Rattle.limits.specs.Limits.{highest_limit};
 ghost use Rattle.job_run.specs.Buffers.{buffers_of, Sized};
 ghost use Rattle.job_run.specs.Steps.{Zeros, Tried, Ran};
@@ -41,8 +42,9 @@ pub fn zero(
     work.fill(0);
 }
 
-// Where one of the lists makes more rounds than the limit, nothing more is done.
+// The items of `first`, then 3 to 15. Where one of the lists makes more rounds than the limit, nothing more is done.
 fn try_run(
+    first: Result<(), Refusal>,
     limit: u32,
     site: &[u8],
     cond: &[u8],
@@ -55,10 +57,11 @@ fn try_run(
     classes: &mut [u8],
     work: &mut [u8],
 ) -> Result<Report, Refusal>
-    requires limit { limit ≤ highest_limit }
-    requires sized { Sized (buffers_of changed.old table.old after.old today.old classes.old work.old) }
-    ensures { Tried edition limit site.now cond.now sheet.now (buffers_of changed.old table.old after.old today.old classes.old work.old) (buffers_of changed.new table.new after.new today.new classes.new work.new) result }
+    requires limit { first ≡ Accepted → limit ≤ highest_limit }
+    requires sized { first ≡ Accepted → Sized (buffers_of changed.old table.old after.old today.old classes.old work.old) }
+    ensures { Tried edition first limit site.now cond.now sheet.now (buffers_of changed.old table.old after.old today.old classes.old work.old) (buffers_of changed.new table.new after.new today.new classes.new work.new) result }
 {
+    first?;
     let mut free = even_rule::no_masks();
     job_steps::judge(site, cond, sheet, &mut free)?; // items 3 to 12
     let nodes = job_steps::change(site, cond, sheet, edition, changed, table)?; // 13 and 14
@@ -80,8 +83,11 @@ fn try_run(
     })
 }
 
-// Does the job of three pieces, whatever they are, each list under the whole limit. Where an item is met every buffer becomes zeros.
+// Does the job of three pieces, whatever they are, each list under the whole limit. `first` is the verdict on all that is tested before the
+// pieces: item 1, so that buffers which pass have the stated lengths, the limit, and the file that the pieces come from. Where an item is met
+// every buffer becomes zeros, whatever its length.
 pub fn run(
+    first: Result<(), Refusal>,
     limit: u32,
     site: &[u8],
     cond: &[u8],
@@ -94,12 +100,12 @@ pub fn run(
     classes: &mut [u8],
     work: &mut [u8],
 ) -> Result<Report, Refusal>
-    requires limit { limit ≤ highest_limit }
-    requires sized { Sized (buffers_of changed.old table.old after.old today.old classes.old work.old) }
-    ensures { Ran edition limit site.now cond.now sheet.now (buffers_of changed.old table.old after.old today.old classes.old work.old) (buffers_of changed.new table.new after.new today.new classes.new work.new) result }
+    requires limit { first ≡ Accepted → limit ≤ highest_limit }
+    requires sized { first ≡ Accepted → Sized (buffers_of changed.old table.old after.old today.old classes.old work.old) }
+    ensures { Ran edition first limit site.now cond.now sheet.now (buffers_of changed.old table.old after.old today.old classes.old work.old) (buffers_of changed.new table.new after.new today.new classes.new work.new) result }
 {
     let answer = try_run(
-        limit, site, cond, sheet, edition, changed, table, after, today, classes, work,
+        first, limit, site, cond, sheet, edition, changed, table, after, today, classes, work,
     );
     if answer.is_err() {
         zero(changed, table, after, today, classes, work);

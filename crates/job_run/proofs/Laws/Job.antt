@@ -1,7 +1,7 @@
 -- The answers of a job's parts, case by case.
 use Rattle.std.specs.Prelude.{◌≡◌, refl, List, ℕ, ◌*◌, ◌-◌, ◌≤◌, take, length, replicate, Result, Ok, Err}
 use Rattle.std.proofs.Common.{◌∙◌, arith, sym, ap, length-append}
-use Rattle.verdict.specs.Verdict.{Accepted, outcome, ◌then◌}
+use Rattle.verdict.specs.Verdict.{Verdict, Accepted, outcome, ◌then◌}
 use Rattle.verdict.proofs.Laws.{refused}
 use Rattle.verdict.specs.declared.Refusal.{Refusal}
 use Rattle.semantics.specs.Holds.{Env}
@@ -40,12 +40,22 @@ use Rattle.job_run.proofs.Laws.Refusal.{pieces_then, pieces_out}
 
 -- ---- an item before 15 is met
 
-pub tried_refused : {edition limit : ℕ} {site cond sheet : List ℕ} {b b' : Buffers} {r : Refusal} → pieces_verdict edition site cond sheet ≡ Err r
-    → Tried edition limit site cond sheet b b' (Err r)
+pub tried_refused : {edition limit : ℕ} {first : Verdict} {site cond sheet : List ℕ} {b b' : Buffers} {r : Refusal}
+    → first then pieces_verdict edition site cond sheet ≡ Err r → Tried edition first limit site cond sheet b b' (Err r)
 tried_refused d = record {
   judged = record { after_made = 0; today_made = 0; makes = λ a. refused (sym d ∙ a); verdict = rw d };
   left = tt;
 }
+
+-- it is met before the pieces are looked at
+pub first_refused : {edition limit : ℕ} {first : Verdict} {site cond sheet : List ℕ} {b b' : Buffers} {r : Refusal} → first ≡ Err r
+    → Tried edition first limit site cond sheet b b' (Err r)
+first_refused e = tried_refused (rw e)
+
+-- it is not
+pub first_passed : {edition limit : ℕ} {first : Verdict} {site cond sheet : List ℕ} {b b' : Buffers} {r : Result Report Refusal} → first ≡ Accepted
+    → Tried edition Accepted limit site cond sheet b b' r → Tried edition first limit site cond sheet b b' r
+first_passed e t = rw e t
 
 pub judge_refused : (edition : ℕ) (site cond sheet : List ℕ) {free' : List ℕ} {r : Refusal}
     → even_rule.Judged (site_verdict site then condition_verdict cond then sheet_verdict sheet) cond free' (Err r) → pieces_verdict edition site cond sheet ≡ Err r
@@ -91,7 +101,7 @@ module _ {edition limit n : ℕ} {site cond sheet free' changed changed' table t
       record { after = rw m.site_after.effects at a.makes; today = rw table_is at t }
 
   -- the first is over. The second makes some number of rounds, which does not matter
-  pub over_after : {r : Refusal} → Err r ≡ rounds_verdict limit f.rounds → {b b' : Buffers} → Tried edition limit site cond sheet b b' (Err r)
+  pub over_after : {r : Refusal} → Err r ≡ rounds_verdict limit f.rounds → {b b' : Buffers} → Tried edition Accepted limit site cond sheet b b' (Err r)
   over_after e =
       let t = accepted_makes (site_of site) (take (6 * n) table') m.part_accepted in
       record {
@@ -101,7 +111,7 @@ module _ {edition limit n : ℕ} {site cond sheet free' changed changed' table t
 
   module _ {today' : List ℕ} {g : Found} (h : Accepted ≡ rounds_verdict limit f.rounds)
       (t : Limited limit (site_of site) (form_of (table_of (take (6 * n) table'))) today' g) where
-    pub over_today : {r : Refusal} → Err r ≡ rounds_verdict limit g.rounds → {b b' : Buffers} → Tried edition limit site cond sheet b b' (Err r)
+    pub over_today : {r : Refusal} → Err r ≡ rounds_verdict limit g.rounds → {b b' : Buffers} → Tried edition Accepted limit site cond sheet b b' (Err r)
     over_today e = record {
       judged =
           record {
@@ -116,7 +126,7 @@ module _ {edition limit n : ℕ} {site cond sheet free' changed changed' table t
     -- the job is done
     pub done : Accepted ≡ rounds_verdict limit g.rounds → {after today classes classes' work work' : List ℕ} → work' ≡ replicate work_bytes 0
         → length work ≡ work_bytes → Classes (site_of changed') classes' → {c : ℕ} → c ≡ different classes'
-        → Tried edition limit site cond sheet (record { changed = changed; table = table; after = after; today = today; classes = classes; work = work })
+        → Tried edition Accepted limit site cond sheet (record { changed = changed; table = table; after = after; today = today; classes = classes; work = work })
         (record { changed = changed'; table = table'; after = after'; today = today'; classes = classes'; work = work' })
         (Ok (record { after = f; today = g; nodes = n; classes = c }))
     unfolding SetAfter ClassesAfter
@@ -174,9 +184,10 @@ zeros_of l z = record {
 
 -- ---- the job answers
 
-module _ {edition limit : ℕ} {site cond sheet : List ℕ} {b b' : Buffers} {r : Result Report Refusal} (t : Tried edition limit site cond sheet b b' r) where
-  pub ran_done : {j : Report} → r ≡ Ok j → Ran edition limit site cond sheet b b' r
+module _ {edition limit : ℕ} {first : Verdict} {site cond sheet : List ℕ} {b b' : Buffers} {r : Result Report Refusal}
+    (t : Tried edition first limit site cond sheet b b' r) where
+  pub ran_done : {j : Report} → r ≡ Ok j → Ran edition first limit site cond sheet b b' r
   ran_done e = record { judged = t.judged; left = rw e (rw e at t.left) }
 
-  pub ran_refused : {q : Refusal} → r ≡ Err q → {b'' : Buffers} → Zeros b b'' → Ran edition limit site cond sheet b b'' r
+  pub ran_refused : {q : Refusal} → r ≡ Err q → {b'' : Buffers} → Zeros b b'' → Ran edition first limit site cond sheet b b'' r
   ran_refused e z = record { judged = t.judged; left = rw e (zeros_left z) }

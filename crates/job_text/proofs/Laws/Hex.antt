@@ -5,7 +5,7 @@ use Rattle.std.proofs.Common.{sym, ap, add-one, take-suc}
 use Rattle.io.specs.Digits.{hex_digit_ascii}
 use Rattle.job_text.specs.Text.{hexadecimal}
 
-snoc_hexadecimal : (xs : List ℕ) (x : ℕ) → hexadecimal (xs ++ (x ∷ [])) ≡ hexadecimal xs ++ (hex_digit_ascii (x / 16) ∷ hex_digit_ascii (x % 16) ∷ [])
+pub snoc_hexadecimal : (xs : List ℕ) (x : ℕ) → hexadecimal (xs ++ (x ∷ [])) ≡ hexadecimal xs ++ (hex_digit_ascii (x / 16) ∷ hex_digit_ascii (x % 16) ∷ [])
 unfolding hexadecimal
 snoc_hexadecimal [] x = refl
 snoc_hexadecimal (y ∷ ys) x = ap (λ (l : List ℕ). hex_digit_ascii (y / 16) ∷ hex_digit_ascii (y % 16) ∷ l) (snoc_hexadecimal ys x)
