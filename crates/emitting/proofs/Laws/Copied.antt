@@ -73,4 +73,4 @@ kept_by w t u (DS n) =
 
 pub kept : {e : Edit} {k : ℕ} (w : ℕ) → k < kinds → (first_kind e ≤ k → end_kind e ≤ k) → Spells e k w None
 unfolding spelled
-kept {e} {k} w h g = record { right = λ t u. kept_by w t u e k (h, g) }
+kept {e} {k} w h g = record { right = λ t u. kept_by w t u e k (h, g); numbers = tt }

@@ -1,6 +1,6 @@
 -- A copy, or the block of the node's spelling.
 use Rattle.std.proofs.Common.{refl, arith}
-use Rattle.emitting.proofs.Laws.Emitted.{start_small, kind_low, block_room, block_written, image_room, copy_written}
+use Rattle.emitting.proofs.Laws.Emitted.{start_small, block_room, block_written, image_room, copy_written}
 use Rattle.emitting.proofs.plan.Plan.write_block.Goals as goal
 
 pub put_node-requires : goal.put_node-requires
@@ -11,7 +11,6 @@ write-requires c =
     let P = c.args.self.now in
     record {
       numbers = omega (arith, c.start.ensures, start_small P.fits P.numbered c.args.c c.requires.below);
-      known = λ _. kind_low P.fits P.numbered c.args.c c.requires.below c.kind.ensures;
       room =
           block_room P.fits P.numbered c.args.c c.requires.below c.spell-spelling.ensures c.kind.ensures c.param.ensures c.requires.fields.0 c.requires.fields.1 refl refl
           c.start.ensures c.requires.room;
@@ -21,7 +20,7 @@ pub returns-in-ToCopy : goal.returns-in-ToCopy
 returns-in-ToCopy c =
     let P = c.args.self.now in
     copy_written P.fits P.numbered c.args.c c.requires.below (c.requires.copy c.in-ToCopy.is) c.kind.ensures c.param.ensures c.requires.fields.0 c.requires.fields.1 refl refl
-    (c.copied.ensures (kind_low P.fits P.numbered c.args.c c.requires.below c.kind.ensures)) c.args.out.now c.from.ensures c.put_node.ensures
+    c.copied.ensures c.args.out.now c.from.ensures c.put_node.ensures
 
 pub returns-in_default : goal.returns-in_default
 returns-in_default c =
