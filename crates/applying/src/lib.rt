@@ -31,13 +31,10 @@ pub fn apply(site: &[u8], sheet: &[u8], edition: u32, res: &mut [u8]) -> Result<
     requires { (site_verdict site.now ≡ Accepted) × ((sheet_verdict sheet.now ≡ Accepted) × (length res.old ≡ site_bytes)) }
     ensures { Applies edition site.now sheet.now res.new result }
 {
-    let Some(before) = site.as_array::<SITE_BYTES>() else {
-        unreachable!()
-    };
+    buffer::copy(res, site, site.len()); // by std it would need `memmove`, which the archive does not
     let Some(after) = res.as_mut_array::<SITE_BYTES>() else {
         unreachable!()
     };
-    *after = *before;
     let answer = run(after, sheet, edition);
     if answer.is_err() {
         after.fill(0);

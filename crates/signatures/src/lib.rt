@@ -57,7 +57,9 @@ fn classes_in(numbers: &[u8; SET_SLOTS], set: SlotSet) -> SlotSet
     seen
 }
 
-// To take out all slots of a class takes as long as so many slots that are looked at one by one.
+// So few slots are looked at by their classes; and to take out all slots of a class takes as long as so many slots that are looked at one by one.
+const FEW: u32 = 4;
+
 const SLOTS_A_CLASS: u32 = 3;
 
 impl Members {
@@ -76,13 +78,14 @@ impl Members {
     }
 
     // The classes that the slots of a row are in. A slot that has its own number stands for its class; the others are looked at one by one where they
-    // are few for the classes that they can be in, and else those of a class are taken at once.
+    // are few for the classes that they can be in, and else, or where they are few at all, those of a class are taken at once.
     fn seen(&self, row: SlotSet) -> SlotSet
         ensures { Is result (sees row self.now.numbers) }
     {
         let mut seen = row & self.own;
         let mut others = row - self.own;
-        if others.len() / SLOTS_A_CLASS < self.shared {
+        let n = others.len();
+        if FEW < n && n / SLOTS_A_CLASS < self.shared {
             return seen | classes_in(&self.numbers, others);
         }
         while let Some(t) = others.lowest() {

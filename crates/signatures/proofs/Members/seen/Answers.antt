@@ -15,7 +15,7 @@ loop-t-preserved c = sees_more c.args.self.now.numbers c.args.row c.loop-t.other
 pub returns : goal.returns
 returns c = sees_done c.args.self.now.numbers c.args.row c.loop-t.others _ (c.in_default.ensures.none refl) c.loop-t.invariant
 
-pub returns-then-len-self : goal.returns-then-len-self
-returns-then-len-self c =
+pub returns-then-n-self : goal.returns-then-n-self
+returns-then-n-self c =
     sees_both c.args.self.now.numbers c.args.row _ _ _ _ c.classes_in.ensures c.bitor.ensures
     (sees_start c.args.self.now.numbers c.args.row c.args.self.now.own _ _ c.args.self.now.has_own c.bitand-seen.ensures c.sub-others.ensures)
