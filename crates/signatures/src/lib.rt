@@ -1,9 +1,9 @@
 // Signatures: for each slot the set of the classes that the slots of its row are in.
 #![tactic(auto)]
 
-ghost use Rattle.std.specs.Prelude.{◌≡◌, ◌<◌, get_or};
+ghost use Rattle.std.specs.Prelude.{◌≡◌, ◌||◌, ◌<◌, get_or};
 ghost use Rattle.finite.specs.Tests.{same};
-ghost use Rattle.bitset.specs.Set.{set_slots, Is};
+ghost use Rattle.bitset.specs.Set.{set_slots, has, Is};
 ghost use Rattle.partition.specs.Rows.{RowsOf, sees, Signed};
 ghost use Rattle.signatures.specs.Members.{owns};
 
@@ -16,8 +16,10 @@ pub struct Members {
     pub numbers: [u8; SET_SLOTS],
     own: SlotSet,
     classes: Rows,
-    // How many classes have slots that do not have their own number. It decides how these are looked at, and nothing rests on it.
+    // How many classes have slots that do not have their own number, and whether these are few for so many classes. Both decide how such slots are
+    // looked at, and nothing rests on them.
     shared: u32,
+    few: bool,
     ghost has_own: { Is own (owns numbers) },
     ghost has_classes: { RowsOf (λ c t. same (get_or numbers t 0) c) classes },
 }
@@ -46,20 +48,18 @@ fn classes_of(numbers: &[u8; SET_SLOTS]) -> Rows
     classes
 }
 
-// The classes that the slots of a set are in, slot by slot.
-fn classes_in(numbers: &[u8; SET_SLOTS], set: SlotSet) -> SlotSet
-    ensures { Is result (sees set numbers.now) }
+// The classes that were seen, and those that the slots of a set are in, slot by slot.
+fn with_classes(seen: SlotSet, numbers: &[u8; SET_SLOTS], set: SlotSet) -> SlotSet
+    ensures { Is result (λ c. has seen c || sees set numbers.now c) }
 {
-    let mut seen = SlotSet::empty();
+    let mut seen = seen;
     for t in set {
         seen.insert(usize::from(numbers[t]));
     }
     seen
 }
 
-// So few slots are looked at by their classes; and to take out all slots of a class takes as long as so many slots that are looked at one by one.
-const FEW: u32 = 4;
-
+// To take out all slots of a class takes as long as to look at so many slots one by one.
 const SLOTS_A_CLASS: u32 = 3;
 
 impl Members {
@@ -67,26 +67,41 @@ impl Members {
         ensures { result.numbers ≡ numbers }
     {
         let own = own_slots(&numbers);
+        let others = !own;
+        let shared = with_classes(SlotSet::empty(), &numbers, others).len();
+        let few = others.len() / SLOTS_A_CLASS < shared;
         let classes = classes_of(&numbers);
-        let shared = classes_in(&numbers, !own).len();
         Members {
             numbers,
             own,
             classes,
             shared,
+            few,
         }
     }
 
-    // The classes that the slots of a row are in. A slot that has its own number stands for its class; the others are looked at one by one where they
-    // are few for the classes that they can be in, and else, or where they are few at all, those of a class are taken at once.
+    // Are slots that do not have their own number looked at one by one? They are where they are few for the classes that they can be in, but not where
+    // they are all in one class.
+    fn one_by_one(&self, others: SlotSet) -> bool {
+        if self.few {
+            return true;
+        }
+        let Some(t) = others.lowest() else {
+            return false;
+        };
+        let rest = others - self.classes[usize::from(self.numbers[t])];
+        !rest.is_empty() && others.len() / SLOTS_A_CLASS < self.shared
+    }
+
+    // The classes that the slots of a row are in. A slot that has its own number stands for its class; of the others, those of a class are taken at
+    // once, where one by one does not take less time.
     fn seen(&self, row: SlotSet) -> SlotSet
         ensures { Is result (sees row self.now.numbers) }
     {
         let mut seen = row & self.own;
         let mut others = row - self.own;
-        let n = others.len();
-        if FEW < n && n / SLOTS_A_CLASS < self.shared {
-            return seen | classes_in(&self.numbers, others);
+        if self.one_by_one(others) {
+            return with_classes(seen, &self.numbers, others);
         }
         while let Some(t) = others.lowest() {
             let class = usize::from(self.numbers[t]);

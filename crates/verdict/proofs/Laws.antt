@@ -3,12 +3,17 @@ use Rattle.std.specs.Prelude.{◌≡◌, ◌⊎◌, ◌↔◌, refl, Bool, true,
 use Rattle.std.specs.Result.{is_err, IsErrAnd}
 use Rattle.std.proofs.lemmas.Result.{err_from_is_err_and}
 use Rattle.std.proofs.Common.{arith, sym, ap, ◌∙◌, inl, inr}
-use Rattle.verdict.specs.Verdict.{Verdict, Accepted, number_of, fault_of, reason_of, where_of, ◌then◌}
+use Rattle.verdict.specs.Verdict.{Verdict, Accepted, outcome, number_of, fault_of, reason_of, where_of, ◌then◌}
 use Rattle.verdict.specs.declared.Refusal.{Refusal}
 use Rattle.verdict.specs.declared.Refusal.TheVariants.{BufferLength, File, SiteLength, Names, Labels, Links, ConditionLength, MalformedNode, EvenRule, FreeVariable, SheetLength, MalformedEdit, NotThrough, TableFull, Rounds, Limit, Start, Edition}
 
 pub refused : {A : Type 0} {r : Refusal} → ◌≡◌ {A = Verdict} (Err r) Accepted → A
 refused p = let z : ◌≡◌ {A = ℕ} 0 1 = cc in absurd (omega arith)
+
+-- an outcome accepts just what has an answer
+pub accepts_answers : {A : Type 0} (v : Result A Refusal) → (outcome v ≡ Accepted) ↔ (a : A) × (v ≡ Ok a)
+accepts_answers (Ok a) = (λ e. (a, refl), λ e. refl)
+accepts_answers (Err r) = (λ e. refused e, λ e. refused (ap outcome e.1))
 
 pub then_assoc : {A : Type 0} (u v : Verdict) (w : Result A Refusal) → (u then v) then w ≡ u then (v then w)
 then_assoc (Ok _) v w = refl

@@ -41,12 +41,12 @@ owned_done p O t l h s i = h s i ∙ rw (below_in s t (omega arith))
 
 -- ---- classes seen
 
--- G has the classes that row A sees by p, but for those that L sees, which are to come
-pub Sees : List ℕ → List ℕ → List ℕ → List ℕ → Type 0
-Sees p A L G = (c : ℕ) → c < set_slots → (has G c || sees L p c) ≡ sees A p c
+-- G has the classes X, but for those that L sees by p, which are to come
+pub Sees : (ℕ → Bool) → List ℕ → List ℕ → List ℕ → Type 0
+Sees X p L G = (c : ℕ) → c < set_slots → (has G c || sees L p c) ≡ X c
 
 -- at the start G has the slots with their own number, O, and L the others
-pub sees_start : (p A O L G : List ℕ) → Is O (owns p) → Is G (λ s. has A s && has O s) → Is L (λ s. has A s && not (has O s)) → Sees p A L G
+pub sees_start : (p A O L G : List ℕ) → Is O (owns p) → Is G (λ s. has A s && has O s) → Is L (λ s. has A s && not (has O s)) → Sees (sees A p) p L G
 unfolding Sees sees
 sees_start p A O L G o g l c h = both
     (λ q. either
@@ -67,7 +67,7 @@ sees_start p A O L G o g l c h = both
     (λ x. or_r (has G c) _ (any_in set_slots _ t.0 t.1 (and_in (l t.0 t.1 ∙ and_in a (ap not x)) (eq_same b)))))
 
 -- the class v of a slot x of L is put in, and its slots, a row of R, are taken out
-module _ (p A L G : List ℕ) (R : List (List ℕ)) (x v : ℕ) (d L' : List ℕ) (r : RowsOf (λ c t. same (get_or p t 0) c) R) (q : v ≡ get_or p x 0) (m : v < length R)
+module _ (X : ℕ → Bool) (p L G : List ℕ) (R : List (List ℕ)) (x v : ℕ) (d L' : List ℕ) (r : RowsOf (λ c t. same (get_or p t 0) c) R) (q : v ≡ get_or p x 0) (m : v < length R)
     (w : v < set_slots) (f : (x < set_slots) × (x ≡ first set_slots (has L))) (l : Is L' (λ s. has L s && not (has (get_or R v d) s))) where
   h : x < set_slots
   h = f.0
@@ -83,7 +83,7 @@ module _ (p A L G : List ℕ) (R : List (List ℕ)) (x v : ℕ) (d L' : List ℕ
       let some : any set_slots (has L) ≡ true = either (look (any set_slots (has L))) (λ q. q) (λ q. absurd (omega (arith, e, h, first-none set_slots (has L) q))) in
       subst (λ (t : ℕ). has L t ≡ true) (sym e) (first_in set_slots (has L) some).1
 
-  pub sees_more : (G' : List ℕ) → Is G' (λ c. has G c || same c v) → Sees p A L G → Sees p A L' G'
+  pub sees_more : (G' : List ℕ) → Is G' (λ c. has G c || same c v) → Sees X p L G → Sees X p L' G'
   unfolding Sees sees
   sees_more G' g n c i = both
       (λ o. either
@@ -113,15 +113,15 @@ module _ (p A L G : List ℕ) (R : List (List ℕ)) (x v : ℕ) (d L' : List ℕ
       let gone : has L' x ≡ false = l x h ∙ rw (class x h, same_refl (get_or p x 0)) (and-false (has L x)) in
       count_more set_slots (has L') (has L) (λ t i o. and_l _ _ (sym (l t i) ∙ o)) x h gone there
 
--- of no slot that is put in yet all are to come
-pub sees_all : (p A L G : List ℕ) → Is G (λ c. false) → L ≡ A → Sees p A L G
+-- of no slot of A that is put in yet all are to come
+pub sees_all : (p A L G : List ℕ) → L ≡ A → Sees (λ c. has G c || sees A p c) p L G
 unfolding Sees
-sees_all p A L G n e c h = rw (n c h, e) refl
+sees_all p A L G e c h = rw e refl
 
 -- one slot x of L is taken out, and its class v is put in
-pub sees_slot : (p A L G : List ℕ) (x v : ℕ) (L' G' : List ℕ) → Next set_slots L (Some x) L' → v ≡ get_or p x 0 → Is G' (λ c. has G c || same c v) → Sees p A L G → Sees p A L' G'
+pub sees_slot : (X : ℕ → Bool) (p L G : List ℕ) (x v : ℕ) (L' G' : List ℕ) → Next set_slots L (Some x) L' → v ≡ get_or p x 0 → Is G' (λ c. has G c || same c v) → Sees X p L G → Sees X p L' G'
 unfolding Sees sees
-sees_slot p A L G x v L' G' f q g n c i = both
+sees_slot X p L G x v L' G' f q g n c i = both
     (λ o. either
     (or_out (has G' c) _ o)
     (λ a. either
@@ -146,14 +146,14 @@ sees_slot p A L G x v L' G' f q g n c i = both
     there : has L x ≡ true
     there = lowest_in x L f.0 f.1
 
--- the classes C that the slots of L are in, with those of G
-pub sees_both : (p A L G C V : List ℕ) → Is C (sees L p) → Is V (λ c. has G c || has C c) → Sees p A L G → Is V (sees A p)
+-- the classes that the slots of L are in, with those of G
+pub sees_both : (X : ℕ → Bool) (p L G V : List ℕ) → Is V (λ c. has G c || sees L p c) → Sees X p L G → Is V X
 unfolding Sees
-sees_both p A L G C V e u n c h = u c h ∙ ap (λ (z : Bool). has G c || z) (e c h) ∙ n c h
+sees_both X p L G V u n c h = u c h ∙ n c h
 
-pub sees_done : (p A L G : List ℕ) → any set_slots (has L) ≡ false → Sees p A L G → Is G (sees A p)
+pub sees_done : (X : ℕ → Bool) (p L G : List ℕ) → any set_slots (has L) ≡ false → Sees X p L G → Is G X
 unfolding Sees sees
-sees_done p A L G e n c h =
+sees_done X p L G e n c h =
     sym (or-false (has G c)) ∙ ap (λ (z : Bool). has G c || z) (sym (none_any set_slots _ (λ t i. rw (any_none set_slots (has L) e t i)))) ∙ n c h
 
 -- what each slot k has put in: itself, into the class of its number

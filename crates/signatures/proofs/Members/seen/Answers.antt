@@ -1,5 +1,6 @@
 -- The classes that the others see are to come.
 use Rattle.std.proofs.Common.{refl, arith}
+use Rattle.partition.specs.Rows.{sees}
 use Rattle.signatures.proofs.Laws.Seen.{sees_start, sees_more, sees_fewer, sees_both, sees_done}
 use Rattle.signatures.proofs.Members.seen.Goals as goal
 
@@ -7,15 +8,15 @@ pub loop-t-init : goal.loop-t-init
 loop-t-init c = sees_start c.args.self.now.numbers c.args.row c.args.self.now.own _ _ c.args.self.now.has_own c.bitand-seen.ensures c.sub-others.ensures
 
 pub loop-t-smaller : goal.loop-t-smaller
-loop-t-smaller c = sees_fewer c.args.self.now.numbers c.args.row c.loop-t.others c.loop-t.seen c.args.self.now.classes c.in-Some.t c.from-class.result _ _ c.args.self.now.has_classes c.from-class.ensures (omega arith) (omega arith) c.in-Some.ensures.some c.sub-others-in-Some.ensures
+loop-t-smaller c = sees_fewer (sees c.args.row c.args.self.now.numbers) c.args.self.now.numbers c.loop-t.others c.loop-t.seen c.args.self.now.classes c.in-Some.t c.from-class.result _ _ c.args.self.now.has_classes c.from-class.ensures (omega arith) (omega arith) c.in-Some.ensures.some c.sub-others-in-Some.ensures
 
 pub loop-t-preserved : goal.loop-t-preserved
-loop-t-preserved c = sees_more c.args.self.now.numbers c.args.row c.loop-t.others c.loop-t.seen c.args.self.now.classes c.in-Some.t c.from-class.result _ _ c.args.self.now.has_classes c.from-class.ensures (omega arith) (omega arith) c.in-Some.ensures.some c.sub-others-in-Some.ensures c.insert.new.self c.insert.ensures c.loop-t.invariant
+loop-t-preserved c = sees_more (sees c.args.row c.args.self.now.numbers) c.args.self.now.numbers c.loop-t.others c.loop-t.seen c.args.self.now.classes c.in-Some.t c.from-class.result _ _ c.args.self.now.has_classes c.from-class.ensures (omega arith) (omega arith) c.in-Some.ensures.some c.sub-others-in-Some.ensures c.insert.new.self c.insert.ensures c.loop-t.invariant
 
 pub returns : goal.returns
-returns c = sees_done c.args.self.now.numbers c.args.row c.loop-t.others _ (c.in_default.ensures.none refl) c.loop-t.invariant
+returns c = sees_done (sees c.args.row c.args.self.now.numbers) c.args.self.now.numbers c.loop-t.others _ (c.in_default.ensures.none refl) c.loop-t.invariant
 
-pub returns-then-n-self : goal.returns-then-n-self
-returns-then-n-self c =
-    sees_both c.args.self.now.numbers c.args.row _ _ _ _ c.classes_in.ensures c.bitor.ensures
+pub returns-then-one_by_one : goal.returns-then-one_by_one
+returns-then-one_by_one c =
+    sees_both (sees c.args.row c.args.self.now.numbers) c.args.self.now.numbers _ _ _ c.with_classes.ensures
     (sees_start c.args.self.now.numbers c.args.row c.args.self.now.own _ _ c.args.self.now.has_own c.bitand-seen.ensures c.sub-others.ensures)
