@@ -10,16 +10,41 @@ ghost use Rattle.signatures.specs.Members.{owns};
 use bitset::{SET_SLOTS, SlotSet};
 use partition::Rows;
 
+// To take out all slots of a class takes as long as to look at so many slots one by one.
+const SLOTS_A_CLASS: u32 = 2;
+
+// All slots of so few classes are taken out before a row's slots are counted.
+const FEW_CLASSES: u32 = 4;
+
+// How the slots of a row that do not have their own number are looked at. What takes the least time is chosen, and nothing rests on it.
+#[derive(Clone, Copy)]
+enum Look {
+    OneByOne,
+    ByClass,
+    // As each row asks, in a partition with so many classes that have such slots.
+    ByRow(u32),
+}
+
+impl Look {
+    // For so many slots in so many classes.
+    fn of(slots: u32, classes: u32) -> Look {
+        if slots / SLOTS_A_CLASS < classes {
+            return Look::OneByOne;
+        }
+        if classes <= FEW_CLASSES {
+            return Look::ByClass;
+        }
+        Look::ByRow(classes)
+    }
+}
+
 // A partition by the number of each slot, with the slots that have their own number, and the slots of each class.
 #[derive(Drop)]
 pub struct Members {
     pub numbers: [u8; SET_SLOTS],
     own: SlotSet,
     classes: Rows,
-    // How many classes have slots that do not have their own number, and whether these are few for so many classes. Both decide how such slots are
-    // looked at, and nothing rests on them.
-    shared: u32,
-    few: bool,
+    look: Look,
     ghost has_own: { Is own (owns numbers) },
     ghost has_classes: { RowsOf (λ c t. same (get_or numbers t 0) c) classes },
 }
@@ -59,42 +84,41 @@ fn with_classes(seen: SlotSet, numbers: &[u8; SET_SLOTS], set: SlotSet) -> SlotS
     seen
 }
 
-// To take out all slots of a class takes as long as to look at so many slots one by one.
-const SLOTS_A_CLASS: u32 = 3;
-
 impl Members {
     pub fn new(numbers: [u8; SET_SLOTS]) -> Members
         ensures { result.numbers ≡ numbers }
     {
         let own = own_slots(&numbers);
         let others = !own;
-        let shared = with_classes(SlotSet::empty(), &numbers, others).len();
-        let few = others.len() / SLOTS_A_CLASS < shared;
+        let shared = with_classes(SlotSet::empty(), &numbers, others);
+        let look = Look::of(others.len(), shared.len());
         let classes = classes_of(&numbers);
         Members {
             numbers,
             own,
             classes,
-            shared,
-            few,
+            look,
         }
     }
 
-    // Are slots that do not have their own number looked at one by one? They are where they are few for the classes that they can be in, but not where
-    // they are all in one class.
+    // Are these slots of a row, which do not have their own number, looked at one by one? As a row asks, where they are few for the classes that
+    // they can be in, but not where they are all in one.
     fn one_by_one(&self, others: SlotSet) -> bool {
-        if self.few {
-            return true;
+        match self.look {
+            Look::OneByOne => true,
+            Look::ByClass => false,
+            Look::ByRow(classes) => {
+                let Some(t) = others.lowest() else {
+                    return false;
+                };
+                let rest = others - self.classes[usize::from(self.numbers[t])];
+                !rest.is_empty() && others.len() / SLOTS_A_CLASS < classes
+            }
         }
-        let Some(t) = others.lowest() else {
-            return false;
-        };
-        let rest = others - self.classes[usize::from(self.numbers[t])];
-        !rest.is_empty() && others.len() / SLOTS_A_CLASS < self.shared
     }
 
-    // The classes that the slots of a row are in. A slot that has its own number stands for its class; of the others, those of a class are taken at
-    // once, where one by one does not take less time.
+    // The classes that the slots of a row are in. A slot that has its own number stands for its class; the others are looked at one by
+    // one, or those of a class are taken at once.
     fn seen(&self, row: SlotSet) -> SlotSet
         ensures { Is result (sees row self.now.numbers) }
     {
