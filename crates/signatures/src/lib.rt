@@ -10,41 +10,14 @@ ghost use Rattle.signatures.specs.Members.{owns};
 use bitset::{SET_SLOTS, SlotSet};
 use partition::Rows;
 
-// To take out all slots of a class takes as long as to look at so many slots one by one.
-const SLOTS_A_CLASS: u32 = 2;
-
-// All slots of so few classes are taken out before a row's slots are counted.
-const FEW_CLASSES: u32 = 4;
-
-// How the slots of a row that do not have their own number are looked at. What takes the least time is chosen, and nothing rests on it.
-#[derive(Clone, Copy)]
-enum Look {
-    OneByOne,
-    ByClass,
-    // As each row asks, in a partition with so many classes that have such slots.
-    ByRow(u32),
-}
-
-impl Look {
-    // For so many slots in so many classes.
-    fn of(slots: u32, classes: u32) -> Look {
-        if slots / SLOTS_A_CLASS < classes {
-            return Look::OneByOne;
-        }
-        if classes <= FEW_CLASSES {
-            return Look::ByClass;
-        }
-        Look::ByRow(classes)
-    }
-}
-
 // A partition by the number of each slot, with the slots that have their own number, and the slots of each class.
 #[derive(Drop)]
 pub struct Members {
     pub numbers: [u8; SET_SLOTS],
     own: SlotSet,
     classes: Rows,
-    look: Look,
+    // How many classes have slots that do not have their own number. It decides how these are looked at, and nothing rests on it.
+    shared: u32,
     ghost has_own: { Is own (owns numbers) },
     ghost has_classes: { RowsOf (λ c t. same (get_or numbers t 0) c) classes },
 }
@@ -84,53 +57,52 @@ fn with_classes(seen: SlotSet, numbers: &[u8; SET_SLOTS], set: SlotSet) -> SlotS
     seen
 }
 
+// To take out all slots of a class takes as long as to look at so many slots one by one.
+const SLOTS_A_CLASS: u32 = 2;
+
+// All slots of so few classes are taken out before a row's slots are counted.
+const FEW_CLASSES: u32 = 4;
+
 impl Members {
     pub fn new(numbers: [u8; SET_SLOTS]) -> Members
         ensures { result.numbers ≡ numbers }
     {
         let own = own_slots(&numbers);
-        let others = !own;
-        let shared = with_classes(SlotSet::empty(), &numbers, others);
-        let look = Look::of(others.len(), shared.len());
-        let classes = classes_of(&numbers);
+        let shared = with_classes(SlotSet::empty(), &numbers, !own).len();
         Members {
             numbers,
             own,
-            classes,
-            look,
+            classes: classes_of(&numbers),
+            shared,
         }
     }
 
-    // Are these slots of a row, which do not have their own number, looked at one by one? As a row asks, where they are few for the classes that
-    // they can be in, but not where they are all in one.
-    fn one_by_one(&self, others: SlotSet) -> bool {
-        match self.look {
-            Look::OneByOne => true,
-            Look::ByClass => false,
-            Look::ByRow(classes) => {
-                let Some(t) = others.lowest() else {
-                    return false;
-                };
-                let rest = others - self.classes[usize::from(self.numbers[t])];
-                !rest.is_empty() && others.len() / SLOTS_A_CLASS < classes
-            }
+    // Are these slots few for the classes that they can be in?
+    fn few(&self, others: SlotSet) -> bool {
+        if self.shared <= FEW_CLASSES {
+            return false;
         }
+        let n = others.len();
+        1 < n && n / SLOTS_A_CLASS < self.shared
     }
 
-    // The classes that the slots of a row are in. A slot that has its own number stands for its class; the others are looked at one by
-    // one, or those of a class are taken at once.
+    // The classes that the slots of a row are in. A slot that has its own number stands for its class; of the others, of which most rows have none,
+    // those of a class are taken at once, and they are looked at one by one as soon as they are few.
     fn seen(&self, row: SlotSet) -> SlotSet
         ensures { Is result (sees row self.now.numbers) }
     {
         let mut seen = row & self.own;
         let mut others = row - self.own;
-        if self.one_by_one(others) {
-            return with_classes(seen, &self.numbers, others);
+        if others.is_empty() {
+            return seen;
         }
         while let Some(t) = others.lowest() {
             let class = usize::from(self.numbers[t]);
             seen.insert(class);
             others = others - self.classes[class];
+            if self.few(others) {
+                return with_classes(seen, &self.numbers, others);
+            }
         }
         seen
     }

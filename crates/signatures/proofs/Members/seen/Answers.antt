@@ -1,5 +1,8 @@
 -- The classes that the others see are to come.
-use Rattle.std.proofs.Common.{refl, arith}
+use Rattle.std.proofs.Common.{◌∙◌, refl, sym, arith}
+use Rattle.finite.specs.Tests.{any}
+use Rattle.finite.proofs.Laws.Bools.{no_true, not_out}
+use Rattle.bitset.specs.Set.{set_slots, has}
 use Rattle.partition.specs.Rows.{sees}
 use Rattle.signatures.proofs.Laws.Seen.{sees_start, sees_more, sees_fewer, sees_both, sees_done}
 use Rattle.signatures.proofs.Members.seen.Goals as goal
@@ -16,7 +19,12 @@ loop-t-preserved c = sees_more (sees c.args.row c.args.self.now.numbers) c.args.
 pub returns : goal.returns
 returns c = sees_done (sees c.args.row c.args.self.now.numbers) c.args.self.now.numbers c.loop-t.others _ (c.in_default.ensures.none refl) c.loop-t.invariant
 
-pub returns-then-one_by_one : goal.returns-then-one_by_one
-returns-then-one_by_one c =
-    sees_both (sees c.args.row c.args.self.now.numbers) c.args.self.now.numbers _ _ _ c.with_classes.ensures
+pub returns-then-is_empty : goal.returns-then-is_empty
+returns-then-is_empty c =
+    sees_done (sees c.args.row c.args.self.now.numbers) c.args.self.now.numbers _ _ (no_true (not_out (any set_slots (has c.sub-others.result)) (sym c.is_empty.ensures ∙ c.if-is_empty.true)))
     (sees_start c.args.self.now.numbers c.args.row c.args.self.now.own _ _ c.args.self.now.has_own c.bitand-seen.ensures c.sub-others.ensures)
+
+pub returns-then-few : goal.returns-then-few
+returns-then-few c =
+    sees_both (sees c.args.row c.args.self.now.numbers) c.args.self.now.numbers _ _ _ c.with_classes.ensures
+    (sees_more (sees c.args.row c.args.self.now.numbers) c.args.self.now.numbers c.loop-t.others c.loop-t.seen c.args.self.now.classes c.in-Some.t c.from-class.result _ _ c.args.self.now.has_classes c.from-class.ensures (omega arith) (omega arith) c.in-Some.ensures.some c.sub-others-in-Some.ensures c.insert.new.self c.insert.ensures c.loop-t.invariant)
