@@ -1,7 +1,7 @@
 // Signatures: for each slot the set of the classes that the slots of its row are in.
 #![tactic(auto)]
 
-ghost use Rattle.std.specs.Prelude.{◌≡◌, ◌||◌, ◌<◌, get_or};
+ghost use Rattle.std.specs.Prelude.{◌≡◌, false, ◌||◌, ◌<◌, get_or};
 ghost use Rattle.finite.specs.Tests.{same};
 ghost use Rattle.bitset.specs.Set.{set_slots, has, Is};
 ghost use Rattle.partition.specs.Rows.{RowsOf, sees, Signed};
@@ -35,15 +35,14 @@ fn own_slots(numbers: &[u8; SET_SLOTS]) -> SlotSet
     own
 }
 
-// For each number the slots that have it.
-fn classes_of(numbers: &[u8; SET_SLOTS]) -> Rows
-    ensures { RowsOf (λ c t. same (get_or numbers.now t 0) c) result }
+// Puts each slot into the row of its number, in rows of no slot.
+fn put_classes(numbers: &[u8; SET_SLOTS], classes: &mut Rows)
+    requires { RowsOf (λ c t. false) classes.old }
+    ensures { RowsOf (λ c t. same (get_or numbers.now t 0) c) classes.new }
 {
-    let mut classes = [SlotSet::empty(); SET_SLOTS];
     for t in 0..SET_SLOTS {
         classes[usize::from(numbers[t])].insert(t);
     }
-    classes
 }
 
 // The classes that were seen, and those that the slots of a set are in, slot by slot.
@@ -67,12 +66,14 @@ impl Members {
     pub fn new(numbers: [u8; SET_SLOTS]) -> Members
         ensures { result.numbers ≡ numbers }
     {
+        let mut classes = [SlotSet::empty(); SET_SLOTS];
+        put_classes(&numbers, &mut classes);
         let own = own_slots(&numbers);
         let shared = with_classes(SlotSet::empty(), &numbers, !own).len();
         Members {
             numbers,
             own,
-            classes: classes_of(&numbers),
+            classes,
             shared,
         }
     }
@@ -108,13 +109,18 @@ impl Members {
     }
 }
 
-// The signature of each slot: the classes that the slots of its row are in.
-pub fn of_rows(rows: &Rows, members: &Members) -> Rows
-    ensures { Signed rows.now members.now.numbers result }
+// The signature of each slot, in the place of what stood there: the classes that the slots of its row are in. A row that is the same as the one
+// before it is not looked at again.
+pub fn of_rows(rows: &Rows, members: &Members, signatures: &mut Rows)
+    ensures { Signed rows.now members.now.numbers signatures.new }
 {
-    let mut signatures = [SlotSet::empty(); SET_SLOTS];
+    let mut row = SlotSet::empty();
+    let mut seen = SlotSet::empty();
     for s in 0..SET_SLOTS {
-        signatures[s] = members.seen(rows[s]);
+        if rows[s] != row {
+            row = rows[s];
+            seen = members.seen(row);
+        }
+        signatures[s] = seen;
     }
-    signatures
 }

@@ -59,5 +59,7 @@ pub fn by_seen(q: &[u8; SET_SLOTS], rows: &Rows, p: &Members) -> [u8; SET_SLOTS]
     requires { Partition q.now }
     ensures { Partitions (by_seen q.now rows.now p.now.numbers) result }
 {
-    by_rows(q, &signatures::of_rows(rows, p))
+    let mut signatures = [SlotSet::empty(); SET_SLOTS];
+    signatures::of_rows(rows, p, &mut signatures);
+    by_rows(q, &signatures)
 }

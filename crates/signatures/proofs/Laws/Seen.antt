@@ -1,5 +1,5 @@
 -- The slots that have their own number, and the classes that a row sees, class by class.
-use Rattle.std.specs.Prelude.{◌≡◌, refl, Bool, true, false, not, ◌&&◌, ◌||◌, List, ℕ, ◌+◌, ◌≤◌, ◌<◌, length, get_or, Some}
+use Rattle.std.specs.Prelude.{◌≡◌, refl, Bool, true, false, not, ◌&&◌, ◌||◌, List, [], ℕ, ◌+◌, ◌≤◌, ◌<◌, length, set, get_or, Some}
 use Rattle.std.proofs.Common.{◌∙◌, sym, ap, subst, arith}
 use Rattle.std.proofs.Math.Bool.{or-false, and-false}
 use Rattle.finite.specs.Tests.{same, below, any, count, first}
@@ -8,8 +8,9 @@ use Rattle.finite.proofs.Laws.Below.{equal?, same_eq, same_refl, eq_same, ne_sam
 use Rattle.finite.proofs.Laws.First.{first_in, first-none}
 use Rattle.finite.proofs.Laws.Count.{count_more}
 use Rattle.bitset.specs.Set.{set_slots, has, Is, Next}
-use Rattle.partition.specs.Rows.{sees, RowsOf}
+use Rattle.partition.specs.Rows.{row, sees, RowsOf}
 use Rattle.partition.proofs.Laws.Gains.{row_at, lowest_in}
+use Rattle.partition.proofs.Laws.Partitions.{put_more}
 use Rattle.signatures.specs.Members.{owns}
 
 -- ---- slots with their own number
@@ -155,6 +156,17 @@ pub sees_done : (X : ℕ → Bool) (p L G : List ℕ) → any set_slots (has L) 
 unfolding Sees sees
 sees_done X p L G e n c h =
     sym (or-false (has G c)) ∙ ap (λ (z : Bool). has G c || z) (sym (none_any set_slots _ (λ t i. rw (any_none set_slots (has L) e t i)))) ∙ n c h
+
+-- no slot sees no class
+pub sees_none : (p A G : List ℕ) → Is A (λ t. false) → Is G (λ c. false) → Is G (sees A p)
+unfolding sees
+sees_none p A G a g c h = g c h ∙ sym (none_any set_slots _ (λ t i. rw (a t i) refl))
+
+-- the signatures of the rows R below s stand in S, and G is that of row s, which is A
+pub signed_more : (p A G d : List ℕ) (R S : List (List ℕ)) (s : ℕ) → s < length R → s < length S → A ≡ get_or R s d → Is G (sees A p)
+    → ((k : ℕ) → k < s → Is (row S k) (sees (row R k) p)) → ((k : ℕ) → k < s + 1 → Is (row (set S s G) k) (sees (row R k) p)) × Is G (sees A p)
+signed_more p A G d R S s m n e g h =
+    (put_more [] (λ (k : ℕ) (x : List ℕ). Is x (sees (row R k) p)) S s G n h (subst (λ (r : List ℕ). Is G (sees r p)) (e ∙ row_at R s d m) g), g)
 
 -- what each slot k has put in: itself, into the class of its number
 pub numbered : (p : List ℕ) (x y : ℕ) → y < set_slots → any set_slots (λ k. same x (get_or p k 0) && same y k) ≡ same (get_or p y 0) x

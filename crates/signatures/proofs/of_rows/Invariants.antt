@@ -5,4 +5,4 @@ use Rattle.partition.specs.Rows.{row, sees}
 use Rattle.signatures.proofs.of_rows.Given as goal
 
 abbrev pub invariant-loop-s : goal.invariant-loop-s
-invariant-loop-s l = (k : ℕ) → k < l.s → Is (row l.signatures k) (sees (row l.rows k) l.members.numbers)
+invariant-loop-s l = ((k : ℕ) → k < l.s → Is (row l.signatures k) (sees (row l.rows k) l.members.numbers)) × Is l.seen (sees l.row l.members.numbers)
