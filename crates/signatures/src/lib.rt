@@ -59,13 +59,14 @@ fn with_classes(seen: SlotSet, numbers: &[u8; SET_SLOTS], set: SlotSet) -> SlotS
 // To take out all slots of a class takes as long as to look at so many slots one by one.
 const SLOTS_A_CLASS: u32 = 2;
 
-// All slots of so few classes are taken out before a row's slots are counted.
+// Slots without their own number that are in no more classes than these are not counted: each class is taken out at once.
 const FEW_CLASSES: u32 = 4;
 
 impl Members {
     pub fn new(numbers: [u8; SET_SLOTS]) -> Members
         ensures { result.numbers ≡ numbers }
     {
+        // Before the other locals: it is then filled once.
         let mut classes = [SlotSet::empty(); SET_SLOTS];
         put_classes(&numbers, &mut classes);
         let own = own_slots(&numbers);
@@ -78,7 +79,7 @@ impl Members {
         }
     }
 
-    // Are these slots few for the classes that they can be in?
+    // Is it faster to look at these slots, which do not have their own number, one by one?
     fn few(&self, others: SlotSet) -> bool {
         if self.shared <= FEW_CLASSES {
             return false;
@@ -87,8 +88,8 @@ impl Members {
         1 < n && n / SLOTS_A_CLASS < self.shared
     }
 
-    // The classes that the slots of a row are in. A slot that has its own number stands for its class; of the others, of which most rows have none,
-    // those of a class are taken at once, and they are looked at one by one as soon as they are few.
+    // The classes that the slots of a row are in. A slot that has its own number stands for its class. Of the others, which few rows have once classes
+    // are small, those of a class are taken at once, until it is faster to look at what is left one by one.
     fn seen(&self, row: SlotSet) -> SlotSet
         ensures { Is result (sees row self.now.numbers) }
     {

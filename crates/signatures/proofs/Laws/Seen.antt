@@ -114,7 +114,7 @@ module _ (X : ℕ → Bool) (p L G : List ℕ) (R : List (List ℕ)) (x v : ℕ)
       let gone : has L' x ≡ false = l x h ∙ rw (class x h, same_refl (get_or p x 0)) (and-false (has L x)) in
       count_more set_slots (has L') (has L) (λ t i o. and_l _ _ (sym (l t i) ∙ o)) x h gone there
 
--- of no slot of A that is put in yet all are to come
+-- at the start G has what was seen before, and all slots of A are to come
 pub sees_all : (p A L G : List ℕ) → L ≡ A → Sees (λ c. has G c || sees A p c) p L G
 unfolding Sees
 sees_all p A L G e c h = rw e refl
@@ -157,7 +157,7 @@ unfolding Sees sees
 sees_done X p L G e n c h =
     sym (or-false (has G c)) ∙ ap (λ (z : Bool). has G c || z) (sym (none_any set_slots _ (λ t i. rw (any_none set_slots (has L) e t i)))) ∙ n c h
 
--- no slot sees no class
+-- a row of no slot sees no class
 pub sees_none : (p A G : List ℕ) → Is A (λ t. false) → Is G (λ c. false) → Is G (sees A p)
 unfolding sees
 sees_none p A G a g c h = g c h ∙ sym (none_any set_slots _ (λ t i. rw (a t i) refl))

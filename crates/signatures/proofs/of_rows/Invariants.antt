@@ -1,4 +1,4 @@
--- The slots below s have their signatures.
+-- The slots below s have their signatures, and the last row that was looked at has what was seen.
 use Rattle.std.proofs.Common.{ℕ, ◌<◌}
 use Rattle.bitset.specs.Set.{Is}
 use Rattle.partition.specs.Rows.{row, sees}
